@@ -1,0 +1,1 @@
+// Conditions: comparisons, `not`, `and` and `or`.

@@ -1,0 +1,81 @@
+-- Names that a policy knows, by number, and what they name. Every comparison of names is `isCalled`.
+use Prim.Native.Nat.{ℕ}
+use lib.Dec.{eqb}
+use lib.ListN.{getElem?}
+use mathlib.Core.Bool.{Bool, _&&_, not}
+use mathlib.Core.List.{List, []}
+use mathlib.Core.Option.{Option, Option·getD, Option·map, bind}
+use Rattle.condition.specs.Kinds.{Kind, numbers}
+use Rattle.document.specs.Policy.{Attribute, Column, Policy, treeOf}
+use Rattle.form.specs.Form.{Scheme, unlabelled}
+use Rattle.purpose.specs.Compliance.{descends}
+use Rattle.lists.specs.Lists.{findIndex, holdsOf, known, there}
+use Rattle.text.specs.Words.{Word, isCalled}
+
+-- the purpose of this name
+unfoldable pub purposeOf : Policy → Word → Option ℕ
+purposeOf d w = findIndex (λ x. isCalled w (x .name)) (d .purposes)
+
+-- the role of this name
+unfoldable pub roleOf : Policy → Word → Option ℕ
+roleOf d w = findIndex (λ x. isCalled w (x .name)) (d .roles)
+
+-- the attribute of this name, the clock's included
+unfoldable pub attributeOf : Policy → Word → Option ℕ
+attributeOf d w = findIndex (λ x. isCalled w (x .name)) (d .attributes)
+
+-- the conditional role of this name
+unfoldable pub condRoleOf : Policy → Word → Option ℕ
+condRoleOf d w = findIndex (λ x. isCalled w (x .name)) (d .condRoles)
+
+-- the label of this name
+unfoldable pub labelOf : Policy → Word → Option ℕ
+labelOf d w = findIndex (λ x. isCalled w (x .name)) (d .labels)
+
+-- the table of this name
+unfoldable pub tableOf : Policy → Word → Option ℕ
+tableOf d w = findIndex (λ x. isCalled w (x .name)) (d .tables)
+
+-- the user form that gives the user of this name the role of that name
+unfoldable pub userOf : Policy → Word → Word → Option ℕ
+userOf d u r = findIndex (λ x. isCalled u (x .name) && holdsOf (eqb (x .role)) (roleOf d r)) (d .users)
+
+-- the column of this name
+unfoldable pub columnOf : List Column → Word → Option ℕ
+columnOf cs w = findIndex (λ c. isCalled w (c .name)) cs
+
+-- the attribute of this name itself
+unfoldable pub attributeNamed : Policy → Word → Option Attribute
+attributeNamed d w = bind (attributeOf d w) (getElem? (d .attributes))
+
+-- the type of the attribute of this name
+unfoldable pub attributeKind : Policy → Word → Kind
+attributeKind d w = Option·getD (Option·map (λ a. a .kind) (attributeNamed d w)) numbers
+
+-- the type of the column of this name
+unfoldable pub columnKind : List Column → Word → Kind
+columnKind cs w = Option·getD (Option·map (λ c. c .kind) (bind (columnOf cs w) (getElem? cs))) numbers
+
+-- the scheme of the table of this number
+unfoldable pub schemeAt : Policy → ℕ → Scheme ℕ
+schemeAt d t = Option·getD (Option·map (λ x. x .scheme) (getElem? (d .tables) t)) unlabelled
+
+-- the columns of the table of this number
+unfoldable pub columnsAt : Policy → ℕ → List Column
+columnsAt d t = Option·getD (Option·map (λ x. x .columns) (getElem? (d .tables) t)) []
+
+-- the scheme of the table of this name, which is known
+unfoldable pub schemeOf : Policy → Word → Scheme ℕ
+schemeOf d w = schemeAt d (known (tableOf d w))
+
+-- the columns of the table of this name, which is known
+unfoldable pub columnsOf : Policy → Word → List Column
+columnsOf d w = columnsAt d (known (tableOf d w))
+
+-- the attribute is one of the clock's
+unfoldable pub isClock : Attribute → Bool
+isClock a = not (there (a .role))
+
+-- the role has the attribute: it is defined at the role or above
+unfoldable pub hasAttribute : Policy → ℕ → Attribute → Bool
+hasAttribute d r a = holdsOf (descends (treeOf (d .roles)) r) (a .role)

@@ -1,0 +1,59 @@
+-- 7, a row or user without the right count or set of values, or row items not shaped for the table's scheme (01, "Checking
+-- a document").
+use Prim.Native.Nat.{ℕ}
+use lib.Dec.{eqb}
+use lib.ListN.{length}
+use mathlib.Core.Bool.{Bool, _&&_, cond, false, not}
+use mathlib.Core.List.{List, [], _∷_, map}
+use mathlib.Core.Option.{Option, Option·map, none, some}
+use Rattle.document.specs.Lookup.{attributeNamed, columnsOf, hasAttribute, roleOf, schemeOf}
+use Rattle.document.specs.Policy.{Policy}
+use Rattle.form.specs.Form.{Form, Item, Scheme, attr, byCell, byColumn, byRow, byTable, condRole, grant, label, labelled, plain, purpose, role, row, table, unlabelled, user}
+use Rattle.lists.specs.Lists.{allOf, countOf, holdsOf, known, there}
+use Rattle.text.specs.Names.{isName}
+use Rattle.text.specs.Offending.{repeated}
+use Rattle.text.specs.Words.{Word}
+
+-- the words are the role's attributes, each once: none repeats, each is one, and they are as many
+unfoldable pub givesAll : Policy → ℕ → List Word → Bool
+givesAll d r ws =
+    not (there (repeated ws))
+    && (allOf (λ w. holdsOf (hasAttribute d r) (attributeNamed d w)) ws && eqb (length ws) (countOf (hasAttribute d r) (d .attributes)))
+
+-- the items as values without labels
+unfoldable pub plainValues : List Item → Option (List Word)
+plainValues [] = some []
+plainValues (plain w ∷ is) = Option·map (λ ws. w ∷ ws) (plainValues is)
+plainValues (labelled v l ∷ is) = none
+
+-- the items behind a leading label, which is a name
+unfoldable pub valuesBehindLabel : List Item → Option (List Word)
+valuesBehindLabel [] = none
+valuesBehindLabel (plain w ∷ is) = cond (isName (w .bytes)) (plainValues is) none
+valuesBehindLabel (labelled v l ∷ is) = none
+
+-- the items as values, each with its label
+unfoldable pub bracketValues : List Item → Option (List Word)
+bracketValues [] = some []
+bracketValues (plain w ∷ is) = none
+bracketValues (labelled v l ∷ is) = Option·map (λ ws. v ∷ ws) (bracketValues is)
+
+-- the values of a row, if its items are shaped for the scheme
+unfoldable pub rowValues : Scheme ℕ → List Item → Option (List Word)
+rowValues unlabelled is = plainValues is
+rowValues (byTable l) is = plainValues is
+rowValues (byColumn ls) is = plainValues is
+rowValues byRow is = valuesBehindLabel is
+rowValues byCell is = bracketValues is
+
+-- the user form does not give each attribute of its role once and no other, or the row does not fit its table
+unfoldable pub misfit : Policy → Form → Bool
+misfit d (purpose n p) = false
+misfit d (role n p) = false
+misfit d (attr r a k) = false
+misfit d (user u r gs) = not (givesAll d (known (roleOf d r)) (map (λ g. g .attribute) gs))
+misfit d (condRole c r t) = false
+misfit d (grant p c) = false
+misfit d (label l ps qs) = false
+misfit d (table t s cs) = false
+misfit d (row t is) = not (holdsOf (λ ws. eqb (length ws) (length (columnsOf d t))) (rowValues (schemeOf d t) is))

@@ -1,0 +1,232 @@
+-- Reading a row line that was written out from its parts gives back the parts. Assumes nothing.
+use Prim.Native.Nat.{_+_, _≤_, suc, zero, ℕ}
+use borrow.Author.Tests.{eqb-true}
+use lib.Dec.{eqb}
+use lib.ListN.{length, length-append}
+use mathlib.Core.Bool.{Bool, _&&_, cond, false, true}
+use mathlib.Core.List.{List, [], _++_, _∷_, append-assoc, flatten, map, zipWith}
+use mathlib.Core.Option.{Option, none, some}
+use mathlib.Core.Path.{_∙_, _≡_, ap, refl}
+use native.Mathlib.Omega.{arith}
+use Rattle.form.specs.Form.{Form, Item, Scheme, attr, byCell, byColumn, byRow, byTable, condRole, grant, label, labelled, plain, purpose, role, row, table, unlabelled, user}
+use Rattle.form.specs.FormReader.{form, formOf, item, labelledItem, lineForms, plainItem, rowForm}
+use Rattle.form.specs.RowText.{bracketText, itemTexts, rowText, spaced}
+use Rattle.text.proofs.ByteLaws.{name-value, value-first}
+use Rattle.lists.proofs.ListLaws.{map-map}
+use Rattle.text.proofs.ReadBack.{Gives, Reads, bind-reads, bracketed-reads, give-reads, gives, left, name-reads, next-reads, placeless, value-reads}
+use Rattle.lists.proofs.Tests.{and-left, and-right, true-not-false}
+use Rattle.text.specs.Brackets.{among, keyword, many, upTo}
+use Rattle.text.specs.Bytes.{firstByte, isDigit, isLetter, isNameByte}
+use Rattle.lists.specs.Lists.{allOf}
+use Rattle.text.specs.Names.{Name, isName, sameByte, sameName}
+use Rattle.text.specs.Numbers.{Value, isValue}
+use Rattle.text.specs.Reader.{Left, ended, ifNext, whole}
+use Rattle.text.specs.Words.{Word, isCalled, nameBytes, plainWord, word}
+
+-- ---- row forms without places
+
+unfoldable pub placelessItem : Item → Item
+placelessItem (plain w) = plain (placeless w)
+placelessItem (labelled v l) = labelled (placeless v) (placeless l)
+
+-- the table and the items of a row form, without places
+unfoldable pub rowParts : Form → Option (Word × List Item)
+rowParts (purpose n p) = none
+rowParts (role n p) = none
+rowParts (attr r a k) = none
+rowParts (user u r gs) = none
+rowParts (condRole c r t) = none
+rowParts (grant p c) = none
+rowParts (label l ps qs) = none
+rowParts (table t s cs) = none
+rowParts (row t is) = some (placeless t, map placelessItem is)
+
+-- ---- items
+
+-- the bytes of an item
+unfoldable pub itemText : Item → List ℕ
+itemText (plain w) = w .bytes
+itemText (labelled v l) = bracketText (v .bytes) (l .bytes)
+
+-- its words are values and names
+unfoldable pub isItem : Item → Bool
+isItem (plain w) = isValue (w .bytes)
+isItem (labelled v l) = isValue (v .bytes) && isName (l .bytes)
+
+-- a value begins with a name byte, and so with no bracket
+value-begins : (w rest : List ℕ) → isValue w ≡ true → eqb (firstByte (w ++ rest)) 40 ≡ false
+value-begins w rest h = go (eqb (firstByte (w ++ rest)) 40) refl
+  where
+    bracket-is-none : isNameByte 40 ≡ false
+    bracket-is-none = unfold isNameByte isLetter isDigit in refl
+
+    go : (x : Bool) → eqb (firstByte (w ++ rest)) 40 ≡ x → eqb (firstByte (w ++ rest)) 40 ≡ false
+    go false e = e
+    go true e = true-not-false (value-first w rest h) (ap isNameByte (eqb-true _ 40 e) ∙ bracket-is-none)
+
+bracket-append : (v l rest : List ℕ) → bracketText v l ++ rest ≡ 40 ∷ (v ++ 32 ∷ (l ++ 41 ∷ rest))
+unfolding bracketText
+bracket-append v l rest = simp append-assoc
+
+labelledItem-reads : (v l rest : List ℕ) → isValue v ≡ true → isName l ≡ true → Reads placelessItem labelledItem (bracketText v l ++ rest) (labelled (plainWord v) (plainWord l)) rest
+unfolding labelledItem placelessItem isNameByte isLetter isDigit
+labelledItem-reads v l rest h k = rw (bracket-append v l rest) (bracketed-reads
+    (bind-reads (value-reads v _ h refl) (λ y p. bind-reads (next-reads (name-reads l _ k refl)) (λ z q. give-reads _ _ (λ i. labelled (p i) (q i))))))
+
+plainItem-reads : (v rest : List ℕ) → isValue v ≡ true → isNameByte (firstByte rest) ≡ false → Reads placelessItem plainItem (v ++ rest) (plain (plainWord v)) rest
+unfolding plainItem placelessItem
+plainItem-reads v rest h k = bind-reads (value-reads v rest h k) (λ y p. give-reads _ _ (λ i. plain (p i)))
+
+item-reads : (i : Item) (rest : List ℕ) → isItem i ≡ true → isNameByte (firstByte rest) ≡ false → Reads placelessItem item (itemText i ++ rest) (placelessItem i) rest
+unfolding item ifNext isItem itemText placelessItem placeless
+item-reads (plain w) rest h k = record { from = λ at. go at (eqb (firstByte (w .bytes ++ rest)) 40) (value-begins (w .bytes) rest h) }
+  where
+    go : (at : ℕ) (b : Bool) → b ≡ false → Gives placelessItem (plain (plainWord (w .bytes))) rest
+        (cond b labelledItem plainItem (left at (w .bytes ++ rest)))
+    go at true e = true-not-false refl e
+    go at false e = plainItem-reads (w .bytes) rest h k .from at
+item-reads (labelled v l) rest h k =
+    record { from = λ at. unfold bracketText in labelledItem-reads (v .bytes) (l .bytes) rest (and-left (isValue (v .bytes)) _ h) (and-right (isValue (v .bytes)) _ h) .from at }
+
+-- ---- rows
+
+-- all that follows T in a row line is no name byte at its start
+spaced-begins : (is : List Item) → isNameByte (firstByte (spaced (map itemText is) ++ 41 ∷ [])) ≡ false
+unfolding spaced flatten isNameByte isLetter isDigit
+spaced-begins [] = refl
+spaced-begins (i ∷ is) = refl
+
+spaced-append : (t : List ℕ) (ts : List (List ℕ)) (rest : List ℕ) → spaced (t ∷ ts) ++ rest ≡ 32 ∷ (t ++ (spaced ts ++ rest))
+unfolding spaced flatten
+spaced-append t ts rest = simp append-assoc
+
+enough : (is : List Item) → length is ≤ length (spaced (map itemText is) ++ 41 ∷ [])
+unfolding spaced flatten
+enough [] = omega arith
+enough (i ∷ is) =
+    let more : length is ≤ length (spaced (map itemText is)) + 1 = rw length-append at (enough is) in
+    rw (length-append (32 ∷ itemText i ++ spaced (map itemText is)) (41 ∷ []), length-append (itemText i) (spaced (map itemText is))) (omega arith)
+
+items-reads : (is : List Item) (n : ℕ) → length is ≤ n → allOf isItem is ≡ true
+    → Reads (map placelessItem) (upTo n item) (spaced (map itemText is) ++ 41 ∷ []) (map placelessItem is) (41 ∷ [])
+unfolding upTo ifNext allOf
+items-reads [] zero l h = record { from = λ at. unfold spaced flatten in give-reads [] (41 ∷ []) refl .from at }
+items-reads [] (suc n) l h = record { from = λ at. unfold spaced flatten in give-reads [] (41 ∷ []) refl .from at }
+items-reads (i ∷ is) zero l h = absurd (omega arith)
+items-reads (i ∷ is) (suc n) l h = rw (spaced-append (itemText i) (map itemText is) (41 ∷ [])) (record { from = λ at. go at (items-reads is n (omega arith) (and-right (isItem i) _ h)) })
+  where
+    go : (at : ℕ) → Reads (map placelessItem) (upTo n item) (spaced (map itemText is) ++ 41 ∷ []) (map placelessItem is) (41 ∷ [])
+        → Gives (map placelessItem) (map placelessItem (i ∷ is)) (41 ∷ []) (upTo (suc n) item (left at (32 ∷ (itemText i ++ (spaced (map itemText is) ++ 41 ∷ [])))))
+    go at rest = bind-reads (next-reads (item-reads i _ (and-left (isItem i) _ h) (spaced-begins is))) (λ y p. bind-reads rest (λ ys ps. give-reads _ _ (λ j. p j ∷ ps j))) .from at
+
+many-reads : (is : List Item) → allOf isItem is ≡ true → Reads (map placelessItem) (many item) (spaced (map itemText is) ++ 41 ∷ []) (map placelessItem is) (41 ∷ [])
+unfolding many
+many-reads is h = record { from = λ at. items-reads is _ (enough is) h .from at }
+
+rowForm-reads : (t : Name) (is : List Item) → isName t ≡ true → allOf isItem is ≡ true
+    → Reads rowParts rowForm (32 ∷ (t ++ (spaced (map itemText is) ++ 41 ∷ []))) (some (plainWord t, map placelessItem is)) (41 ∷ [])
+unfolding rowForm rowParts
+rowForm-reads t is h k =
+    bind-reads (next-reads (name-reads t _ h (spaced-begins is))) (λ y p. bind-reads (many-reads is k) (λ ys ps. give-reads _ _ (λ i. some (p i, ps i))))
+
+-- the keyword `row` calls for the rest of a row form
+keyword-row : {bs : List ℕ} {x : Option (Word × List Item)} {rest : List ℕ} → Reads rowParts rowForm (32 ∷ bs) x rest → Reads rowParts (keyword lineForms) (114 ∷ 111 ∷ 119 ∷ 32 ∷ bs) x rest
+unfolding lineForms keyword word nameBytes isNameByte isLetter isDigit among isCalled sameName sameByte
+keyword-row h = record { from = λ at. h .from (at + 3) }
+
+form-row : {bs : List ℕ} {x : Option (Word × List Item)} {rest : List ℕ} → Reads rowParts rowForm (32 ∷ bs) x (41 ∷ rest) → Reads rowParts form (40 ∷ 114 ∷ 111 ∷ 119 ∷ 32 ∷ bs) x rest
+unfolding form
+form-row h = bracketed-reads (keyword-row h)
+
+-- ---- the items of a row line, by scheme
+
+plain-texts : (vs : List Value) → map itemText (map (λ v. plain (plainWord v)) vs) ≡ vs
+unfolding itemText plainWord
+plain-texts [] = refl
+plain-texts (v ∷ vs) = ap (λ l. v ∷ l) (plain-texts vs)
+
+bracket-texts : (vs : List Value) (ls : List Name) → map itemText (zipWith (λ v l. labelled (plainWord v) (plainWord l)) vs ls) ≡ zipWith bracketText vs ls
+unfolding itemText plainWord zipWith
+bracket-texts [] ls = refl
+bracket-texts (v ∷ vs) [] = refl
+bracket-texts (v ∷ vs) (l ∷ ls) = ap (λ x. bracketText v l ∷ x) (bracket-texts vs ls)
+
+plain-items : (vs : List Value) → allOf isValue vs ≡ true → allOf isItem (map (λ v. plain (plainWord v)) vs) ≡ true
+unfolding allOf isItem plainWord
+plain-items [] h = refl
+plain-items (v ∷ vs) h = rw (and-left (isValue v) _ h) (plain-items vs (and-right (isValue v) _ h))
+
+all-append : (ls vs : List Value) → allOf isName ls ≡ true → allOf isValue vs ≡ true → allOf isValue (ls ++ vs) ≡ true
+unfolding allOf
+all-append [] vs h k = k
+all-append (l ∷ ls) vs h k = rw (name-value l (and-left (isName l) _ h)) (all-append ls vs (and-right (isName l) _ h) k)
+
+bracket-items : (vs : List Value) (ls : List Name) → allOf isName ls ≡ true → allOf isValue vs ≡ true
+    → allOf isItem (zipWith (λ v l. labelled (plainWord v) (plainWord l)) vs ls) ≡ true
+unfolding allOf isItem plainWord zipWith
+bracket-items [] ls h k = refl
+bracket-items (v ∷ vs) [] h k = refl
+bracket-items (v ∷ vs) (l ∷ ls) h k = rw (and-left (isValue v) _ k, and-left (isName l) _ h) (bracket-items vs ls (and-right (isName l) _ h) (and-right (isValue v) _ k))
+
+map-plain : (vs : List Value) → map placelessItem (map (λ v. plain (plainWord v)) vs) ≡ map (λ v. plain (plainWord v)) vs
+unfolding placelessItem placeless plainWord
+map-plain vs = map-map placelessItem (λ v. plain (plainWord v)) vs
+
+map-bracket : (vs : List Value) (ls : List Name) → map placelessItem (zipWith (λ v l. labelled (plainWord v) (plainWord l)) vs ls) ≡ zipWith (λ v l. labelled (plainWord v) (plainWord l)) vs ls
+unfolding placelessItem placeless plainWord zipWith
+map-bracket [] ls = refl
+map-bracket (v ∷ vs) [] = refl
+map-bracket (v ∷ vs) (l ∷ ls) = ap (λ x. labelled (plainWord v) (plainWord l) ∷ x) (map-bracket vs ls)
+
+module _ {L : Type 0} where
+  -- the items, without places, that a row line of this scheme gives
+  unfoldable pub itemsOf : Scheme L → List Name → List Value → List Item
+  itemsOf unlabelled ls vs = map (λ v. plain (plainWord v)) vs
+  itemsOf (byTable l) ls vs = map (λ v. plain (plainWord v)) vs
+  itemsOf (byColumn cs) ls vs = map (λ v. plain (plainWord v)) vs
+  itemsOf byRow ls vs = map (λ v. plain (plainWord v)) (ls ++ vs)
+  itemsOf byCell ls vs = zipWith (λ v l. labelled (plainWord v) (plainWord l)) vs ls
+
+  items-texts : (s : Scheme L) (ls : List Name) (vs : List Value) → map itemText (itemsOf s ls vs) ≡ itemTexts s ls vs
+  unfolding itemsOf itemTexts
+  items-texts unlabelled ls vs = plain-texts vs
+  items-texts (byTable l) ls vs = plain-texts vs
+  items-texts (byColumn cs) ls vs = plain-texts vs
+  items-texts byRow ls vs = plain-texts (ls ++ vs)
+  items-texts byCell ls vs = bracket-texts vs ls
+
+  items-fit : (s : Scheme L) (ls : List Name) (vs : List Value) → allOf isName ls ≡ true → allOf isValue vs ≡ true → allOf isItem (itemsOf s ls vs) ≡ true
+  unfolding itemsOf
+  items-fit unlabelled ls vs h k = plain-items vs k
+  items-fit (byTable l) ls vs h k = plain-items vs k
+  items-fit (byColumn cs) ls vs h k = plain-items vs k
+  items-fit byRow ls vs h k = plain-items (ls ++ vs) (all-append ls vs h k)
+  items-fit byCell ls vs h k = bracket-items vs ls h k
+
+  -- they have no places
+  items-placeless : (s : Scheme L) (ls : List Name) (vs : List Value) → map placelessItem (itemsOf s ls vs) ≡ itemsOf s ls vs
+  unfolding itemsOf
+  items-placeless unlabelled ls vs = map-plain vs
+  items-placeless (byTable l) ls vs = map-plain vs
+  items-placeless (byColumn cs) ls vs = map-plain vs
+  items-placeless byRow ls vs = map-plain (ls ++ vs)
+  items-placeless byCell ls vs = map-bracket vs ls
+
+  rowText-is : (s : Scheme L) (t : Name) (ls : List Name) (vs : List Value)
+      → rowText s t ls vs ≡ 40 ∷ 114 ∷ 111 ∷ 119 ∷ 32 ∷ (t ++ (spaced (map itemText (itemsOf s ls vs)) ++ 41 ∷ []))
+  unfolding rowText
+  rowText-is s t ls vs = rw (items-texts s ls vs) (simp append-assoc)
+
+  row-reads : (s : Scheme L) (t : Name) (ls : List Name) (vs : List Value) → isName t ≡ true → allOf isName ls ≡ true → allOf isValue vs ≡ true
+      → Reads rowParts form (rowText s t ls vs) (some (plainWord t, itemsOf s ls vs)) []
+  row-reads s t ls vs h k m =
+      rw (rowText-is s t ls vs) (form-row (rw (items-placeless s ls vs) at (rowForm-reads t (itemsOf s ls vs) h (items-fit s ls vs k m))))
+
+  -- A row line that was written out from its parts is the form of those parts.
+  pub row-back : (s : Scheme L) (t : Name) (ls : List Name) (vs : List Value) → isName t ≡ true → allOf isName ls ≡ true → allOf isValue vs ≡ true
+      → (f : Form) → formOf (rowText s t ls vs) ≡ some f → rowParts f ≡ some (plainWord t, itemsOf s ls vs)
+  unfolding formOf whole
+  row-back s t ls vs h k m f = go (row-reads s t ls vs h k m .from 0)
+    where
+      go : {o : Option (Form × Left)} → Gives rowParts (some (plainWord t, itemsOf s ls vs)) [] o → ended o ≡ some f → rowParts f ≡ some (plainWord t, itemsOf s ls vs)
+      go (gives p) e = unfold ended in cc

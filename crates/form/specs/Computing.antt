@@ -1,0 +1,11 @@
+-- One name that unfolds every definition here and in the crates below: `unfolding computing` lets a closed example compute.
+use Rattle.lists.specs.Computing as lists
+use Rattle.text.specs.Computing as text
+use Rattle.condition.specs.Computing as condition
+use Rattle.form.specs.Form as Form
+use Rattle.form.specs.FormReader as FormReader
+use Rattle.form.specs.RowText as RowText
+
+unfoldable pub computing : Unit {0}
+unfolding mathlib.Core.Option.bind mathlib.Core.List.flatten lists.computing text.computing condition.computing Form.schemeLabels Form.mapScheme FormReader.kinds FormReader.node FormReader.attrForm FormReader.givenForm FormReader.userForm FormReader.condRoleForm FormReader.grantForm FormReader.purposeSet FormReader.labelForm FormReader.columnBody FormReader.column FormReader.labelledColumn FormReader.plainColumns FormReader.columnsUnderLabel FormReader.labelledColumns FormReader.schemes FormReader.tableForm FormReader.labelledItem FormReader.plainItem FormReader.item FormReader.rowForm FormReader.lineForms FormReader.form FormReader.formOf RowText.bracketText RowText.itemTexts RowText.labelCount RowText.spaced RowText.rowText
+computing = tt

@@ -1,0 +1,176 @@
+-- Rows given further down (02, Q-6), over what a document and a query mean: what a select is answered for P, it is answered
+-- for every Q below P. Assumes nothing.
+use Prim.Native.Nat.{_≤_, ℕ}
+use mathlib.Core.Bool.{Bool, cond, false, true}
+use mathlib.Core.List.{List, Sublistᴰ, Sublistᴰ·cons, Sublistᴰ·cons-cons, Sublistᴰ·slnil, [], _++_, _∷_, flatten, map}
+use mathlib.Core.Logic.{_⊎_, inl, inr}
+use mathlib.Core.Option.{Option, none, some}
+use mathlib.Core.Path.{_∙_, _≡_, ap, refl, sym}
+use native.Mathlib.Omega.{arith}
+use Rattle.document.proofs.OpenLaws.{rowWithheld-less}
+use Rattle.document.specs.Lookup.{purposeOf, schemeAt, userOf}
+use Rattle.document.specs.Open.{labelOpen, rowWithheld}
+use Rattle.document.specs.Policy.{Doc, Row, treeOf}
+use Rattle.form.specs.Form.{Scheme, grant, user}
+use Rattle.gate.specs.Answer.{answerTo, counted, isWithheld, lineOf, matches, rowLine, rowLines}
+use Rattle.gate.specs.Ask.{Answered, answerForm}
+use Rattle.gate.specs.Seen.{Seen, rowsIn, seenRow, seenRows, shown, withheld}
+use Rattle.purpose.specs.Compliance.{descends}
+use Rattle.query.proofs.Below.{forPurpose, grant-below, label-down, parts-down, party-down, resolved-down, toPurpose}
+use Rattle.query.specs.Authority.{Clock, firstGrant}
+use Rattle.query.specs.Query.{Query, closedPart, mistypedQuery, named, resolved, select, unknownColumn, unknownParty}
+use Rattle.query.specs.QueryForm.{QueryForm, namedWords, selectedWords}
+use Rattle.text.proofs.RefusalLaws.{accepted-same, bind-accepted, need-accepted, refuseAt-accepted, then-accepted}
+use Rattle.lists.proofs.Tests.{true-not-false}
+use Rattle.lists.specs.Lists.{countOf, known}
+use Rattle.text.specs.Numbers.{Value}
+use Rattle.text.specs.Refusal.{Result, _>>=_, _>>_, accepted, need, query, refuseAt}
+use Rattle.text.specs.Words.{Word}
+
+-- the passed rows, each by its values in the named columns
+unfoldable pub passedRows : (List Value → Bool) → List Seen → List (List Value)
+passedRows passes [] = []
+passedRows passes (withheld ∷ rs) = passedRows passes rs
+passedRows passes (shown vs ∷ rs) = cond (passes vs) (vs ∷ passedRows passes rs) (passedRows passes rs)
+
+-- ---- what is seen further down
+
+-- each row is withheld in the first list, or seen alike in both
+data Further : List Seen → List Seen → Type 0 where
+  over : Further [] []
+  hidden : (s : Seen) {ss ts : List Seen} → Further ss ts → Further (withheld ∷ ss) (s ∷ ts)
+  alike : (s : Seen) {ss ts : List Seen} → Further ss ts → Further (s ∷ ss) (s ∷ ts)
+
+map-further : (f g : Row → Seen) → ((r : Row) → (f r ≡ withheld) ⊎ (f r ≡ g r)) → (rs : List Row) → Further (map f rs) (map g rs)
+map-further f g h [] = over
+map-further f g h (r ∷ rs) = go (h r) (map-further f g h rs)
+  where
+    go : (f r ≡ withheld) ⊎ (f r ≡ g r) → Further (map f rs) (map g rs) → Further (map f (r ∷ rs)) (map g (r ∷ rs))
+    go (inl e) rest = rw e (hidden (g r) rest)
+    go (inr e) rest = rw e (alike (g r) rest)
+
+further-withheld : {ss ts : List Seen} → Further ss ts → countOf isWithheld ts ≤ countOf isWithheld ss
+unfolding countOf isWithheld
+further-withheld over = omega arith
+further-withheld (hidden withheld r) = let l = further-withheld r in omega arith
+further-withheld (hidden (shown vs) r) = let l = further-withheld r in omega arith
+further-withheld (alike withheld r) = let l = further-withheld r in omega arith
+further-withheld (alike (shown vs) r) = further-withheld r
+
+further-rows : (passes : List Value → Bool) {ss ts : List Seen} → Further ss ts → Sublistᴰ (passedRows passes ss) (passedRows passes ts)
+unfolding passedRows
+further-rows passes over = Sublistᴰ·slnil
+further-rows passes (hidden withheld r) = further-rows passes r
+further-rows passes (hidden (shown vs) {ss} {ts} r) = go (passes vs) (further-rows passes r)
+  where
+    go : (b : Bool) → Sublistᴰ (passedRows passes ss) (passedRows passes ts) → Sublistᴰ (passedRows passes ss) (cond b (vs ∷ passedRows passes ts) (passedRows passes ts))
+    go true rest = Sublistᴰ·cons rest
+    go false rest = rest
+further-rows passes (alike withheld r) = further-rows passes r
+further-rows passes (alike (shown vs) {ss} {ts} r) = go (passes vs) (further-rows passes r)
+  where
+    go : (b : Bool) → Sublistᴰ (passedRows passes ss) (passedRows passes ts) → Sublistᴰ (cond b (vs ∷ passedRows passes ss) (passedRows passes ss)) (cond b (vs ∷ passedRows passes ts) (passedRows passes ts))
+    go true rest = Sublistᴰ·cons-cons refl rest
+    go false rest = rest
+
+-- a select prints the passed rows
+pub rows-printed : (passes : List Value → Bool) (cs : List ℕ) (rs : List Seen) → rowLines passes (select cs) rs ≡ flatten (map (rowLine cs) (passedRows passes rs))
+unfolding rowLines passedRows flatten lineOf
+rows-printed passes cs [] = refl
+rows-printed passes cs (withheld ∷ rs) = rows-printed passes cs rs
+rows-printed passes cs (shown vs ∷ rs) = go (passes vs) (rows-printed passes cs rs)
+  where
+    go : (b : Bool) → rowLines passes (select cs) rs ≡ flatten (map (rowLine cs) (passedRows passes rs))
+        → cond b (rowLine cs vs) [] ++ flatten (map (lineOf passes cs) rs) ≡ flatten (map (rowLine cs) (cond b (vs ∷ passedRows passes rs) (passedRows passes rs)))
+    go true e = ap (λ l. rowLine cs vs ++ l) e
+    go false e = e
+
+-- where more labels are open, each row is withheld before or seen as before
+row-further : (isOpen isOpen′ : Option ℕ → Bool) → ((l : Option ℕ) → isOpen l ≡ true → isOpen′ l ≡ true) → (s : Scheme ℕ) (cs : List ℕ) (r : Row)
+    → (seenRow isOpen s cs r ≡ withheld) ⊎ (seenRow isOpen s cs r ≡ seenRow isOpen′ s cs r)
+unfolding seenRow
+row-further isOpen isOpen′ wider s cs r = go (rowWithheld isOpen s cs (r .labels)) (rowWithheld isOpen′ s cs (r .labels)) refl refl
+  where
+    go : (a b : Bool) → rowWithheld isOpen s cs (r .labels) ≡ a → rowWithheld isOpen′ s cs (r .labels) ≡ b
+        → (seenRow isOpen s cs r ≡ withheld) ⊎ (seenRow isOpen s cs r ≡ seenRow isOpen′ s cs r)
+    go true b e f = inl (rw e)
+    go false false e f = inr (rw (e, f))
+    go false true e f = true-not-false (rowWithheld-less isOpen isOpen′ wider s cs (r .labels) f) e
+
+seen-further : (d : Doc) (q : Query) (p : ℕ) → ((l : Option ℕ) → labelOpen (d .policy) (q .purpose) l ≡ true → labelOpen (d .policy) p l ≡ true)
+    → Further (seenRows d q) (seenRows d (toPurpose p q))
+unfolding seenRows toPurpose named
+seen-further d q p wider =
+    map-further _ _ (row-further (labelOpen (d .policy) (q .purpose)) (labelOpen (d .policy) p) wider (schemeAt (d .policy) (q .table)) (named q)) (rowsIn (q .table) (d .rows))
+
+-- ---- when a query is answered
+
+-- none of 12 to 17 holds, and this is the answer
+pub record Answers (d : Doc) (c : Clock) (q : QueryForm) (r : Answered) : Type 0 where
+  pub user : ℕ
+  pub grant : ℕ
+  pub party : unknownParty (d .policy) q ≡ none
+  pub has-role : userOf (d .policy) (q .user) (q .role) ≡ some user
+  pub authorised : firstGrant (d .policy) c user (known (purposeOf (d .policy) (q .purpose))) ≡ some grant
+  pub columns : unknownColumn (d .policy) q ≡ none
+  pub types : mistypedQuery (d .policy) q ≡ none
+  pub parts : closedPart (d .policy) q ≡ none
+  pub is : r ≡ record { answer = answerTo (resolved (d .policy) q) (seenRows d (resolved (d .policy) q)); grant = grant }
+
+pub answered : (d : Doc) (c : Clock) (q : QueryForm) (r : Answered) → answerForm d c q ≡ accepted r → Answers d c q r
+unfolding answerForm
+answered d c q r h =
+    let h1 = then-accepted _ _ _ h in
+    let h2 = bind-accepted _ _ _ (h1 .2) in
+    let h3 = bind-accepted _ _ _ (h2 .2) in
+    let h4 = then-accepted _ _ _ (h3 .2) in
+    let h5 = then-accepted _ _ _ (h4 .2) in
+    let h6 = then-accepted _ _ _ (h5 .2) in
+    record {
+      user = h2 .0;
+      grant = h3 .0;
+      party = refuseAt-accepted 12 query _ (h1 .1);
+      has-role = need-accepted _ _ _ (h2 .1);
+      authorised = need-accepted _ _ _ (h3 .1);
+      columns = refuseAt-accepted 15 query _ (h4 .1);
+      types = refuseAt-accepted 16 query _ (h5 .1);
+      parts = refuseAt-accepted 17 query _ (h6 .1);
+      is = sym (accepted-same (h6 .2));
+    }
+
+pub is-answered : (d : Doc) (c : Clock) (q : QueryForm) (r : Answered) → Answers d c q r → answerForm d c q ≡ accepted r
+unfolding answerForm refuseAt need _>>_ _>>=_
+is-answered d c q r a = rw (a .party, a .has-role, a .authorised, a .columns, a .types, a .parts) (ap {B = Result Answered} accepted (sym (a .is)))
+
+-- ---- the theorem
+
+module _ (d : Doc) (q : QueryForm) (w : Word) (p : ℕ) (is-p : purposeOf (d .policy) w ≡ some p)
+    (below : descends (treeOf (d .policy .purposes)) p (known (purposeOf (d .policy) (q .purpose))) ≡ true) where
+  -- Q's answer has P's rows in the same order, perhaps with others between, and withholds no more rows.
+  pub further-down : (c : Clock) (r : Answered) → answerForm d c q ≡ accepted r
+      → (s : Answered) × (answerForm d c (forPurpose w q) ≡ accepted s)
+      × Sublistᴰ (passedRows (matches (resolved (d .policy) q .condition)) (seenRows d (resolved (d .policy) q)))
+      (passedRows (matches (resolved (d .policy) q .condition)) (seenRows d (resolved (d .policy) (forPurpose w q))))
+      × (s .answer .withheld ≤ r .answer .withheld)
+  unfolding answerTo counted forPurpose unknownColumn mistypedQuery namedWords selectedWords known
+  further-down c r h =
+      let a = answered d c q r h in
+      let g = grant-below (d .policy) _ p below c (a .user) (a .grant) (a .authorised) in
+      let s : Answered = record { answer = answerTo (resolved (d .policy) (forPurpose w q)) (seenRows d (resolved (d .policy) (forPurpose w q))); grant = g .0 } in
+      let f : Further (seenRows d (resolved (d .policy) q)) (seenRows d (toPurpose p (resolved (d .policy) q))) =
+      seen-further d (resolved (d .policy) q) p (unfold resolved in label-down (d .policy) q w p is-p below) in (
+        s,
+        is-answered d c (forPurpose w q) s (record {
+          user = a .user;
+          grant = g .0;
+          party = party-down (d .policy) q w p is-p below (a .party);
+          has-role = a .has-role;
+          authorised = ap (λ x. firstGrant (d .policy) c (a .user) (known x)) is-p ∙ g .1;
+          columns = a .columns;
+          types = a .types;
+          parts = parts-down (d .policy) q w p is-p below (a .parts);
+          is = refl;
+        }),
+        rw (resolved-down (d .policy) q w p is-p below) (further-rows (matches (resolved (d .policy) q .condition)) f),
+        rw (resolved-down (d .policy) q w p is-p below, a .is) (further-withheld f),
+      )

@@ -1,0 +1,165 @@
+-- The printed rows of a select that repeats no column are no longer than the rows' lines. For the reserve. Assumes nothing.
+use Prim.Native.Nat.{_+_, _<_, _≤_, suc, zero, zero-le, ℕ}
+use borrow.Author.Tests.{eqb-true, ne-eqb}
+use lib.Dec.{eqb}
+use lib.ListN.{getD, getElem?, length, length-append}
+use mathlib.Core.Bool.{Bool, _||_, cond, false, false≢true, true, true≢false}
+use mathlib.Core.List.{List, [], _++_, _∷_, flatten, map}
+use mathlib.Core.Option.{Option}
+use mathlib.Core.Path.{_∙_, _≡_, ap, refl, subst, sym}
+use native.Mathlib.Nat.{le-refl, not-suc-le-zero}
+use native.Mathlib.Omega.{arith}
+use Rattle.document.proofs.RowsFit.{AllFit, countAt, rowsCost, valuesCost}
+use Rattle.document.specs.Open.{rowWithheld}
+use Rattle.document.specs.Policy.{Row, Table}
+use Rattle.form.specs.Form.{Scheme}
+use Rattle.gate.specs.Answer.{lineOf, rowLine}
+use Rattle.gate.specs.Seen.{onlyNamed, rowsIn, seenRow, shown, withheld}
+use Rattle.text.proofs.ReaderLaws.{listCost}
+use Rattle.lists.proofs.Tests.{eqb-self}
+use Rattle.text.specs.Bytes.{ascii}
+use Rattle.lists.specs.Lists.{anyOf, keep, member}
+use Rattle.text.specs.Numbers.{Value}
+
+differ : (m n : ℕ) → m < n → eqb n m ≡ false
+differ m n h = ne-eqb n m (λ e. omega (arith, e, h))
+
+differ′ : (m n : ℕ) → m < n → eqb m n ≡ false
+differ′ m n h = ne-eqb m n (λ e. omega (arith, e, h))
+
+-- ---- columns without repeats cost no more than all of them
+
+-- what the columns of a printed row take, each with its space
+colsCost : List Value → List ℕ → ℕ
+colsCost vs [] = 0
+colsCost vs (c ∷ cs) = 1 + length (getD vs c []) + colsCost vs cs
+
+-- what the values take, from column i on, without those of the columns that were used
+unusedCost : ℕ → List ℕ → List Value → ℕ
+unusedCost i used [] = 0
+unusedCost i used (v ∷ vs) = cond (member i used) 0 (1 + length v) + unusedCost (suc i) used vs
+
+-- no column is used twice
+abbrev pub Distinct : List ℕ → List ℕ → Type 0
+Distinct used [] = Unit {0}
+Distinct used (c ∷ cs) = (member c used ≡ false) × Distinct (c ∷ used) cs
+
+abbrev pub AllBelow : ℕ → List ℕ → Type 0
+AllBelow n [] = Unit {0}
+AllBelow n (c ∷ cs) = (c < n) × AllBelow n cs
+
+unused-all : (i : ℕ) (vs : List Value) → unusedCost i [] vs ≡ listCost length vs
+unfolding unusedCost member anyOf listCost
+unused-all i [] = refl
+unused-all i (v ∷ vs) = ap (λ (n : ℕ). 1 + length v + n) (unused-all (suc i) vs)
+
+-- a column that is another plays no part in whether one was used
+member-other : (c i : ℕ) (used : List ℕ) → eqb i c ≡ false → member i (c ∷ used) ≡ member i used
+unfolding member anyOf
+member-other c i used h = ap (λ (b : Bool). b || member i used) h
+
+member-here : (c : ℕ) (used : List ℕ) → member c (c ∷ used) ≡ true
+unfolding member anyOf
+member-here c used = ap (λ (b : Bool). b || member c used) (eqb-self c)
+
+-- a column further left plays no part
+unused-left : (c i : ℕ) (used : List ℕ) (vs : List Value) → c < i → unusedCost i (c ∷ used) vs ≡ unusedCost i used vs
+unfolding unusedCost
+unused-left c i used [] h = refl
+unused-left c i used (v ∷ vs) h =
+    ap (λ (n : ℕ). cond (member i (c ∷ used)) 0 (1 + length v) + n) (unused-left c (suc i) used vs (omega (arith, h)))
+    ∙ ap (λ (b : Bool). cond b 0 (1 + length v) + unusedCost (suc i) used vs) (member-other c i used (differ c i h))
+
+-- to use a column takes its cost off
+unused-take : (vs : List Value) (i j c : ℕ) (used : List ℕ) → c ≡ i + j → j < length vs → member c used ≡ false
+    → 1 + length (getD vs j []) + unusedCost i (c ∷ used) vs ≤ unusedCost i used vs
+unfolding unusedCost
+unused-take [] i j c used e h m = absurd (not-suc-le-zero h)
+unused-take (v ∷ vs) i zero c used e h m = go c (member i (c ∷ used)) (member i used) (ap (λ (x : ℕ). member x (c ∷ used)) i≡c ∙ member-here c used) (ap (λ (x : ℕ). member x used) i≡c ∙ m) (unused-left c (suc i) used vs (omega (arith, e)))
+  where
+    i≡c : i ≡ c
+    i≡c = omega (arith, e)
+
+    go : (c : ℕ) (a b : Bool) → a ≡ true → b ≡ false → unusedCost (suc i) (c ∷ used) vs ≡ unusedCost (suc i) used vs
+        → 1 + length v + (cond a 0 (1 + length v) + unusedCost (suc i) (c ∷ used) vs) ≤ cond b 0 (1 + length v) + unusedCost (suc i) used vs
+    go c true false p q h = omega (arith, h)
+    go c true true p q h = absurd (true≢false q)
+    go c false b p q h = absurd (false≢true p)
+unused-take (v ∷ vs) i (suc j) c used e h m =
+    subst (λ (b : Bool). 1 + length (getD vs j []) + (cond b 0 (1 + length v) + unusedCost (suc i) (c ∷ used) vs) ≤ cond (member i used) 0 (1 + length v) + unusedCost (suc i) used vs)
+    (sym (member-other c i used (differ′ i c (omega (arith, e)))))
+    (omega (arith, unused-take vs (suc i) j c used (omega (arith, e)) (omega (arith, h)) m))
+
+cols-cost : (vs : List Value) (used cs : List ℕ) → Distinct used cs → AllBelow (length vs) cs → colsCost vs cs ≤ unusedCost 0 used vs
+unfolding colsCost
+cols-cost vs used [] d b = zero-le
+cols-cost vs used (c ∷ cs) d b = omega (arith, cols-cost vs (c ∷ used) cs (d .1) (b .1), unused-take vs 0 c c used (omega arith) (b .0) (d .0))
+
+-- columns without repeats cost no more than all of them
+distinct-cost : (vs : List Value) (cs : List ℕ) → Distinct [] cs → AllBelow (length vs) cs → colsCost vs cs ≤ listCost length vs
+distinct-cost vs cs d b = omega (arith, cols-cost vs [] cs d b, unused-all 0 vs)
+
+-- a value that is left out costs less
+named-value : (ns : List ℕ) (i : ℕ) (vs : List Value) (c : ℕ) → length (getD (onlyNamed ns i vs) c []) ≤ length (getD vs c [])
+unfolding onlyNamed
+named-value ns i [] c = le-refl _
+named-value ns i (v ∷ vs) zero = go (member i ns)
+  where
+    go : (b : Bool) → length (cond b v []) ≤ length v
+    go true = le-refl _
+    go false = zero-le
+named-value ns i (v ∷ vs) (suc c) = named-value ns (suc i) vs c
+
+named-cost : (ns : List ℕ) (vs : List Value) (cs : List ℕ) → colsCost (onlyNamed ns 0 vs) cs ≤ colsCost vs cs
+unfolding colsCost
+named-cost ns vs [] = zero-le
+named-cost ns vs (c ∷ cs) = omega (arith, named-value ns 0 vs c, named-cost ns vs cs)
+
+-- ---- the printed rows
+
+items-length : (vs : List Value) (cs : List ℕ) → length (flatten (map (λ c. 32 ∷ getD vs c []) cs)) ≡ colsCost vs cs
+unfolding flatten colsCost
+items-length vs [] = refl
+items-length vs (c ∷ cs) = length-append (32 ∷ getD vs c []) _ ∙ omega (arith, items-length vs cs)
+
+rowLine-length : (cs : List ℕ) (vs : List Value) → length (rowLine cs vs) ≡ 6 + colsCost vs cs
+unfolding rowLine
+rowLine-length cs vs = length-append (ascii "(row" ++ flatten (map (λ c. 32 ∷ getD vs c []) cs)) (ascii ")\n") ∙ omega (arith, length-append (ascii "(row") (flatten (map (λ c. 32 ∷ getD vs c []) cs)), items-length vs cs)
+
+-- the line of a row, if it has one, is no longer than the row's cost
+line-cost : (passes : List Value → Bool) (isOpen : Option ℕ → Bool) (s : Scheme ℕ) (ns cs : List ℕ) (r : Row) → Distinct [] cs → AllBelow (length (r .values)) cs
+    → length (lineOf passes cs (seenRow isOpen s ns r)) ≤ valuesCost (r .values)
+unfolding seenRow lineOf valuesCost
+line-cost passes isOpen s ns cs r u b = outer (rowWithheld isOpen s ns (r .labels))
+  where
+    vs : List Value
+    vs = onlyNamed ns 0 (r .values)
+
+    inner : (t : Bool) → length (cond t (rowLine cs vs) []) ≤ 7 + listCost length (r .values)
+    inner true = omega (arith, rowLine-length cs vs, named-cost ns (r .values) cs, distinct-cost (r .values) cs u b)
+    inner false = zero-le
+
+    outer : (t : Bool) → length (lineOf passes cs (cond t withheld (shown vs))) ≤ 7 + listCost length (r .values)
+    outer true = zero-le
+    outer false = inner (passes vs)
+
+-- the printed rows of a table are no longer than all rows
+pub lines-cost : (passes : List Value → Bool) (isOpen : Option ℕ → Bool) (s : Scheme ℕ) (ns cs : List ℕ) (t : ℕ) (ts : List Table) (rs : List Row) → Distinct [] cs → AllBelow (countAt (getElem? ts t)) cs → AllFit ts rs
+    → length (flatten (map (lineOf passes cs) (map (seenRow isOpen s ns) (rowsIn t rs)))) ≤ rowsCost rs
+unfolding flatten rowsIn keep rowsCost
+lines-cost passes isOpen s ns cs t ts [] u b f = zero-le
+lines-cost passes isOpen s ns cs t ts (r ∷ rs) u b f = go (lines-cost passes isOpen s ns cs t ts rs u b (f .1)) (eqb (r .table) t) refl
+  where
+    rest : List Row
+    rest = keep (λ r. eqb (r .table) t) rs
+
+    go : length (flatten (map (lineOf passes cs) (map (seenRow isOpen s ns) rest))) ≤ rowsCost rs → (x : Bool) → eqb (r .table) t ≡ x
+        → length (flatten (map (lineOf passes cs) (map (seenRow isOpen s ns) (cond x (r ∷ rest) rest)))) ≤ valuesCost (r .values) + rowsCost rs
+    go ih true p = omega (
+      arith,
+      ih,
+      length-append (lineOf passes cs (seenRow isOpen s ns r)) (flatten (map (lineOf passes cs) (map (seenRow isOpen s ns) rest))),
+      line-cost passes isOpen s ns cs r u
+          (subst (λ (n : ℕ). AllBelow n cs) (ap (λ (i : ℕ). countAt (getElem? ts i)) (sym (eqb-true (r .table) t p)) ∙ sym (f .0 .wide)) b),
+    )
+    go ih false p = omega (arith, ih)

@@ -1,0 +1,148 @@
+-- Rows given further down (02, Q-6), from the texts to the answers. Assumes nothing.
+use Prim.Native.Nat.{_≤_, ℕ}
+use borrow.Author.Tests.{le-leb, le-ltb}
+use lib.ListN.{length}
+use mathlib.Core.Bool.{true}
+use mathlib.Core.List.{List, _++_, map}
+use mathlib.Core.Option.{Option, Option·map, Option·some-ne-none, none, some}
+use mathlib.Core.Path.{_∙_, _≡_, ap, refl, subst, sym}
+use Rattle.document.specs.Check.{Accepted, check}
+use Rattle.document.specs.Lookup.{columnsOf, purposeOf, roleOf, userOf}
+use Rattle.document.specs.Policy.{Doc, treeOf}
+use Rattle.gate.proofs.FurtherDown.{Answers, answered, further-down, is-answered, passedRows, rows-printed}
+use Rattle.gate.proofs.SelectReading.{IsSelect, is-select, other, other-query}
+use Rattle.gate.specs.Answer.{answerTo, counted, endLine, matches, rowLines}
+use Rattle.gate.specs.Ask.{Answered, answerForm, ask}
+use Rattle.gate.specs.Further.{Contains, Prints, selectText}
+use Rattle.gate.specs.Seen.{Seen, seenRows}
+use Rattle.purpose.specs.Compliance.{descends}
+use Rattle.query.proofs.Below.{forPurpose}
+use Rattle.query.proofs.NamedColumns.{columnNumber}
+use Rattle.query.proofs.QueryPlaces.{closed-placeless, column-placeless, party-placeless, placelessQuery, resolved-placeless, types-placeless}
+use Rattle.query.specs.Authority.{Clock, inRange}
+use Rattle.query.specs.Query.{Query, resolved, select, wantedOf}
+use Rattle.query.specs.QueryForm.{QueryForm, queryOf}
+use Rattle.text.proofs.ReadBack.{placeless}
+use Rattle.text.proofs.RefusalLaws.{accepted-same, bind-accepted, need-accepted, refuseIf-accepted, then-accepted}
+use Rattle.lists.proofs.Tests.{not-false}
+use Rattle.lists.specs.Lists.{known}
+use Rattle.text.specs.Names.{Name, isName}
+use Rattle.text.specs.Refusal.{_>>=_, _>>_, accepted, need, refuseIf}
+use Rattle.text.specs.Words.{Word, isCalled, plainWord}
+
+-- ---- a query is answered as the same query without places is
+
+none-map : (o : Option Word) → o ≡ none → Option·map placeless o ≡ none
+none-map o e = rw e
+
+map-none : (o : Option Word) → Option·map placeless o ≡ none → o ≡ none
+map-none none e = refl
+map-none (some w) e = absurd (Option·some-ne-none _ e)
+
+-- the answer to a resolved query
+abbrev answerOf : Doc → ℕ → Query → Answered
+answerOf d g q = record { answer = answerTo q (seenRows d q); grant = g }
+
+answers-placeless : (d : Doc) (c : Clock) (q : QueryForm) (r : Answered) → Answers d c q r → Answers d c (placelessQuery q) r
+unfolding userOf roleOf purposeOf isCalled placeless plainWord placelessQuery
+answers-placeless d c q r a = record {
+  user = a .user;
+  grant = a .grant;
+  party = party-placeless (d .policy) q ∙ none-map _ (a .party);
+  has-role = a .has-role;
+  authorised = a .authorised;
+  columns = column-placeless (d .policy) q ∙ none-map _ (a .columns);
+  types = types-placeless (d .policy) q ∙ none-map _ (a .types);
+  parts = closed-placeless (d .policy) q ∙ none-map _ (a .parts);
+  is = a .is ∙ ap (answerOf d (a .grant)) (sym (resolved-placeless (d .policy) q));
+}
+
+answers-placed : (d : Doc) (c : Clock) (q : QueryForm) (r : Answered) → Answers d c (placelessQuery q) r → Answers d c q r
+unfolding userOf roleOf purposeOf isCalled placeless plainWord placelessQuery
+answers-placed d c q r a = record {
+  user = a .user;
+  grant = a .grant;
+  party = map-none _ (sym (party-placeless (d .policy) q) ∙ a .party);
+  has-role = a .has-role;
+  authorised = a .authorised;
+  columns = map-none _ (sym (column-placeless (d .policy) q) ∙ a .columns);
+  types = map-none _ (sym (types-placeless (d .policy) q) ∙ a .types);
+  parts = map-none _ (sym (closed-placeless (d .policy) q) ∙ a .parts);
+  is = a .is ∙ ap (answerOf d (a .grant)) (resolved-placeless (d .policy) q);
+}
+
+-- ---- asking
+
+-- what an accepted asking went through
+ask-accepted : (doc text : List ℕ) (A : Accepted) → check doc ≡ accepted A → (c : Clock) (room : ℕ) (a : Answered) → ask doc text c room ≡ accepted a
+    → (inRange c ≡ true) × (q : QueryForm) × (queryOf text ≡ some q) × (answerForm (A .doc) c q ≡ accepted a)
+unfolding ask
+ask-accepted doc text A is-A c room a h =
+    let h0 = bind-accepted _ _ _ h in
+    let same-A : A ≡ h0 .0 = accepted-same (sym is-A ∙ h0 .1) in
+    let h1 = then-accepted _ _ _ (h0 .2) in
+    let h2 = bind-accepted _ _ _ (h1 .2) in
+    let h3 = bind-accepted _ _ _ (h2 .2) in
+    let h4 = then-accepted _ _ _ (h3 .2) in (
+      not-false _ (refuseIf-accepted _ _ (h1 .1)),
+      h2 .0,
+      need-accepted _ _ _ (h2 .1),
+      ap (λ (x : Accepted). answerForm (x .doc) c (h2 .0)) same-A ∙ h3 .1 ∙ h4 .2,
+    )
+
+ask-is : (doc text : List ℕ) (A : Accepted) → check doc ≡ accepted A → (c : Clock) (room : ℕ) (a : Answered) (q : QueryForm) → inRange c ≡ true
+    → queryOf text ≡ some q → answerForm (A .doc) c q ≡ accepted a → length (a .answer .bytes) ≤ room → ask doc text c room ≡ accepted a
+unfolding ask refuseIf need _>>=_ _>>_
+ask-is doc text A is-A c room a q range is-q is-a fits = rw (is-A, range, is-q, is-a) (rw (le-ltb room _ fits))
+
+-- ---- what an answer prints
+
+prints-answer : (q : Query) (cs : List ℕ) (rs : List Seen) → q .wanted ≡ select cs → Prints (answerTo q rs) cs (passedRows (matches (q .condition)) rs)
+unfolding Prints answerTo counted
+prints-answer q cs rs e =
+    ap (λ l. l ++ endLine (answerTo q rs .passed) (answerTo q rs .withheld) (answerTo q rs .unmatched)) (ap (λ w. rowLines (matches (q .condition)) w rs) e ∙ rows-printed (matches (q .condition)) cs rs)
+
+-- an answered select prints its passed rows
+answer-prints : (d : Doc) (c : Clock) (q : QueryForm) (a : Answered) (ws : List Word) → q .columns ≡ some ws → Answers d c q a
+    → Prints (a .answer) (map (columnNumber (columnsOf (d .policy) (q .table))) ws) (passedRows (matches (resolved (d .policy) q .condition)) (seenRows d (resolved (d .policy) q)))
+answer-prints d c q a ws e x =
+    let cs : List ℕ = map (columnNumber (columnsOf (d .policy) (q .table))) ws in
+    subst (λ (b : Answered). Prints (b .answer) cs (passedRows (matches (resolved (d .policy) q .condition)) (seenRows d (resolved (d .policy) q)))) (sym (x .is))
+    (prints-answer (resolved (d .policy) q) cs (seenRows d (resolved (d .policy) q)) wanted)
+  where
+    wanted : resolved (d .policy) q .wanted ≡ select (map (columnNumber (columnsOf (d .policy) (q .table))) ws)
+    wanted = unfold resolved wantedOf in ap (wantedOf (columnsOf (d .policy) (q .table))) e
+
+-- For every accepted document: if a select for P is answered, the same select for Q below P is answered too, under the
+-- same clock, with a buffer as long as its answer needs and a text within 4,096 bytes.
+pub rows-further-down : (doc : List ℕ) (A : Accepted) → check doc ≡ accepted A
+    → (u r p p′ : Name) (rest : List ℕ) → isName u ≡ true → isName r ≡ true → isName p ≡ true → isName p′ ≡ true
+    → (n n′ : ℕ) → purposeOf (A .doc .policy) (plainWord p) ≡ some n → purposeOf (A .doc .policy) (plainWord p′) ≡ some n′ → descends (treeOf (A .doc .policy .purposes)) n′ n ≡ true
+    → (c : Clock) (room : ℕ) (a : Answered) → ask doc (selectText u r p rest) c room ≡ accepted a
+    → length (selectText u r p′ rest) ≤ 4096
+    → (s : Answered) × ((room′ : ℕ) → length (s .answer .bytes) ≤ room′ → ask doc (selectText u r p′ rest) c room′ ≡ accepted s) × Contains (a .answer) (s .answer)
+unfolding purposeOf isCalled plainWord other known IsSelect forPurpose placelessQuery resolved
+rows-further-down doc A is-A u r p p′ rest is-u is-r is-p is-p′ n n′ known-p known-p′ below c room a h short =
+    let d : Doc = A .doc in
+    let x = ask-accepted doc _ A is-A c room a h in
+    let q : QueryForm = x .1 in
+    let w : Word = other u r p p′ rest is-u is-r is-p is-p′ in
+    let y = other-query u r p p′ rest is-u is-r is-p is-p′ q (x .2) (le-leb _ _ short) in
+    let sel = is-select u r p p′ rest is-u is-r is-p is-p′ q (x .2) in
+    let z = further-down d q w n′ known-p′ (subst (λ o. descends (treeOf (d .policy .purposes)) n′ (known o) ≡ true) (sym (ap (purposeOf (d .policy)) (sel .0) ∙ known-p)) below) c a (x .3) in
+    let s : Answered = z .0 in
+    let q′ : QueryForm = forPurpose w (y .0) in
+    let t : Answers d c (forPurpose w q) s = answered d c (forPurpose w q) s (z .1) in
+    let t′ : Answers d c q′ s = answers-placed d c q′ s (subst (λ v. Answers d c v s) (ap (forPurpose (placeless w)) (y .2)) (answers-placeless d c (forPurpose w q) s t)) in (
+      s,
+      λ room′ fits. ask-is doc _ A is-A c room′ s q′ (x .0) (y .1) (is-answered d c q′ s t′) fits,
+      record {
+        columns = map (columnNumber (columnsOf (d .policy) (q .table))) (sel .1);
+        rows = passedRows (matches (resolved (d .policy) q .condition)) (seenRows d (resolved (d .policy) q));
+        rows′ = passedRows (matches (resolved (d .policy) q .condition)) (seenRows d (resolved (d .policy) (forPurpose w q)));
+        prints = answer-prints d c q a (sel .1) (sel .2) (answered d c q a (x .3));
+        prints′ = answer-prints d c (forPurpose w q) s (sel .1) (sel .2) t;
+        inOrder = z .2;
+        fewer = z .3;
+      },
+    )

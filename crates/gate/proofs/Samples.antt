@@ -1,0 +1,146 @@
+-- The sample session of 01 and its cases marked *, as one theorem over a list of cases, by computation.
+use Prim.Native.Nat.{ℕ}
+use Prim.Native.String.{String}
+use mathlib.Core.Bool.{Bool, false, true}
+use mathlib.Core.List.{List, [], _++_, _∷_, map}
+use mathlib.Core.Path.{_≡_, refl}
+use Rattle.document.specs.Check.{Accepted, check}
+use Rattle.document.specs.Lookup.{labelOf, purposeOf}
+use Rattle.document.specs.Open.{labelOpen}
+use Rattle.gate.specs.Ask.{Outcome, ask}
+use Rattle.gate.specs.Computing.{computing}
+use Rattle.query.specs.Authority.{Clock}
+use Rattle.text.specs.Bytes.{ascii}
+use Rattle.lists.specs.Lists.{known}
+use Rattle.text.specs.Refusal.{Result, accepted, query, refused}
+use Rattle.text.specs.Words.{Word, plainWord}
+use Rattle.gate.specs.Session as Session
+
+-- the sample session's policy, up to its rows
+unfoldable pub policy : List ℕ
+policy =
+    ascii "(purpose all)\n"
+    ++ ascii "(purpose bill all)\n"
+    ++ ascii "(purpose ads all)\n"
+    ++ ascii "(purpose post ads)\n"
+    ++ ascii "(role desk)\n"
+    ++ ascii "(attr desk level num)\n"
+    ++ ascii "(user ana desk (level 5))\n"
+    ++ ascii "(cond-role senior desk (and (ge level 5) (lt hour 17)))\n"
+    ++ ascii "(grant ads senior)\n"
+    ++ ascii "(label free (allow all) (deny))\n"
+    ++ ascii "(label noads (allow all) (deny ads))\n"
+    ++ ascii "(table sub cell (who name) (due num))\n"
+
+-- the rows above and below Bo's
+unfoldable pub ida : List ℕ
+ida = ascii "(row sub (Ida free) (40 free))\n"
+
+unfoldable pub cy : List ℕ
+cy = ascii "(row sub (Cy free) (60 free))\n"
+
+-- the session as it stands
+unfoldable pub session : List ℕ
+session = policy ++ ida ++ ascii "(row sub (Bo free) (75 noads))\n" ++ cy
+
+-- the same with Bo's 75 made 10
+unfoldable pub session10 : List ℕ
+session10 = policy ++ ida ++ ascii "(row sub (Bo free) (10 noads))\n" ++ cy
+
+-- two labels more: with no purpose allowed, and with the root denied
+unfoldable pub labelled : List ℕ
+labelled = session ++ ascii "(label shut (allow) (deny))\n(label rootless (allow all) (deny all))\n"
+
+-- a clock
+unfoldable pub clockAt : ℕ → ℕ → ℕ → Clock
+clockAt y d h = record { year = y; day = d; hour = h }
+
+-- a question: a query under a clock, with a buffer of `room` bytes; or whether a label of the text opens a purpose
+pub data Question : Type 0 where
+  asking : (text : List ℕ) (clock : Clock) (q : String) (room : ℕ) → Question
+  opening : (text : List ℕ) (l p : String) → Question
+
+-- what a question finds
+pub data Found : Type 0 where
+  outcome : Outcome → Found
+  opened : Bool → Found
+  broken : Found
+
+-- whether the label opens the purpose, in a document that is accepted
+unfoldable pub openedIn : Result Accepted → Word → Word → Found
+openedIn (refused r) l p = broken
+openedIn (accepted a) l p = opened (labelOpen (a .doc .policy) (known (purposeOf (a .doc .policy) p)) (labelOf (a .doc .policy) l))
+
+-- what the definitions say
+unfoldable pub answerOf : Question → Found
+answerOf (asking text c q room) = outcome (ask text (ascii q) c room)
+answerOf (opening text l p) = openedIn (check text) (plainWord (ascii l)) (plainWord (ascii p))
+
+-- an answer of these lines and counts, authorised by grant 0
+unfoldable pub answered : String → ℕ → ℕ → ℕ → Found
+answered lines p w u = outcome (accepted (record { answer = record { bytes = ascii lines; passed = p; withheld = w; unmatched = u }; grant = 0 }))
+
+-- a refusal that hands back a part of the query
+unfoldable pub refusedAt : ℕ → ℕ → ℕ → Found
+refusedAt n start len = outcome (refused (record { number = n; source = query; start = start; len = len }))
+
+-- a question and what 01 expects
+pub record Case : Type 0 where
+  pub question : Question
+  pub expected : Found
+
+infix 80 _⇒_
+-- the question has this answer
+unfoldable pub _⇒_ : Question → Found → Case
+q ⇒ f = record { question = q; expected = f }
+
+-- the cases marked * in 01
+unfoldable pub cases : List Case
+cases =
+    -- the sample session
+    asking session (clockAt 2028 366 10) "(select ana desk post sub (who) (gt due 50))" 60021 ⇒ answered "(row Cy)\n(end 1 1 1)\n" 1 1 1
+    -- Bo's 75 made 10: the same
+    ∷ asking session10 (clockAt 2028 366 10) "(select ana desk post sub (who) (gt due 50))" 60021 ⇒ answered "(row Cy)\n(end 1 1 1)\n" 1 1 1
+    -- without the condition
+    ∷ asking session (clockAt 2028 366 10) "(select ana desk post sub (who))" 60021 ⇒ answered "(row Ida)\n(row Bo)\n(row Cy)\n(end 3 0 0)\n" 3 0 0
+    -- for `bill`
+    ∷ asking session (clockAt 2028 366 10) "(select ana desk bill sub (who) (gt due 50))" 60021 ⇒ refusedAt 14 17 4
+    -- hour 17, and hour 16
+    ∷ asking session (clockAt 2028 366 17) "(select ana desk post sub (who) (gt due 50))" 60021 ⇒ refusedAt 14 17 4
+    ∷ asking session (clockAt 2028 366 16) "(select ana desk post sub (who) (gt due 50))" 60021 ⇒ answered "(row Cy)\n(end 1 1 1)\n" 1 1 1
+    -- day 366 of a common year
+    ∷ asking session (clockAt 2027 366 10) "(select ana desk post sub (who) (gt due 50))" 60021 ⇒ refusedAt 10 0 0
+    -- `noads` under `bill` and under `all`
+    ∷ opening session "noads" "bill" ⇒ opened true
+    ∷ opening session "noads" "all" ⇒ opened false
+    -- an empty allowed set
+    ∷ opening labelled "shut" "all" ⇒ opened false
+    ∷ opening labelled "shut" "bill" ⇒ opened false
+    ∷ opening labelled "shut" "ads" ⇒ opened false
+    ∷ opening labelled "shut" "post" ⇒ opened false
+    -- a denied root
+    ∷ opening labelled "rootless" "all" ⇒ opened false
+    ∷ opening labelled "rootless" "bill" ⇒ opened false
+    ∷ opening labelled "rootless" "ads" ⇒ opened false
+    ∷ opening labelled "rootless" "post" ⇒ opened false
+    ∷ []
+
+-- in every case the definitions say what 01 expects
+pub samples : map (λ c. answerOf (c .question)) cases ≡ map (λ c. c .expected) cases
+unfolding computing policy ida cy session session10 labelled clockAt openedIn answerOf answered refusedAt _⇒_ cases
+samples = refl
+
+-- ---- the asking program
+
+-- the sample's input, with a second query that lacks its line feed
+unfoldable pub input : List ℕ
+input =
+    ascii "(clock 2028 366 10)\n"
+    ++ ascii "(select ana desk post sub (who) (gt due 50))\n"
+    ++ ascii "(count ana desk bill sub)"
+
+-- what the program prints for it; a clock line of another form gives every query 10, and a refused policy one line
+pub sample-session : Session.session session input ∷ Session.session session (ascii "clock\n(count ana desk post sub)\n") ∷ Session.session (ascii "(purpose all)\n(purpose all all)\n") input ∷ []
+    ≡ ascii "(row Cy)\n(end 1 1 1)\n(refused 14 query 16 4)\n" ∷ ascii "(refused 10 query 0 0)\n" ∷ ascii "(refused 4 document 23 3)\n" ∷ []
+unfolding computing policy ida cy session input
+sample-session = refl

@@ -1,0 +1,92 @@
+-- When two documents are alike for a query (01, "The no-difference claim"). Which cells may differ is said by the policy
+-- and the labels of the rows, which alike documents share.
+use Prim.Native.Nat.{suc, ℕ}
+use lib.Dec.{eqb}
+use lib.ListN.{length}
+use mathlib.Core.Bool.{Bool, _||_, not, true}
+use mathlib.Core.List.{List, [], _∷_, map}
+use mathlib.Core.Option.{Option, none, some}
+use mathlib.Core.Path.{_≡_}
+use Rattle.document.specs.Check.{Accepted, check}
+use Rattle.document.specs.Lookup.{columnOf, columnsOf, labelOf, purposeOf, schemeAt, schemeOf, tableOf}
+use Rattle.document.specs.Open.{cellOpen, labelOpen, rowWithheld}
+use Rattle.document.specs.Policy.{Policy, Row}
+use Rattle.form.specs.Form.{table}
+use Rattle.form.specs.RowText.{labelCount, rowText}
+use Rattle.query.specs.QueryForm.{QueryForm, namedWords, queryOf}
+use Rattle.text.specs.Lines.{cut}
+use Rattle.lists.specs.Lists.{allOf, found, holdsOf, known, member}
+use Rattle.text.specs.Names.{Name, isName}
+use Rattle.text.specs.Numbers.{Value, isValue}
+use Rattle.text.specs.Refusal.{accepted}
+use Rattle.text.specs.Words.{plainWord}
+
+-- the columns of the queried table that the query names, by number
+unfoldable pub namedColumns : Policy → QueryForm → List ℕ
+namedColumns d q = found (map (columnOf (columnsOf d (q .table))) (namedWords q))
+
+-- the row lies in the table that the query names
+unfoldable pub inTable : Policy → QueryForm → Row → Bool
+inTable d q r = holdsOf (eqb (r .table)) (tableOf d (q .table))
+
+-- the row is withheld from the query, be that answered or refused
+unfoldable pub withheldFrom : Policy → QueryForm → Row → Bool
+withheldFrom d q r =
+    holdsOf (λ p. rowWithheld (labelOpen d p) (schemeAt d (r .table)) (namedColumns d q) (r .labels)) (purposeOf d (q .purpose))
+
+-- cell c of the row is open to the query's purpose; none is, to a purpose that the document does not know
+unfoldable pub openTo : Policy → QueryForm → Row → ℕ → Bool
+openTo d q r c = holdsOf (λ p. cellOpen (labelOpen d p) (schemeAt d (r .table)) (r .labels) c) (purposeOf d (q .purpose))
+
+-- the value of cell c of the row may differ: the cell is closed to the purpose, stands in a table or column that the query
+-- does not name, or lies in a row withheld from it; a text that is no query names nothing
+unfoldable pub free : Policy → Option QueryForm → Row → ℕ → Bool
+free d none r c = true
+free d (some q) r c = not (openTo d q r c) || not (inTable d q r) || not (member c (namedColumns d q)) || withheldFrom d q r
+
+-- two lists of values, the first for column c: each value is the same or free to differ
+pub data SameOrFree (f : ℕ → Bool) : ℕ → List Value → List Value → Type 0 where
+  done : {c : ℕ} → SameOrFree f c [] []
+  same : {c : ℕ} (v : Value) {vs ws : List Value} → SameOrFree f (suc c) vs ws → SameOrFree f c (v ∷ vs) (v ∷ ws)
+  differs : {c : ℕ} (v w : Value) {vs ws : List Value} → f c ≡ true → SameOrFree f (suc c) vs ws → SameOrFree f c (v ∷ vs) (w ∷ ws)
+
+-- the row that a row line of these parts means
+unfoldable pub rowOf : Policy → Name → List Name → List Value → Row
+rowOf d t ls vs = record {
+  table = known (tableOf d (plainWord t));
+  values = vs;
+  labels = map (λ l. known (labelOf d (plainWord l))) ls;
+}
+
+-- two row lines of one table with the same labels, whose values are the same or free to differ
+pub record AlikeRows (d : Policy) (q : Option QueryForm) (line line′ : List ℕ) : Type 0 where
+  pub table : Name
+  pub labels : List Name
+  pub values : List Value
+  pub values′ : List Value
+  pub isTable : isName table ≡ true
+  pub areLabels : allOf isName labels ≡ true
+  pub areValues : allOf isValue values ≡ true
+  pub areValues′ : allOf isValue values′ ≡ true
+  pub enoughLabels : length labels ≡ labelCount (schemeOf d (plainWord table)) (length values)
+  pub written : line ≡ rowText (schemeOf d (plainWord table)) table labels values
+  pub written′ : line′ ≡ rowText (schemeOf d (plainWord table)) table labels values′
+  pub alike : SameOrFree (free d q (rowOf d table labels values)) 0 values values′
+
+-- two lists of lines: equally many, and each line the same, or both row lines that are alike
+pub data AlikeLines (d : Policy) (q : Option QueryForm) : List (List ℕ) → List (List ℕ) → Type 0 where
+  noMore : AlikeLines d q [] []
+  sameLine : (l : List ℕ) {ls ms : List (List ℕ)} → AlikeLines d q ls ms → AlikeLines d q (l ∷ ls) (l ∷ ms)
+  alikeRows : {l m : List ℕ} {ls ms : List (List ℕ)} → AlikeRows d q l m → AlikeLines d q ls ms → AlikeLines d q (l ∷ ls) (m ∷ ms)
+
+-- a text's lines, and at the end what stands behind its last line feed: nothing, in an accepted document
+unfoldable pub linesOf : List ℕ → List (List ℕ)
+linesOf text = cut text .head ∷ cut text .others
+
+-- two documents, neither refused in checking, are alike for the query text
+pub record Alike (text a b : List ℕ) : Type 0 where
+  pub first : Accepted
+  pub second : Accepted
+  pub accepts : check a ≡ accepted first
+  pub accepts′ : check b ≡ accepted second
+  pub lines : AlikeLines (first .doc .policy) (queryOf text) (linesOf a) (linesOf b)

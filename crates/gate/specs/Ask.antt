@@ -1,0 +1,61 @@
+-- Asking (01, "Asking"): the outcome of a query over a document, and the lent buffer afterwards.
+use Prim.Native.Nat.{ℕ}
+use lib.Dec.{ltb}
+use lib.ListN.{drop, length, take}
+use mathlib.Core.Bool.{not}
+use mathlib.Core.List.{List, _++_}
+use Rattle.document.specs.Check.{check}
+use Rattle.document.specs.Lookup.{purposeOf, userOf}
+use Rattle.document.specs.Policy.{Doc}
+use Rattle.gate.specs.Answer.{Answer, answerTo}
+use Rattle.gate.specs.Seen.{seenRows}
+use Rattle.query.specs.Authority.{Clock, firstGrant, inRange}
+use Rattle.query.specs.Query.{closedPart, mistypedQuery, resolved, unknownColumn, unknownParty}
+use Rattle.query.specs.QueryForm.{QueryForm, queryOf}
+use Rattle.lists.specs.Lists.{known}
+use Rattle.text.specs.Refusal.{Refusal, Result, Source, _>>=_, _>>_, accepted, document, need, pointing, pointingAll, pointingNowhere, query, refuseAt, refuseIf, refused}
+
+-- an accepted answer, and the position of the grant that authorised it
+pub record Answered : Type 0 where
+  pub answer : Answer
+  pub grant : ℕ
+
+-- what asking gives: a refusal, or an accepted answer
+abbrev pub Outcome : Type 0
+Outcome = Result Answered
+
+-- 12 to 17 in order, and then the answer
+unfoldable pub answerForm : Doc → Clock → QueryForm → Outcome
+answerForm d c q = do
+  refuseAt 12 query (unknownParty (d .policy) q)
+  u ← need (userOf (d .policy) (q .user) (q .role)) (pointing 13 query (q .role))
+  g ← need (firstGrant (d .policy) c u (known (purposeOf (d .policy) (q .purpose)))) (pointing 14 query (q .purpose))
+  refuseAt 15 query (unknownColumn (d .policy) q)
+  refuseAt 16 query (mistypedQuery (d .policy) q)
+  refuseAt 17 query (closedPart (d .policy) q)
+  accepted (record { answer = answerTo (resolved (d .policy) q) (seenRows d (resolved (d .policy) q)); grant = g })
+
+-- what asking gives: the document's refusal, or the query's of the lowest number, or the answer; `room` is the lent
+-- buffer's length
+unfoldable pub ask : (doc text : List ℕ) (clock : Clock) (room : ℕ) → Outcome
+ask doc text c room = do
+  a ← check doc
+  refuseIf (not (inRange c)) (pointingNowhere 10 query)
+  q ← need (queryOf text) (pointingAll 11 query text)
+  r ← answerForm (a .doc) c q
+  refuseIf (ltb room (length (r .answer .bytes))) (pointingNowhere 18 query)
+  accepted r
+
+-- the lent buffer afterwards: an answer fills its first bytes, a refusal leaves it as it was
+unfoldable pub after : Outcome → List ℕ → List ℕ
+after (refused r) buffer = buffer
+after (accepted a) buffer = a .answer .bytes ++ drop (length (a .answer .bytes)) buffer
+
+-- the text that a refusal points into
+unfoldable pub pointedText : (doc text : List ℕ) → Source → List ℕ
+pointedText doc text document = doc
+pointedText doc text query = text
+
+-- the part that a refusal hands back
+unfoldable pub partOf : (doc text : List ℕ) → Refusal → List ℕ
+partOf doc text r = take (r .len) (drop (r .start) (pointedText doc text (r .source)))

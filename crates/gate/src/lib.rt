@@ -1,0 +1,1 @@
+// The gate: asking, and what is claimed of it.

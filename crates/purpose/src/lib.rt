@@ -1,0 +1,235 @@
+// Purpose trees, labels and compliance: a library that knows no texts and no tables.
+ghost use mathlib.Core.Path.{_≡_};
+ghost use mathlib.Core.Bool.{_&&_, _||_};
+ghost use mathlib.Core.List.{List, []};
+ghost use Prim.Native.Nat.{ℕ, _≤_, _<_};
+ghost use lib.ListN.{length, getD};
+ghost use lib.Dec.{eqb, ltb};
+ghost use Rattle.lists.specs.Lists.{member};
+ghost use Rattle.purpose.specs.Compliance.{meet, Same, descends, related, inTree, opens};
+ghost use Rattle.purpose.specs.Members.{limit, members, including};
+ghost use Rattle.purpose.specs.Meaning.{treeOf, marksOf, Grows, ClosureOf};
+
+// How many words of 64 bits hold a set of purposes, and the most purposes that a tree has.
+pub const WORDS: usize = 1;
+
+pub const LIMIT: usize = WORDS * 64;
+
+// A tree of purposes: the parent of each of the first `count`, in order of definition. The first has none.
+pub struct Tree {
+    pub parents: [u8; LIMIT],
+    pub count: usize,
+}
+
+// What growing a tree gives: whether it grew, and the tree.
+pub struct Growth {
+    pub ok: bool,
+    pub tree: Tree,
+}
+
+// The purposes that a label allows and denies, as bits.
+pub struct Label {
+    pub allowed: [u64; WORDS],
+    pub denied: [u64; WORDS],
+}
+
+// The ancestors of a purpose, and its ancestors with its descendants, as bits.
+pub struct Closure {
+    pub ancestors: [u64; WORDS],
+    pub relatives: [u64; WORDS],
+}
+
+fn wide(x: u8) -> usize
+    ensures { λ r. ⌜ r ≡ x ⌝ }
+{
+    x as usize
+}
+
+// A tree with no purpose.
+pub fn no_purposes() -> Tree
+    ensures { λ r. ⌜ treeOf r ≡ [] ⌝ }
+{
+    Tree {
+        parents: [0u8; LIMIT],
+        count: 0,
+    }
+}
+
+// How many purposes the tree has: never more than the limit, whatever `count` says.
+pub fn size(t: Tree) -> usize
+    ensures { λ r. ⌜ (r ≡ length (treeOf t)) × (r ≤ limit) ⌝ }
+{
+    let n = t.count;
+    if n < LIMIT { n } else { LIMIT }
+}
+
+// The tree with its first purpose; refused if it has one already.
+pub fn add_root(t: Tree) -> Growth
+    ensures { λ r. ⌜ Grows (eqb (length (treeOf t)) 0) 0 t r ⌝ }
+{
+    let n = t.count;
+    if n == 0 {
+        let mut g = t;
+        g.parents[0] = 0;
+        g.count = 1;
+        return Growth { ok: true, tree: g };
+    }
+    Growth { ok: false, tree: t }
+}
+
+// The tree with one purpose more below `parent`; refused if the tree is full or has no such purpose.
+pub fn add_child(t: Tree, parent: usize) -> Growth
+    ensures { λ r. ⌜ Grows (ltb (length (treeOf t)) limit && inTree (treeOf t) parent) parent t r ⌝ }
+{
+    let n = t.count;
+    if n < LIMIT {
+        if parent < n {
+            let mut g = t;
+            g.parents[n] = parent as u8;
+            g.count = n + 1;
+            return Growth { ok: true, tree: g };
+        }
+    }
+    Growth { ok: false, tree: t }
+}
+
+// The empty set.
+pub fn no_members() -> [u64; WORDS]
+    ensures { λ r. ⌜ Same (members r) [] ⌝ }
+{
+    [0u64; WORDS]
+}
+
+// Whether p is in the set.
+pub fn contains(s: [u64; WORDS], p: usize) -> bool
+    ensures { λ r. ⌜ r ≡ member p (members s) ⌝ }
+{
+    if p < LIMIT {
+        let k = p / 64;
+        let b = p % 64;
+        (s[k] >> b) % 2 == 1
+    } else {
+        false
+    }
+}
+
+// The set with p, which is left out if no tree has it.
+pub fn insert(s: [u64; WORDS], p: usize) -> [u64; WORDS]
+    ensures { λ r. ⌜ Same (members r) (including p (members s)) ⌝ }
+{
+    let mut r = s;
+    if p < LIMIT {
+        let k = p / 64;
+        let b = p % 64;
+        r[k] = r[k] | (1u64 << b);
+    }
+    r
+}
+
+// Whether the sets have a member in common: one AND for each word.
+pub fn meets(a: [u64; WORDS], b: [u64; WORDS]) -> bool
+    ensures { λ r. ⌜ r ≡ meet (members a) (members b) ⌝ }
+{
+    let mut k: usize = 0;
+    while k < WORDS {
+        if a[k] & b[k] != 0 {
+            return true;
+        }
+        k += 1;
+    }
+    false
+}
+
+// The members of either set: one OR for each word.
+pub fn unite(a: [u64; WORDS], b: [u64; WORDS]) -> [u64; WORDS]
+    ensures { λ r. ⌜ ((i : ℕ) → member i (members r) ≡ (member i (members a) || member i (members b))) ⌝ }
+{
+    let mut r = a;
+    let mut k: usize = 0;
+    while k < WORDS {
+        r[k] = r[k] | b[k];
+        k += 1;
+    }
+    r
+}
+
+// The ancestors of each purpose of the tree.
+fn upward(t: Tree) -> [[u64; WORDS]; LIMIT]
+    ensures { λ r. ⌜ ((i : ℕ) → i < length (treeOf t) → (a : ℕ) → member a (members (getD r i [])) ≡ descends (treeOf t) i a) ⌝ }
+{
+    let n = size(t);
+    let mut up = [[0u64; WORDS]; LIMIT];
+    let mut i: usize = 0;
+    while i < n {
+        let q = wide(t.parents[i]);
+        if q < i {
+            let above = up[q];
+            up[i] = insert(above, i);
+        } else {
+            up[i] = insert(no_members(), i);
+        }
+        i += 1;
+    }
+    up
+}
+
+// The ancestors of p with those of the first n purposes that have p among their ancestors.
+fn relatives(up: [[u64; WORDS]; LIMIT], n: usize, p: usize) -> [u64; WORDS]
+    requires { ⌜ (n ≤ limit) × (p < n) ⌝ }
+    ensures { λ r. ⌜ ((d : ℕ) → member d (members r) ≡ (member d (members (getD up p [])) || (ltb d n && member p (members (getD up d []))))) ⌝ }
+{
+    let mut r = up[p];
+    let mut i: usize = 0;
+    while i < n {
+        let s = up[i];
+        if contains(s, p) {
+            let more = insert(r, i);
+            r = more;
+        }
+        i += 1;
+    }
+    r
+}
+
+// The closure of p: both sets are empty if the tree has no p.
+pub fn closure_of(t: Tree, p: usize) -> Closure
+    ensures { λ r. ⌜ ClosureOf (treeOf t) p r ⌝ }
+{
+    let n = size(t);
+    if p < n {
+        let up = upward(t);
+        let a = up[p];
+        let r = relatives(up, n, p);
+        return Closure {
+            ancestors: a,
+            relatives: r,
+        };
+    }
+    let none = no_members();
+    Closure {
+        ancestors: none,
+        relatives: none,
+    }
+}
+
+// Whether the purpose whose closure is given is open under the label: two ANDs for each word.
+pub fn admits(c: Closure, l: Label) -> bool
+    ensures { λ r. ⌜ ((tree : List ℕ) (p : ℕ) → ClosureOf tree p c → r ≡ opens tree (marksOf l) p) ⌝ }
+{
+    let ancestors = c.ancestors;
+    let allowed = l.allowed;
+    if meets(ancestors, allowed) {
+        let relatives = c.relatives;
+        let denied = l.denied;
+        !meets(relatives, denied)
+    } else {
+        false
+    }
+}
+
+// Whether p is open under the label.
+pub fn open(t: Tree, l: Label, p: usize) -> bool
+    ensures { λ r. ⌜ r ≡ opens (treeOf t) (marksOf l) p ⌝ }
+{
+    admits(closure_of(t, p), l)
+}

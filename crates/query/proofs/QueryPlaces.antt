@@ -1,0 +1,120 @@
+-- Where the words of a query stand does not matter to what it names and what is wrong with it. Assumes nothing.
+use lib.ListN.{length-map}
+use mathlib.Core.Bool.{Bool}
+use mathlib.Core.List.{List, [], _++_, _∷_, map}
+use mathlib.Core.Option.{Option, Option·getD, Option·map, none, some}
+use mathlib.Core.Path.{_∙_, _≡_, ap, refl, sym}
+use Rattle.condition.proofs.CondLaws.{comparisonsIn-map, mapCond-map}
+use Rattle.condition.proofs.CondPlaces.{mistyped-placeless, placelessCompared}
+use Rattle.condition.specs.Comparison.{Comparison}
+use Rattle.condition.specs.Cond.{Cond, comparisonsIn, mapCond}
+use Rattle.condition.specs.CondForm.{Compared, mistyped}
+use Rattle.condition.specs.Kinds.{Kind}
+use Rattle.document.specs.Lookup.{columnKind, columnOf, columnsOf, purposeOf, roleOf, schemeOf, tableOf}
+use Rattle.document.specs.Open.{columnOpen, tableOpen}
+use Rattle.document.specs.Policy.{Column, Policy}
+use Rattle.query.specs.Query.{closedPart, columnComparison, mistypedQuery, openFor, resolved, select, unknownColumn, unknownParty, wantedOf}
+use Rattle.query.specs.QueryForm.{QueryForm, namedWords, selectedWords, withinBounds}
+use Rattle.lists.proofs.ListLaws.{map-append, map-map}
+use Rattle.text.proofs.Places.{leftmost-placeless, unless-placeless}
+use Rattle.text.proofs.ReadBack.{placeless}
+use Rattle.lists.specs.Lists.{anyOf, known, there}
+use Rattle.text.specs.Offending.{leftmost, missing, unless}
+use Rattle.text.specs.Words.{Word, isCalled, plainWord}
+
+-- a query without places
+unfoldable pub placelessQuery : QueryForm → QueryForm
+placelessQuery q = record {
+  user = placeless (q .user);
+  role = placeless (q .role);
+  purpose = placeless (q .purpose);
+  table = placeless (q .table);
+  columns = Option·map (map placeless) (q .columns);
+  condition = Option·map (mapCond placelessCompared) (q .condition);
+}
+
+-- ---- the words
+
+selected-placeless : (q : QueryForm) → selectedWords (placelessQuery q) ≡ map placeless (selectedWords q)
+unfolding selectedWords placelessQuery
+selected-placeless q = go (q .columns)
+  where
+    go : (o : Option (List Word)) → Option·getD (Option·map (map placeless) o) [] ≡ map placeless (Option·getD o [])
+    go none = refl
+    go (some ws) = refl
+
+comparisons-placeless : (q : QueryForm) → comparisonsIn (placelessQuery q .condition) ≡ map placelessCompared (comparisonsIn (q .condition))
+unfolding placelessQuery
+comparisons-placeless q = comparisonsIn-map placelessCompared (q .condition)
+
+named-placeless : (q : QueryForm) → namedWords (placelessQuery q) ≡ map placeless (namedWords q)
+unfolding namedWords placelessCompared
+named-placeless q =
+    rw (selected-placeless q, comparisons-placeless q, map-map (λ (x : Compared). x .of) placelessCompared (comparisonsIn (q .condition)))
+    (sym (map-append placeless (selectedWords q) (map (λ x. x .of) (comparisonsIn (q .condition))) ∙ ap (λ l. map placeless (selectedWords q) ++ l) (map-map placeless (λ (x : Compared). x .of) (comparisonsIn (q .condition)))))
+
+pub bounds-placeless : (q : QueryForm) → withinBounds (placelessQuery q) ≡ withinBounds q
+unfolding withinBounds
+bounds-placeless q = rw (selected-placeless q, comparisons-placeless q, length-map (selectedWords q), length-map (comparisonsIn (q .condition)))
+
+-- ---- the tests: each offending word is the same up to its place
+
+-- tests of things that have places
+tests-placeless : {A : Type 0} (e : A → A) (g : A → Option Word) → ((x : A) → g (e x) ≡ Option·map placeless (g x)) → (xs : List A) → leftmost (map g (map e xs)) ≡ Option·map placeless (leftmost (map g xs))
+tests-placeless {A} e g h xs = ap leftmost (go xs) ∙ leftmost-placeless (map g xs)
+  where
+    go : (xs : List A) → map g (map e xs) ≡ map (Option·map placeless) (map g xs)
+    go [] = refl
+    go (x ∷ xs) = λ i. h x i ∷ go xs i
+
+missing-placeless : (f : Word → Bool) → ((w : Word) → f (placeless w) ≡ f w) → (ws : List Word) → missing f (map placeless ws) ≡ Option·map placeless (missing f ws)
+unfolding missing
+missing-placeless f h ws = tests-placeless placeless (λ w. unless (f w) w) (λ w. ap (λ b. unless b (placeless w)) (h w) ∙ unless-placeless (f w) w) ws
+
+module _ (d : Policy) (q : QueryForm) where
+  pub party-placeless : unknownParty d (placelessQuery q) ≡ Option·map placeless (unknownParty d q)
+  unfolding unknownParty placelessQuery roleOf purposeOf isCalled placeless plainWord
+  party-placeless = (λ i. leftmost (unless-placeless (anyOf (λ x. isCalled (q .user) (x .name)) (d .users)) (q .user) i ∷ unless-placeless (there (roleOf d (q .role))) (q .role) i
+      ∷ unless-placeless (there (purposeOf d (q .purpose))) (q .purpose) i ∷ [])) ∙ leftmost-placeless (_ ∷ _ ∷ _ ∷ [])
+
+  pub column-placeless : unknownColumn d (placelessQuery q) ≡ Option·map placeless (unknownColumn d q)
+  unfolding unknownColumn columnsOf tableOf isCalled placeless plainWord columnOf placelessQuery
+  column-placeless =
+      (λ i. leftmost (unless-placeless (there (tableOf d (q .table))) (q .table) i
+      ∷ (ap (missing (λ w. there (columnOf (columnsOf d (q .table)) w))) (named-placeless q) ∙ missing-placeless (λ w. there (columnOf (columnsOf d (q .table)) w)) (λ w. refl) (namedWords q)) i ∷ []))
+      ∙ leftmost-placeless (_ ∷ _ ∷ [])
+
+  pub closed-placeless : closedPart d (placelessQuery q) ≡ Option·map placeless (closedPart d q)
+  unfolding closedPart openFor columnsOf schemeOf tableOf purposeOf isCalled placeless plainWord columnOf placelessQuery
+  closed-placeless =
+      let f : Word → Bool = λ w. columnOpen (openFor d q) (schemeOf d (q .table)) (known (columnOf (columnsOf d (q .table)) w)) in
+      (λ i. leftmost (unless-placeless (tableOpen (openFor d q) (schemeOf d (q .table))) (q .table) i ∷ (ap (missing f) (named-placeless q) ∙ missing-placeless f (λ w. refl) (namedWords q)) i ∷ []))
+      ∙ leftmost-placeless (_ ∷ _ ∷ [])
+
+  pub types-placeless : mistypedQuery d (placelessQuery q) ≡ Option·map placeless (mistypedQuery d q)
+  unfolding mistypedQuery columnKind columnsOf tableOf isCalled placeless plainWord columnOf placelessQuery placelessCompared
+  types-placeless =
+      let f : Word → Kind = columnKind (columnsOf d (q .table)) in
+      ap (λ l. leftmost (map (λ (x : Compared). mistyped (f (x .of)) x) l)) (comparisons-placeless q)
+      ∙ tests-placeless placelessCompared (λ x. mistyped (f (x .of)) x) (λ x. mistyped-placeless f (λ w. refl) x) (comparisonsIn (q .condition))
+
+wanted-placeless : (cs : List Column) (o : Option (List Word)) → wantedOf cs (Option·map (map placeless) o) ≡ wantedOf cs o
+unfolding wantedOf columnOf isCalled placeless plainWord
+wanted-placeless cs none = refl
+wanted-placeless cs (some ws) = ap select (map-map (λ w. known (columnOf cs w)) placeless ws)
+
+condition-placeless : (cs : List Column) (o : Option (Cond Compared)) → Option·map (mapCond (columnComparison cs)) (Option·map (mapCond placelessCompared) o) ≡ Option·map (mapCond (columnComparison cs)) o
+unfolding columnComparison columnKind columnOf isCalled placeless plainWord placelessCompared
+condition-placeless cs none = refl
+condition-placeless cs (some c) = ap {B = Option (Cond Comparison)} some (mapCond-map (columnComparison cs) placelessCompared c)
+
+pub resolved-placeless : (d : Policy) (q : QueryForm) → resolved d (placelessQuery q) ≡ resolved d q
+unfolding resolved placelessQuery purposeOf tableOf columnsOf isCalled placeless plainWord
+resolved-placeless d q =
+    let cs : List Column = columnsOf d (q .table) in
+    λ i. record {
+      purpose = known (purposeOf d (q .purpose));
+      table = known (tableOf d (q .table));
+      wanted = wanted-placeless cs (q .columns) i;
+      condition = condition-placeless cs (q .condition) i;
+    }

@@ -1,0 +1,86 @@
+-- Queries resolved against a policy, and the faults 12 and 15 to 17 (01, "Queries" and "Asking").
+use Prim.Native.Nat.{ℕ}
+use mathlib.Core.Bool.{Bool}
+use mathlib.Core.List.{List, [], _++_, _∷_, map}
+use mathlib.Core.Option.{Option, Option·map, none, some}
+use Rattle.condition.specs.Comparison.{Comparison}
+use Rattle.condition.specs.Cond.{Cond, comparisonsIn, mapCond}
+use Rattle.condition.specs.CondForm.{Compared, mistyped}
+use Rattle.document.specs.Lookup.{columnKind, columnOf, columnsOf, purposeOf, roleOf, schemeOf, tableOf}
+use Rattle.document.specs.Open.{columnOpen, labelOpen, tableOpen}
+use Rattle.document.specs.Policy.{Column, Policy}
+use Rattle.query.specs.QueryForm.{QueryForm, namedWords}
+use Rattle.lists.specs.Lists.{anyOf, known, there}
+use Rattle.text.specs.Offending.{leftmost, missing, unless}
+use Rattle.text.specs.Words.{Word, isCalled}
+
+-- what is asked for: the values of some columns of each passed row, or only the counts
+pub data Wanted : Type 0 where
+  select : List ℕ → Wanted
+  countsOnly : Wanted
+
+-- a resolved query: the purpose and the table, by number; what is wanted, columns by number; and the condition
+pub record Query : Type 0 where
+  pub purpose : ℕ
+  pub table : ℕ
+  pub wanted : Wanted
+  pub condition : Option (Cond Comparison)
+
+-- the selected columns
+unfoldable pub selected : Wanted → List ℕ
+selected (select cs) = cs
+selected countsOnly = []
+
+-- the named columns: those selected and every one in the condition, evaluated or not
+unfoldable pub named : Query → List ℕ
+named q = selected (q .wanted) ++ map (λ t. t .of) (comparisonsIn (q .condition))
+
+-- 12: user, role or purpose unknown
+unfoldable pub unknownParty : Policy → QueryForm → Option Word
+unknownParty d q = leftmost (
+    unless (anyOf (λ x. isCalled (q .user) (x .name)) (d .users)) (q .user)
+    ∷ unless (there (roleOf d (q .role))) (q .role)
+    ∷ unless (there (purposeOf d (q .purpose))) (q .purpose)
+    ∷ [])
+
+-- 15: table or named column unknown
+unfoldable pub unknownColumn : Policy → QueryForm → Option Word
+unknownColumn d q = leftmost (
+    unless (there (tableOf d (q .table))) (q .table)
+    ∷ missing (λ w. there (columnOf (columnsOf d (q .table)) w)) (namedWords q)
+    ∷ [])
+
+-- 16: wrong type in the condition
+unfoldable pub mistypedQuery : Policy → QueryForm → Option Word
+mistypedQuery d q =
+    leftmost (map (λ x. mistyped (columnKind (columnsOf d (q .table)) (x .of)) x) (comparisonsIn (q .condition)))
+
+-- the test of labels for the query's purpose, which is known
+unfoldable pub openFor : Policy → QueryForm → Option ℕ → Bool
+openFor d q = labelOpen d (known (purposeOf d (q .purpose)))
+
+-- 17: table or named column closed to the purpose
+unfoldable pub closedPart : Policy → QueryForm → Option Word
+closedPart d q = leftmost (
+    unless (tableOpen (openFor d q) (schemeOf d (q .table))) (q .table)
+    ∷ missing (λ w. columnOpen (openFor d q) (schemeOf d (q .table)) (known (columnOf (columnsOf d (q .table)) w))) (namedWords q)
+    ∷ [])
+
+-- a comparison of a column
+unfoldable pub columnComparison : List Column → Compared → Comparison
+columnComparison cs x =
+    record { of = known (columnOf cs (x .of)); kind = columnKind cs (x .of); op = x .op; value = x .value .bytes }
+
+-- what is asked for, columns by number
+unfoldable pub wantedOf : List Column → Option (List Word) → Wanted
+wantedOf cs none = countsOnly
+wantedOf cs (some ws) = select (map (λ w. known (columnOf cs w)) ws)
+
+-- the query with its names resolved; all of them are known
+unfoldable pub resolved : Policy → QueryForm → Query
+resolved d q = record {
+  purpose = known (purposeOf d (q .purpose));
+  table = known (tableOf d (q .table));
+  wanted = wantedOf (columnsOf d (q .table)) (q .columns);
+  condition = Option·map (mapCond (columnComparison (columnsOf d (q .table)))) (q .condition);
+}

@@ -1,0 +1,1 @@
+// Queries: their form, who may ask them, and what they name.

@@ -1,0 +1,1 @@
+// Bracket texts: bytes, names, numbers, words, readers and refusals.
