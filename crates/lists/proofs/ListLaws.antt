@@ -170,3 +170,10 @@ any-agree f xs ys s =
     both (anyOf f xs) (anyOf f ys)
     (λ h. let w = any-find f xs h in any-here f ys (w .0) (sym (s (w .0) (w .2)) ∙ w .1) (w .2))
     (λ h. let w = any-find f ys h in any-here f xs (w .0) (s (w .0) (w .2) ∙ w .1) (w .2))
+
+-- tests that agree on the members
+pub any-agrees : (f g : ℕ → Bool) (xs : List ℕ) → ((i : ℕ) → member i xs ≡ true → f i ≡ g i) → anyOf f xs ≡ anyOf g xs
+any-agrees f g xs e =
+    both (anyOf f xs) (anyOf g xs)
+    (λ h. let w = any-find f xs h in any-here g xs (w .0) (w .1) (sym (e (w .0) (w .1)) ∙ w .2))
+    (λ h. let w = any-find g xs h in any-here f xs (w .0) (w .1) (e (w .0) (w .1) ∙ w .2))

@@ -34,7 +34,7 @@ spread true x y = refl
 spread false x y = refl
 
 -- COMPLIANCE: a label is open for p exactly when its allowed set meets the ancestors of p and its denied set does not meet
--- the relatives of p. The four sets are lists of members, so this holds for anyOf count of words.
+-- the relatives of p. The four sets are lists of members, so this holds for any count of words.
 pub compliance : (tree : List ℕ) (p : ℕ) (l : Marks) (ancestors relatives : List ℕ)
     → ((a : ℕ) → member a ancestors ≡ (inTree tree p && descends tree p a))
     → ((d : ℕ) → member d relatives ≡ (inTree tree p && related tree p d))
@@ -46,7 +46,7 @@ compliance tree p l ancestors relatives up near =
     (meet-closure (inTree tree p) (related tree p) relatives (l .denied) near)
     ∙ spread (inTree tree p) _ _
 
--- the same on the words, for anyOf count of them: two ANDs for each word
+-- the same on the words, for any count of them: two ANDs for each word
 pub compliance-words : (tree : List ℕ) (p : ℕ) (allowed denied : List ℕ) (c : Closure) → ClosureOf tree p c
     → Words (c .ancestors) → Words (c .relatives)
     → (overlap (c .ancestors) allowed && not (overlap (c .relatives) denied)) ≡ opens tree (record { allowed = members allowed; denied = members denied }) p

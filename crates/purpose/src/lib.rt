@@ -178,8 +178,8 @@ fn relatives(up: [[u64; WORDS]; LIMIT], n: usize, p: usize) -> [u64; WORDS]
     requires { ⌜ (n ≤ limit) × (p < n) ⌝ }
     ensures { λ r. ⌜ ((d : ℕ) → member d (members r) ≡ (member d (members (getD up p [])) || (ltb d n && member p (members (getD up d []))))) ⌝ }
 {
-    let mut r = up[p];
     let mut i: usize = 0;
+    let mut r = up[p];
     while i < n {
         let s = up[i];
         if contains(s, p) {
