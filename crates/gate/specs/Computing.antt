@@ -1,7 +1,6 @@
 -- One name that unfolds every definition here and in the crates below: `unfolding computing` lets a closed example compute.
 use Rattle.lists.specs.Computing as lists
-use Rattle.purpose.specs.Compliance as purpose-Compliance
-use Rattle.purpose.specs.Members as purpose-Members
+use Rattle.purpose.specs.Computing as purpose
 use Rattle.text.specs.Computing as text
 use Rattle.condition.specs.Computing as condition
 use Rattle.form.specs.Computing as form
@@ -16,5 +15,5 @@ use Rattle.gate.specs.Further as Further
 use Rattle.gate.specs.Session as Session
 
 unfoldable pub computing : Unit {0}
-unfolding mathlib.Core.Option.bind mathlib.Core.List.flatten lists.computing purpose-Compliance.meet purpose-Compliance.climbs purpose-Compliance.descends purpose-Compliance.opens purpose-Members.has purpose-Members.passing purpose-Members.members text.computing condition.computing form.computing document.computing query.computing Seen.onlyNamed Seen.seenRow Seen.rowsIn Seen.seenRows Answer.matches Answer.rowLine Answer.endLine Answer.isWithheld Answer.isPassed Answer.isUnmatched Answer.lineOf Answer.rowLines Answer.counted Answer.answerTo Ask.answerForm Ask.ask Ask.after Ask.pointedText Ask.partOf Reserve.SelectsOnce Reserve.IsReserve Alike.namedColumns Alike.inTable Alike.withheldFrom Alike.openTo Alike.free Alike.rowOf Alike.linesOf Further.selectText Further.Prints Session.sourceName Session.refusalLine Session.printed Session.natural Session.clockNumbers Session.clockOf Session.linesIn Session.programRoom Session.answers Session.writes Session.session
+unfolding mathlib.Core.Option.bind mathlib.Core.List.flatten lists.computing purpose.computing text.computing condition.computing form.computing document.computing query.computing Seen.onlyNamed Seen.seenRow Seen.rowsIn Seen.seenRows Answer.matches Answer.rowLine Answer.endLine Answer.isWithheld Answer.isPassed Answer.isUnmatched Answer.lineOf Answer.rowLines Answer.counted Answer.answerTo Ask.answerForm Ask.ask Ask.after Ask.pointedText Ask.partOf Reserve.SelectsOnce Reserve.IsReserve Alike.namedColumns Alike.inTable Alike.withheldFrom Alike.openTo Alike.free Alike.rowOf Alike.linesOf Further.selectText Further.Prints Session.sourceName Session.refusalLine Session.printed Session.natural Session.clockNumbers Session.clockOf Session.linesIn Session.programRoom Session.answers Session.writes Session.session
 computing = tt

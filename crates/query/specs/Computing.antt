@@ -1,7 +1,6 @@
 -- One name that unfolds every definition here and in the crates below: `unfolding computing` lets a closed example compute.
 use Rattle.lists.specs.Computing as lists
-use Rattle.purpose.specs.Compliance as purpose-Compliance
-use Rattle.purpose.specs.Members as purpose-Members
+use Rattle.purpose.specs.Computing as purpose
 use Rattle.text.specs.Computing as text
 use Rattle.condition.specs.Computing as condition
 use Rattle.form.specs.Computing as form
@@ -11,5 +10,5 @@ use Rattle.query.specs.Authority as Authority
 use Rattle.query.specs.Query as Query
 
 unfoldable pub computing : Unit {0}
-unfolding mathlib.Core.Option.bind mathlib.Core.List.flatten lists.computing purpose-Compliance.meet purpose-Compliance.climbs purpose-Compliance.descends purpose-Compliance.opens purpose-Members.has purpose-Members.passing purpose-Members.members text.computing condition.computing form.computing document.computing QueryForm.columnList QueryForm.selectColumns QueryForm.queryBody QueryForm.queryForms QueryForm.queryForm QueryForm.selectedWords QueryForm.namedWords QueryForm.withinBounds QueryForm.ifWithinBounds QueryForm.queryOf Authority.leap Authority.daysIn Authority.inRange Authority.clockNumber Authority.userValue Authority.attributeMeets Authority.belongs Authority.authorises Authority.firstGrant Query.selected Query.named Query.unknownParty Query.unknownColumn Query.mistypedQuery Query.openFor Query.closedPart Query.columnComparison Query.wantedOf Query.resolved
+unfolding mathlib.Core.Option.bind mathlib.Core.List.flatten lists.computing purpose.computing text.computing condition.computing form.computing document.computing QueryForm.columnList QueryForm.selectColumns QueryForm.queryBody QueryForm.queryForms QueryForm.queryForm QueryForm.selectedWords QueryForm.namedWords QueryForm.withinBounds QueryForm.ifWithinBounds QueryForm.queryOf Authority.leap Authority.daysIn Authority.inRange Authority.clockNumber Authority.userValue Authority.attributeMeets Authority.belongs Authority.authorises Authority.firstGrant Query.selected Query.named Query.unknownParty Query.unknownColumn Query.mistypedQuery Query.openFor Query.closedPart Query.columnComparison Query.wantedOf Query.resolved
 computing = tt
