@@ -7,18 +7,24 @@ use mathlib.Core.Bool.{Bool, _&&_, cond, false, not}
 use mathlib.Core.List.{List, [], _∷_, map}
 use mathlib.Core.Option.{Option, Option·map, none, some}
 use Rattle.document.specs.Lookup.{attributeNamed, columnsOf, hasAttribute, roleOf, schemeOf}
-use Rattle.document.specs.Policy.{Policy}
+use Rattle.document.specs.Policy.{Attribute, Policy}
 use Rattle.form.specs.Form.{Form, Item, Scheme, attr, byCell, byColumn, byRow, byTable, condRole, grant, label, labelled, plain, purpose, role, row, table, unlabelled, user}
-use Rattle.lists.specs.Lists.{allOf, countOf, holdsOf, known, there}
+use Rattle.lists.specs.Lists.{allOf, countOf, holdsOf, keep, known}
 use Rattle.text.specs.Names.{isName}
-use Rattle.text.specs.Offending.{repeated}
-use Rattle.text.specs.Words.{Word}
+use Rattle.text.specs.Words.{Word, isCalled}
 
--- the words are the role's attributes, each once: none repeats, each is one, and they are as many
+-- the word names an attribute of the role: one that is defined at it or above, so none of the clock's
+unfoldable pub isAttributeOf : Policy → ℕ → Word → Bool
+isAttributeOf d r w = holdsOf (hasAttribute d r) (attributeNamed d w)
+
+-- exactly one of the words names the attribute
+unfoldable pub givenOnce : List Word → Attribute → Bool
+givenOnce ws a = eqb (countOf (λ w. isCalled w (a .name)) ws) 1
+
+-- one value for each attribute defined at the role or above (01, "Document forms", of a user form): each of the words
+-- names an attribute of the role, and each attribute of the role is named by exactly one of them
 unfoldable pub givesAll : Policy → ℕ → List Word → Bool
-givesAll d r ws =
-    not (there (repeated ws))
-    && (allOf (λ w. holdsOf (hasAttribute d r) (attributeNamed d w)) ws && eqb (length ws) (countOf (hasAttribute d r) (d .attributes)))
+givesAll d r ws = allOf (isAttributeOf d r) ws && allOf (givenOnce ws) (keep (hasAttribute d r) (d .attributes))
 
 -- the items as values without labels
 unfoldable pub plainValues : List Item → Option (List Word)
