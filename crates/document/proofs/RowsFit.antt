@@ -140,7 +140,7 @@ columns-count d t = go (getElem? (d .tables) t)
     go (some t) = refl
 
 -- the values of a row that fits
-row-values : (n : ℕ) (o : Option (List Word)) → not (holdsOf (λ ws. eqb (length ws) n) o) ≡ false → (ws : List Word) × (o ≡ some ws) × (length ws ≡ n)
+pub row-values : (n : ℕ) (o : Option (List Word)) → not (holdsOf (λ ws. eqb (length ws) n) o) ≡ false → (ws : List Word) × (o ≡ some ws) × (length ws ≡ n)
 unfolding holdsOf
 row-values n none e = absurd (true≢false e)
 row-values n (some ws) e = (ws, refl, eqb→eq (length ws) n (go (eqb (length ws) n) e))

@@ -212,10 +212,15 @@ module _ {L : Type 0} where
   items-placeless byRow ls vs = map-plain (ls ++ vs)
   items-placeless byCell ls vs = map-bracket vs ls
 
+  -- the bytes of a row line
+  pub rowText-bytes : (s : Scheme L) (t : Name) (ls : List Name) (vs : List Value)
+      → rowText s t ls vs ≡ 40 ∷ 114 ∷ 111 ∷ 119 ∷ 32 ∷ (t ++ (spaced (itemTexts s ls vs) ++ 41 ∷ []))
+  unfolding rowText
+  rowText-bytes s t ls vs = simp append-assoc
+
   rowText-is : (s : Scheme L) (t : Name) (ls : List Name) (vs : List Value)
       → rowText s t ls vs ≡ 40 ∷ 114 ∷ 111 ∷ 119 ∷ 32 ∷ (t ++ (spaced (map itemText (itemsOf s ls vs)) ++ 41 ∷ []))
-  unfolding rowText
-  rowText-is s t ls vs = rw (items-texts s ls vs) (simp append-assoc)
+  rowText-is s t ls vs = rw (items-texts s ls vs) (rowText-bytes s t ls vs)
 
   row-reads : (s : Scheme L) (t : Name) (ls : List Name) (vs : List Value) → isName t ≡ true → allOf isName ls ≡ true → allOf isValue vs ≡ true
       → Reads rowParts form (rowText s t ls vs) (some (plainWord t, itemsOf s ls vs)) []
@@ -230,3 +235,12 @@ module _ {L : Type 0} where
     where
       go : {o : Option (Form × Left)} → Gives rowParts (some (plainWord t, itemsOf s ls vs)) [] o → ended o ≡ some f → rowParts f ≡ some (plainWord t, itemsOf s ls vs)
       go (gives p) e = unfold ended in cc
+
+  -- and it is read as a form
+  pub row-read : (s : Scheme L) (t : Name) (ls : List Name) (vs : List Value) → isName t ≡ true → allOf isName ls ≡ true → allOf isValue vs ≡ true
+      → (f : Form) × (formOf (rowText s t ls vs) ≡ some f)
+  unfolding formOf whole
+  row-read s t ls vs h k m = go (row-reads s t ls vs h k m .from 0)
+    where
+      go : {o : Option (Form × Left)} → Gives rowParts (some (plainWord t, itemsOf s ls vs)) [] o → (f : Form) × (ended o ≡ some f)
+      go (gives {y} p) = unfold ended in (y, refl)

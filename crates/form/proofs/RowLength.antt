@@ -24,7 +24,7 @@ valueCost (plain w) = length (w .bytes)
 valueCost (labelled v l) = length (v .bytes)
 
 -- what a row form takes behind its keyword: a space for its table, and its items, each with its space; 0 for any other form
-unfoldable rowCost : Form → ℕ
+unfoldable pub rowCost : Form → ℕ
 rowCost (purpose n p) = 0
 rowCost (role n p) = 0
 rowCost (attr r a k) = 0
@@ -54,8 +54,8 @@ eats-row =
 -- ---- no other keyword leads to a row, so every form eats what it takes as a row
 
 -- the reader gives only forms that take nothing as a row
-record Never (m : Reader Form) : Type 0 where
-  never : (l : Left) (f : Form) (rest : Left) → m l ≡ some (f, rest) → rowCost f ≡ 0
+pub record Never (m : Reader Form) : Type 0 where
+  pub never : (l : Left) (f : Form) (rest : Left) → m l ≡ some (f, rest) → rowCost f ≡ 0
 
 never-give : (f : Form) → rowCost f ≡ 0 → Never (give f)
 never-give f h = record { never = λ l g rest e. subst (λ (r : Form × Left). rowCost (r .0) ≡ 0) (Option·some-injective _ _ e) h }
@@ -74,27 +74,27 @@ never-cond : {m n : Reader Form} (b : Bool) → Never m → Never n → Never (c
 never-cond true h k = h
 never-cond false h k = k
 
-never-node : (make : Word → Option Word → Form) → ((n : Word) (p : Option Word) → rowCost (make n p) ≡ 0) → Never (node make)
+pub never-node : (make : Word → Option Word → Form) → ((n : Word) (p : Option Word) → rowCost (make n p) ≡ 0) → Never (node make)
 unfolding node
 never-node make h = never-bind (next name) (λ n. never-bind (optional name) (λ p. never-give (make n p) (h n p)))
 
-never-attr : Never attrForm
+pub never-attr : Never attrForm
 unfolding attrForm rowCost
 never-attr = never-bind (next name) (λ r. never-bind (next name) (λ a. never-bind (next (keyword kinds)) (λ k. never-give (attr r a k) refl)))
 
-never-user : Never userForm
+pub never-user : Never userForm
 unfolding userForm rowCost
 never-user = never-bind (next name) (λ u. never-bind (next name) (λ r. never-bind (many givenForm) (λ gs. never-give (user u r gs) refl)))
 
-never-condRole : Never condRoleForm
+pub never-condRole : Never condRoleForm
 unfolding condRoleForm rowCost
 never-condRole = never-bind (next name) (λ c. never-bind (next name) (λ r. never-bind (next conditionInForm) (λ t. never-give (condRole c r t) refl)))
 
-never-grant : Never grantForm
+pub never-grant : Never grantForm
 unfolding grantForm rowCost
 never-grant = never-bind (next name) (λ p. never-bind (next name) (λ c. never-give (grant p c) refl))
 
-never-label : Never labelForm
+pub never-label : Never labelForm
 unfolding labelForm rowCost
 never-label = never-bind (next name) (λ l. never-bind (next (purposeSet (ascii "allow"))) (λ ps. never-bind (next (purposeSet (ascii "deny"))) (λ qs. never-give (label l ps qs) refl)))
 
@@ -116,7 +116,7 @@ unfolding among
 never-among [] w h = never-refuse
 never-among (k ∷ ks) w h = never-cond (isCalled w (k .0)) (h .0) (never-among ks w (h .1))
 
-never-table : Never tableForm
+pub never-table : Never tableForm
 unfolding tableForm next keyword schemes columnsUnderLabel
 never-table = never-bind (next name) (λ t. never-bind (byte 32) (λ b. never-bind word (λ w. never-among (schemes t) w (
   never-columns t unlabelled,

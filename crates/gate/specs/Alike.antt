@@ -58,6 +58,17 @@ rowOf d t ls vs = record {
   labels = map (λ l. known (labelOf d (plainWord l))) ls;
 }
 
+-- a row line, written out from its parts: the table, the labels and the values
+pub record RowLine (d : Policy) (line : List ℕ) : Type 0 where
+  pub table : Name
+  pub labels : List Name
+  pub values : List Value
+  pub isTable : isName table ≡ true
+  pub areLabels : allOf isName labels ≡ true
+  pub areValues : allOf isValue values ≡ true
+  pub enoughLabels : length labels ≡ labelCount (schemeOf d (plainWord table)) (length values)
+  pub written : line ≡ rowText (schemeOf d (plainWord table)) table labels values
+
 -- two row lines of one table with the same labels, whose values are the same or free to differ
 pub record AlikeRows (d : Policy) (q : Option QueryForm) (line line′ : List ℕ) : Type 0 where
   pub table : Name

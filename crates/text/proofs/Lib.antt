@@ -14,4 +14,5 @@ pub mod WordLaws
 pub mod NumberLaws
 pub mod ReadBack
 pub mod Places
+pub mod Written
 pub mod Samples
