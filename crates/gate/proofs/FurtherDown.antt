@@ -4,27 +4,27 @@ use Prim.Native.Nat.{_≤_, ℕ}
 use mathlib.Core.Bool.{Bool, cond, false, true}
 use mathlib.Core.List.{List, Sublistᴰ, Sublistᴰ·cons, Sublistᴰ·cons-cons, Sublistᴰ·slnil, [], _++_, _∷_, flatten, map}
 use mathlib.Core.Logic.{_⊎_, inl, inr}
-use mathlib.Core.Option.{Option, none, some}
-use mathlib.Core.Path.{_∙_, _≡_, ap, refl, sym}
+use mathlib.Core.Option.{Option, some}
+use mathlib.Core.Path.{_∙_, _≡_, ap, refl}
 use native.Mathlib.Omega.{arith}
 use Rattle.document.proofs.OpenLaws.{rowWithheld-less}
-use Rattle.document.specs.Lookup.{purposeOf, schemeAt, userOf}
+use Rattle.document.specs.Lookup.{purposeOf, schemeAt}
 use Rattle.document.specs.Open.{labelOpen, rowWithheld}
 use Rattle.document.specs.Policy.{Doc, Row, treeOf}
-use Rattle.form.specs.Form.{Scheme, grant, user}
+use Rattle.form.specs.Form.{Scheme}
+use Rattle.gate.proofs.AcceptedOrRefused.{answered, is-answered}
 use Rattle.gate.specs.Answer.{answerTo, counted, isWithheld, lineOf, matches, rowLine, rowLines}
 use Rattle.gate.specs.Ask.{Answered, answerForm}
 use Rattle.gate.specs.Seen.{Seen, rowsIn, seenRow, seenRows, shown, withheld}
+use Rattle.lists.proofs.Tests.{true-not-false}
+use Rattle.lists.specs.Lists.{countOf, known}
 use Rattle.purpose.specs.Compliance.{descends}
 use Rattle.query.proofs.Below.{forPurpose, grant-below, label-down, parts-down, party-down, resolved-down, toPurpose}
 use Rattle.query.specs.Authority.{Clock, firstGrant}
-use Rattle.query.specs.Query.{Query, closedPart, mistypedQuery, named, resolved, select, unknownColumn, unknownParty}
+use Rattle.query.specs.Query.{Query, mistypedQuery, named, resolved, select, unknownColumn}
 use Rattle.query.specs.QueryForm.{QueryForm, namedWords, selectedWords}
-use Rattle.text.proofs.RefusalLaws.{accepted-same, bind-accepted, need-accepted, refuseAt-accepted, then-accepted}
-use Rattle.lists.proofs.Tests.{true-not-false}
-use Rattle.lists.specs.Lists.{countOf, known}
 use Rattle.text.specs.Numbers.{Value}
-use Rattle.text.specs.Refusal.{Result, _>>=_, _>>_, accepted, need, query, refuseAt}
+use Rattle.text.specs.Refusal.{accepted}
 use Rattle.text.specs.Words.{Word}
 
 -- the passed rows, each by its values in the named columns
@@ -102,45 +102,6 @@ seen-further : (d : Doc) (q : Query) (p : ℕ) → ((l : Option ℕ) → labelOp
 unfolding seenRows toPurpose named
 seen-further d q p wider =
     map-further _ _ (row-further (labelOpen (d .policy) (q .purpose)) (labelOpen (d .policy) p) wider (schemeAt (d .policy) (q .table)) (named q)) (rowsIn (q .table) (d .rows))
-
--- ---- when a query is answered
-
--- none of 12 to 17 holds, and this is the answer
-pub record Answers (d : Doc) (c : Clock) (q : QueryForm) (r : Answered) : Type 0 where
-  pub user : ℕ
-  pub grant : ℕ
-  pub party : unknownParty (d .policy) q ≡ none
-  pub has-role : userOf (d .policy) (q .user) (q .role) ≡ some user
-  pub authorised : firstGrant (d .policy) c user (known (purposeOf (d .policy) (q .purpose))) ≡ some grant
-  pub columns : unknownColumn (d .policy) q ≡ none
-  pub types : mistypedQuery (d .policy) q ≡ none
-  pub parts : closedPart (d .policy) q ≡ none
-  pub is : r ≡ record { answer = answerTo (resolved (d .policy) q) (seenRows d (resolved (d .policy) q)); grant = grant }
-
-pub answered : (d : Doc) (c : Clock) (q : QueryForm) (r : Answered) → answerForm d c q ≡ accepted r → Answers d c q r
-unfolding answerForm
-answered d c q r h =
-    let h1 = then-accepted _ _ _ h in
-    let h2 = bind-accepted _ _ _ (h1 .2) in
-    let h3 = bind-accepted _ _ _ (h2 .2) in
-    let h4 = then-accepted _ _ _ (h3 .2) in
-    let h5 = then-accepted _ _ _ (h4 .2) in
-    let h6 = then-accepted _ _ _ (h5 .2) in
-    record {
-      user = h2 .0;
-      grant = h3 .0;
-      party = refuseAt-accepted 12 query _ (h1 .1);
-      has-role = need-accepted _ _ _ (h2 .1);
-      authorised = need-accepted _ _ _ (h3 .1);
-      columns = refuseAt-accepted 15 query _ (h4 .1);
-      types = refuseAt-accepted 16 query _ (h5 .1);
-      parts = refuseAt-accepted 17 query _ (h6 .1);
-      is = sym (accepted-same (h6 .2));
-    }
-
-pub is-answered : (d : Doc) (c : Clock) (q : QueryForm) (r : Answered) → Answers d c q r → answerForm d c q ≡ accepted r
-unfolding answerForm refuseAt need _>>_ _>>=_
-is-answered d c q r a = rw (a .party, a .has-role, a .authorised, a .columns, a .types, a .parts) (ap {B = Result Answered} accepted (sym (a .is)))
 
 -- ---- the theorem
 

@@ -1,6 +1,6 @@
 -- Rows given further down (02, Q-6), from the texts to the answers. Assumes nothing.
 use Prim.Native.Nat.{_≤_, ℕ}
-use borrow.Author.Tests.{le-leb, le-ltb}
+use borrow.Author.Tests.{le-leb}
 use lib.ListN.{length}
 use mathlib.Core.Bool.{true}
 use mathlib.Core.List.{List, _++_, map}
@@ -9,25 +9,26 @@ use mathlib.Core.Path.{_∙_, _≡_, ap, refl, subst, sym}
 use Rattle.document.specs.Check.{Accepted, check}
 use Rattle.document.specs.Lookup.{columnsOf, purposeOf, roleOf, userOf}
 use Rattle.document.specs.Policy.{Doc, treeOf}
-use Rattle.gate.proofs.FurtherDown.{Answers, answered, further-down, is-answered, passedRows, rows-printed}
+use Rattle.gate.proofs.AcceptedOrRefused.{Answers, answered, ask-answered, ask-is, is-answered}
+use Rattle.gate.proofs.FurtherDown.{further-down, passedRows, rows-printed}
 use Rattle.gate.proofs.SelectReading.{IsSelect, is-select, other, other-query}
 use Rattle.gate.specs.Answer.{answerTo, counted, endLine, matches, rowLines}
-use Rattle.gate.specs.Ask.{Answered, answerForm, ask}
+use Rattle.gate.specs.Ask.{Answered, ask}
 use Rattle.gate.specs.Further.{Contains, Prints, selectText}
 use Rattle.gate.specs.Seen.{Seen, seenRows}
+use Rattle.gate.specs.Session.{answers}
+use Rattle.lists.specs.Lists.{known}
 use Rattle.purpose.specs.Compliance.{descends}
 use Rattle.query.proofs.Below.{forPurpose}
 use Rattle.query.proofs.NamedColumns.{columnNumber}
 use Rattle.query.proofs.QueryPlaces.{closed-placeless, column-placeless, party-placeless, placelessQuery, resolved-placeless, types-placeless}
-use Rattle.query.specs.Authority.{Clock, inRange}
+use Rattle.query.specs.Authority.{Clock}
 use Rattle.query.specs.Query.{Query, resolved, select, wantedOf}
-use Rattle.query.specs.QueryForm.{QueryForm, queryOf}
+use Rattle.query.specs.QueryForm.{QueryForm}
 use Rattle.text.proofs.ReadBack.{placeless}
-use Rattle.text.proofs.RefusalLaws.{accepted-same, bind-accepted, need-accepted, refuseIf-accepted, then-accepted}
-use Rattle.lists.proofs.Tests.{not-false}
-use Rattle.lists.specs.Lists.{known}
+use Rattle.text.proofs.RefusalLaws.{accepted-same}
 use Rattle.text.specs.Names.{Name, isName}
-use Rattle.text.specs.Refusal.{_>>=_, _>>_, accepted, need, refuseIf}
+use Rattle.text.specs.Refusal.{accepted}
 use Rattle.text.specs.Words.{Word, isCalled, plainWord}
 
 -- ---- a query is answered as the same query without places is
@@ -71,30 +72,6 @@ answers-placed d c q r a = record {
   is = a .is ∙ ap (answerOf d (a .grant)) (resolved-placeless (d .policy) q);
 }
 
--- ---- asking
-
--- what an accepted asking went through
-ask-accepted : (doc text : List ℕ) (A : Accepted) → check doc ≡ accepted A → (c : Clock) (room : ℕ) (a : Answered) → ask doc text c room ≡ accepted a
-    → (inRange c ≡ true) × (q : QueryForm) × (queryOf text ≡ some q) × (answerForm (A .doc) c q ≡ accepted a)
-unfolding ask
-ask-accepted doc text A is-A c room a h =
-    let h0 = bind-accepted _ _ _ h in
-    let same-A : A ≡ h0 .0 = accepted-same (sym is-A ∙ h0 .1) in
-    let h1 = then-accepted _ _ _ (h0 .2) in
-    let h2 = bind-accepted _ _ _ (h1 .2) in
-    let h3 = bind-accepted _ _ _ (h2 .2) in
-    let h4 = then-accepted _ _ _ (h3 .2) in (
-      not-false _ (refuseIf-accepted _ _ (h1 .1)),
-      h2 .0,
-      need-accepted _ _ _ (h2 .1),
-      ap (λ (x : Accepted). answerForm (x .doc) c (h2 .0)) same-A ∙ h3 .1 ∙ h4 .2,
-    )
-
-ask-is : (doc text : List ℕ) (A : Accepted) → check doc ≡ accepted A → (c : Clock) (room : ℕ) (a : Answered) (q : QueryForm) → inRange c ≡ true
-    → queryOf text ≡ some q → answerForm (A .doc) c q ≡ accepted a → length (a .answer .bytes) ≤ room → ask doc text c room ≡ accepted a
-unfolding ask refuseIf need _>>=_ _>>_
-ask-is doc text A is-A c room a q range is-q is-a fits = rw (is-A, range, is-q, is-a) (rw (le-ltb room _ fits))
-
 -- ---- what an answer prints
 
 prints-answer : (q : Query) (cs : List ℕ) (rs : List Seen) → q .wanted ≡ select cs → Prints (answerTo q rs) cs (passedRows (matches (q .condition)) rs)
@@ -124,23 +101,25 @@ pub rows-further-down : (doc : List ℕ) (A : Accepted) → check doc ≡ accept
 unfolding purposeOf isCalled plainWord other known IsSelect forPurpose placelessQuery resolved
 rows-further-down doc A is-A u r p p′ rest is-u is-r is-p is-p′ n n′ known-p known-p′ below c room a h short =
     let d : Doc = A .doc in
-    let x = ask-accepted doc _ A is-A c room a h in
-    let q : QueryForm = x .1 in
+    let x = ask-answered doc _ c room a h in
+    let same-A : x .checked ≡ A = accepted-same (sym (x .accepts) ∙ is-A) in
+    let q : QueryForm = x .form in
+    let answers : Answers d c q a = subst (λ (B : Accepted). Answers (B .doc) c q a) same-A (x .answers) in
     let w : Word = other u r p p′ rest is-u is-r is-p is-p′ in
-    let y = other-query u r p p′ rest is-u is-r is-p is-p′ q (x .2) (le-leb _ _ short) in
-    let sel = is-select u r p p′ rest is-u is-r is-p is-p′ q (x .2) in
-    let z = further-down d q w n′ known-p′ (subst (λ o. descends (treeOf (d .policy .purposes)) n′ (known o) ≡ true) (sym (ap (purposeOf (d .policy)) (sel .0) ∙ known-p)) below) c a (x .3) in
+    let y = other-query u r p p′ rest is-u is-r is-p is-p′ q (x .reads) (le-leb _ _ short) in
+    let sel = is-select u r p p′ rest is-u is-r is-p is-p′ q (x .reads) in
+    let z = further-down d q w n′ known-p′ (subst (λ o. descends (treeOf (d .policy .purposes)) n′ (known o) ≡ true) (sym (ap (purposeOf (d .policy)) (sel .0) ∙ known-p)) below) c a (is-answered d c q a answers) in
     let s : Answered = z .0 in
     let q′ : QueryForm = forPurpose w (y .0) in
     let t : Answers d c (forPurpose w q) s = answered d c (forPurpose w q) s (z .1) in
     let t′ : Answers d c q′ s = answers-placed d c q′ s (subst (λ v. Answers d c v s) (ap (forPurpose (placeless w)) (y .2)) (answers-placeless d c (forPurpose w q) s t)) in (
       s,
-      λ room′ fits. ask-is doc _ A is-A c room′ s q′ (x .0) (y .1) (is-answered d c q′ s t′) fits,
+      λ room′ fits. ask-is doc _ c room′ s (record { checked = A; form = q′; accepts = is-A; clock = x .clock; reads = y .1; answers = t′; fits = fits }),
       record {
         columns = map (columnNumber (columnsOf (d .policy) (q .table))) (sel .1);
         rows = passedRows (matches (resolved (d .policy) q .condition)) (seenRows d (resolved (d .policy) q));
         rows′ = passedRows (matches (resolved (d .policy) q .condition)) (seenRows d (resolved (d .policy) (forPurpose w q)));
-        prints = answer-prints d c q a (sel .1) (sel .2) (answered d c q a (x .3));
+        prints = answer-prints d c q a (sel .1) (sel .2) answers;
         prints′ = answer-prints d c (forPurpose w q) s (sel .1) (sel .2) t;
         inOrder = z .2;
         fewer = z .3;

@@ -1,0 +1,225 @@
+-- Asking is refused with the lowest number whose condition holds, and accepted when none holds. Assumes nothing.
+use Prim.Native.Nat.{_≤_, ℕ}
+use borrow.Author.Tests.{le-ltb, ltb-false}
+use lib.Dec.{ltb}
+use lib.ListN.{length}
+use mathlib.Core.Bool.{Bool, cond, false, not, true}
+use mathlib.Core.List.{List, [], _++_, _∷_}
+use mathlib.Core.Option.{Option, Option·none-ne-some, Option·some-ne-none, none, some}
+use mathlib.Core.Path.{_∙_, _≡_, ap, refl, subst, sym}
+use Rattle.document.specs.Check.{Accepted, check}
+use Rattle.document.specs.Lookup.{purposeOf, userOf}
+use Rattle.document.specs.Policy.{Doc}
+use Rattle.gate.specs.Answer.{Answer, answerTo}
+use Rattle.gate.specs.Ask.{Answered, answerForm, ask}
+use Rattle.gate.specs.Seen.{seenRows}
+use Rattle.lists.proofs.Tests.{not-false}
+use Rattle.lists.specs.Lists.{known, there}
+use Rattle.query.specs.Authority.{Clock, firstGrant, inRange}
+use Rattle.query.specs.Query.{closedPart, mistypedQuery, resolved, unknownColumn, unknownParty}
+use Rattle.query.specs.QueryForm.{QueryForm, queryOf}
+use Rattle.text.proofs.RefusalLaws.{accepted-same, bind-accepted, need-accepted, refuseAt-accepted, refuseIf-accepted, then-accepted}
+use Rattle.text.specs.Refusal.{Refusal, Result, Source, _>>=_, _>>_, accepted, need, pointing, pointingAll, pointingNowhere, query, refuseAt, refuseIf, refused}
+use Rattle.text.specs.Words.{Word}
+
+-- ---- the lowest number whose condition holds
+
+-- a refusal's number, and whether its condition holds
+abbrev pub Fault : Type 0
+Fault = (number : ℕ) × Bool
+
+-- the first number of the list whose condition holds
+unfoldable pub firstFault : List Fault → Option ℕ
+firstFault [] = none
+firstFault (f ∷ fs) = cond (f .1) (some (f .0)) (firstFault fs)
+
+-- the number of a refusal; an accepted step has none
+unfoldable pub refusalNumber : {A : Type 0} → Result A → Option ℕ
+refusalNumber (refused r) = some (r .number)
+refusalNumber (accepted x) = none
+
+-- the faults of a query, 12 to 17
+unfoldable pub formFaults : Doc → Clock → QueryForm → List Fault
+formFaults d c q =
+    (12, there (unknownParty (d .policy) q))
+    ∷ (13, not (there (userOf (d .policy) (q .user) (q .role))))
+    ∷ (14, not (there (firstGrant (d .policy) c (known (userOf (d .policy) (q .user) (q .role))) (known (purposeOf (d .policy) (q .purpose))))))
+    ∷ (15, there (unknownColumn (d .policy) q))
+    ∷ (16, there (mistypedQuery (d .policy) q))
+    ∷ (17, there (closedPart (d .policy) q))
+    ∷ []
+
+-- the answer to a query as read
+unfoldable pub formAnswer : Doc → QueryForm → Answer
+formAnswer d q = answerTo (resolved (d .policy) q) (seenRows d (resolved (d .policy) q))
+
+-- the faults of a query text that is a query, 12 to 18; one that is none has 11 already
+unfoldable pub queryFaults : Doc → Clock → (room : ℕ) → Option QueryForm → List Fault
+queryFaults d c room none = []
+queryFaults d c room (some q) = formFaults d c q ++ (18, ltb room (length (formAnswer d q .bytes))) ∷ []
+
+-- the faults of asking about an accepted document, 10 to 18
+unfoldable pub askFaults : Doc → (text : List ℕ) → Clock → (room : ℕ) → List Fault
+askFaults d text c room = (10, not (inRange c)) ∷ (11, not (there (queryOf text))) ∷ queryFaults d c room (queryOf text)
+
+-- ---- the number of a step, from the faults of its parts
+
+-- the first fault of two lists joined
+first-before : (fs gs : List Fault) (n : ℕ) → firstFault fs ≡ some n → firstFault (fs ++ gs) ≡ some n
+unfolding firstFault
+first-before [] gs n e = absurd (Option·none-ne-some _ e)
+first-before (f ∷ fs) gs n e = go (f .1) (first-before fs gs n) e
+  where
+    go : (b : Bool) → (firstFault fs ≡ some n → firstFault (fs ++ gs) ≡ some n) → cond b (some (f .0)) (firstFault fs) ≡ some n → cond b (some (f .0)) (firstFault (fs ++ gs)) ≡ some n
+    go true rest e = e
+    go false rest e = rest e
+
+first-after : (fs gs : List Fault) → firstFault fs ≡ none → firstFault (fs ++ gs) ≡ firstFault gs
+unfolding firstFault
+first-after [] gs e = refl
+first-after (f ∷ fs) gs e = go (f .1) (first-after fs gs) e
+  where
+    go : (b : Bool) → (firstFault fs ≡ none → firstFault (fs ++ gs) ≡ firstFault gs) → cond b (some (f .0)) (firstFault fs) ≡ none → cond b (some (f .0)) (firstFault (fs ++ gs)) ≡ firstFault gs
+    go true rest e = absurd (Option·some-ne-none _ e)
+    go false rest e = rest e
+
+-- what has no refusal's number was accepted
+pub number-none : {A : Type 0} (m : Result A) → refusalNumber m ≡ none → (x : A) × (m ≡ accepted x)
+unfolding refusalNumber
+number-none (refused r) e = absurd (Option·some-ne-none _ e)
+number-none (accepted x) e = (x, refl)
+
+-- one step, and then another
+bind-number : {A B : Type 0} (m : Result A) (f : A → Result B) (fs gs : List Fault) → refusalNumber m ≡ firstFault fs
+    → ((x : A) → m ≡ accepted x → refusalNumber (f x) ≡ firstFault gs) → refusalNumber (m >>= f) ≡ firstFault (fs ++ gs)
+unfolding _>>=_ refusalNumber
+bind-number (refused r) f fs gs e k = sym (first-before fs gs (r .number) (sym e))
+bind-number (accepted x) f fs gs e k = k x refl ∙ sym (first-after fs gs (sym e))
+
+accepted-number : {A : Type 0} (x : A) → refusalNumber (accepted x) ≡ firstFault []
+unfolding refusalNumber firstFault
+accepted-number x = refl
+
+module _ {A : Type 0} (fs : List Fault) where
+  if-number : (b : Bool) (r : Refusal) (m : Result A) → refusalNumber m ≡ firstFault fs → refusalNumber (refuseIf b r >> m) ≡ firstFault ((r .number, b) ∷ fs)
+  unfolding refuseIf _>>_ refusalNumber firstFault
+  if-number true r m k = refl
+  if-number false r m k = k
+
+  at-number : (n : ℕ) (s : Source) (o : Option Word) (m : Result A) → refusalNumber m ≡ firstFault fs → refusalNumber (refuseAt n s o >> m) ≡ firstFault ((n, there o) ∷ fs)
+  unfolding refuseAt _>>_ refusalNumber firstFault there pointing
+  at-number n s none m k = k
+  at-number n s (some w) m k = refl
+
+  need-number : {B : Type 0} (o : Option B) (r : Refusal) (f : B → Result A) → ((x : B) → o ≡ some x → refusalNumber (f x) ≡ firstFault fs)
+      → refusalNumber (need o r >>= f) ≡ firstFault ((r .number, not (there o)) ∷ fs)
+  unfolding need _>>=_ refusalNumber firstFault there
+  need-number none r f k = refl
+  need-number (some x) r f k = k x refl
+
+-- ---- a query as read
+
+module _ (d : Doc) (c : Clock) (q : QueryForm) where
+  -- a query is refused with the lowest of 12 to 17 whose condition holds
+  form-number : refusalNumber (answerForm d c q) ≡ firstFault (formFaults d c q)
+  unfolding answerForm formFaults pointing known
+  form-number =
+      at-number _ _ _ _ _ (
+      need-number _ _ _ _ (λ u is-u.
+      rw is-u (need-number _ _ _ _ (λ g _.
+      at-number _ _ _ _ _ (
+      at-number _ _ _ _ _ (
+      at-number _ _ _ _ _ (accepted-number _)))))))
+
+-- none of 12 to 17 holds, and this is the answer
+pub record Answers (d : Doc) (c : Clock) (q : QueryForm) (r : Answered) : Type 0 where
+  pub user : ℕ
+  pub grant : ℕ
+  pub party : unknownParty (d .policy) q ≡ none
+  pub has-role : userOf (d .policy) (q .user) (q .role) ≡ some user
+  pub authorised : firstGrant (d .policy) c user (known (purposeOf (d .policy) (q .purpose))) ≡ some grant
+  pub columns : unknownColumn (d .policy) q ≡ none
+  pub types : mistypedQuery (d .policy) q ≡ none
+  pub parts : closedPart (d .policy) q ≡ none
+  pub is : r ≡ record { answer = answerTo (resolved (d .policy) q) (seenRows d (resolved (d .policy) q)); grant = grant }
+
+pub answered : (d : Doc) (c : Clock) (q : QueryForm) (r : Answered) → answerForm d c q ≡ accepted r → Answers d c q r
+unfolding answerForm
+answered d c q r h =
+    let h1 = then-accepted _ _ _ h in
+    let h2 = bind-accepted _ _ _ (h1 .2) in
+    let h3 = bind-accepted _ _ _ (h2 .2) in
+    let h4 = then-accepted _ _ _ (h3 .2) in
+    let h5 = then-accepted _ _ _ (h4 .2) in
+    let h6 = then-accepted _ _ _ (h5 .2) in
+    record {
+      user = h2 .0;
+      grant = h3 .0;
+      party = refuseAt-accepted 12 query _ (h1 .1);
+      has-role = need-accepted _ _ _ (h2 .1);
+      authorised = need-accepted _ _ _ (h3 .1);
+      columns = refuseAt-accepted 15 query _ (h4 .1);
+      types = refuseAt-accepted 16 query _ (h5 .1);
+      parts = refuseAt-accepted 17 query _ (h6 .1);
+      is = sym (accepted-same (h6 .2));
+    }
+
+pub is-answered : (d : Doc) (c : Clock) (q : QueryForm) (r : Answered) → Answers d c q r → answerForm d c q ≡ accepted r
+unfolding answerForm refuseAt need _>>_ _>>=_
+is-answered d c q r a = rw (a .party, a .has-role, a .authorised, a .columns, a .types, a .parts) (ap {B = Result Answered} accepted (sym (a .is)))
+
+-- ---- asking
+
+-- Asking about an accepted document is refused with the lowest number of 10 to 18 whose condition holds, and accepted when
+-- none holds.
+pub lowest-refused : (doc text : List ℕ) (A : Accepted) → check doc ≡ accepted A → (c : Clock) (room : ℕ)
+    → refusalNumber (ask doc text c room) ≡ firstFault (askFaults (A .doc) text c room)
+unfolding ask _>>=_ askFaults queryFaults formAnswer pointingAll pointingNowhere
+lowest-refused doc text A is-A c room =
+    rw is-A (
+    if-number _ _ _ _ (
+    need-number (queryFaults (A .doc) c room (queryOf text)) _ _ _ (λ q is-q. rw is-q (
+    bind-number (answerForm (A .doc) c q) _ (formFaults (A .doc) c q) _ (form-number (A .doc) c q) (λ r is-r.
+    if-number _ _ _ _ (accepted-number r)
+    ∙ ap (λ (b : Answered). firstFault ((18, ltb room (length (b .answer .bytes))) ∷ [])) (answered (A .doc) c q r is-r .is))))))
+
+-- Asking about a refused document is refused as the document is, with 1 to 9.
+pub document-refused : (doc text : List ℕ) (r : Refusal) → check doc ≡ refused r → (c : Clock) (room : ℕ) → ask doc text c room ≡ refused r
+unfolding ask _>>=_
+document-refused doc text r is-r c room = rw is-r
+
+-- none of 1 to 18 holds, and this is the answer
+pub record AskAnswers (doc text : List ℕ) (c : Clock) (room : ℕ) (a : Answered) : Type 0 where
+  pub checked : Accepted
+  pub form : QueryForm
+  pub accepts : check doc ≡ accepted checked
+  pub clock : inRange c ≡ true
+  pub reads : queryOf text ≡ some form
+  pub answers : Answers (checked .doc) c form a
+  pub fits : length (a .answer .bytes) ≤ room
+
+-- what an accepted asking went through
+pub ask-answered : (doc text : List ℕ) (c : Clock) (room : ℕ) (a : Answered) → ask doc text c room ≡ accepted a → AskAnswers doc text c room a
+unfolding ask
+ask-answered doc text c room a h =
+    let h0 = bind-accepted _ _ _ h in
+    let h1 = then-accepted _ _ _ (h0 .2) in
+    let h2 = bind-accepted _ _ _ (h1 .2) in
+    let h3 = bind-accepted _ _ _ (h2 .2) in
+    let h4 = then-accepted _ _ _ (h3 .2) in
+    let is-a : h3 .0 ≡ a = accepted-same (h4 .2) in
+    record {
+      checked = h0 .0;
+      form = h2 .0;
+      accepts = h0 .1;
+      clock = not-false _ (refuseIf-accepted _ _ (h1 .1));
+      reads = need-accepted _ _ _ (h2 .1);
+      answers = answered (h0 .0 .doc) c (h2 .0) a (h3 .1 ∙ h4 .2);
+      fits = subst (λ (b : Answered). length (b .answer .bytes) ≤ room) is-a (ltb-false _ _ (refuseIf-accepted _ _ (h4 .1)));
+    }
+
+-- an asking of which none of 1 to 18 holds is accepted
+pub ask-is : (doc text : List ℕ) (c : Clock) (room : ℕ) (a : Answered) → AskAnswers doc text c room a → ask doc text c room ≡ accepted a
+unfolding ask refuseIf need _>>=_ _>>_
+ask-is doc text c room a x =
+    rw (x .accepts, x .clock, x .reads, is-answered (x .checked .doc) c (x .form) a (x .answers)) (rw (le-ltb room _ (x .fits)))
