@@ -1,4 +1,5 @@
--- Laws of the definitions, which the proofs of this crate and of the crates above cite.
+-- Laws of the definitions, which the proofs of this crate and of the crates above cite. Assumes nothing.
+pub mod Samples
 pub mod NameLaws
 pub mod RefusalLaws
 pub mod OffendingLaws
@@ -7,6 +8,7 @@ pub mod ByteLaws
 pub mod Lefts
 pub mod ReaderLaws
 pub mod Forward
+pub mod Spaces
 pub mod ManyLaws
 pub mod AnswerLaws
 pub mod Ranges
@@ -15,4 +17,6 @@ pub mod NumberLaws
 pub mod ReadBack
 pub mod Places
 pub mod Written
-pub mod Samples
+pub mod Integers
+pub mod DecimalLaws
+pub mod CodeLaws

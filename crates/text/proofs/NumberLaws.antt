@@ -2,19 +2,21 @@
 use Prim.Native.Nat.{_*_, _+_, _-_, _<_, _^_, _≤_, ℕ}
 use borrow.Author.Tests.{le-leb, le-ltb, leb-true, lt-leb, lt-ltb, ne-eqb}
 use lib.Dec.{leb}
-use lib.ListN.{getD}
+use lib.ListN.{getD, length}
 use mathlib.Core.Bool.{Bool, false, not, true}
 use mathlib.Core.List.{List}
 use mathlib.Core.Option.{bind, none, some}
 use mathlib.Core.Path.{_≡_, refl}
 use native.Mathlib.Omega.{arith}
 use Rattle.lists.proofs.Tests.{and-left, and-right, or-right}
+use Rattle.lists.specs.Lists.{there}
+use Rattle.text.proofs.Lefts.{skip-from}
 use Rattle.text.proofs.WordLaws.{word-more, word-stop}
 use Rattle.text.specs.Bytes.{isDigit, isLetter, isNameByte}
-use Rattle.lists.specs.Lists.{there}
 use Rattle.text.specs.Names.{isName}
 use Rattle.text.specs.Numbers.{digitsFrom, isNumber, isValue, magnitude, noLeadingZero, rank, rankDown, rankOf, rankUp}
-use Rattle.text.specs.Words.{wordAt}
+use Rattle.text.specs.Reader.{from}
+use Rattle.text.specs.Words.{readNumber, word, wordAt}
 
 pub digit-range : (d : ℕ) → isDigit d ≡ true → (48 ≤ d) × (d ≤ 57)
 unfolding isDigit
@@ -79,6 +81,16 @@ module _ (s : List ℕ) (at : ℕ) where
       go : (t : Bool) → isNameByte (getD s at 0) ≡ t → rank (wordAt s at) ≡ bind (magnitude (wordAt s at)) rankUp
       go true h = rw (word-more s at h, ne-eqb _ _ e)
       go false h = rw (word-stop s at h)
+
+module _ (s : List ℕ) (at : ℕ) where
+  -- the word at a position is read as a number if it has a rank
+  pub number-read : (k : ℕ) → rank (wordAt s at) ≡ some k → readNumber (from s at) ≡ some (k, from s (at + length (wordAt s at)))
+  unfolding readNumber word
+  number-read k h = rw (h, skip-from)
+
+  pub number-refused : rank (wordAt s at) ≡ none → readNumber (from s at) ≡ none
+  unfolding readNumber word
+  number-refused h = rw h
 
 module _ (w : List ℕ) where
   pub value-number : (k : ℕ) → rank w ≡ some k → isValue w ≡ true

@@ -1,4 +1,4 @@
--- How much a reader eats, so that what is left shrinks, and where it ends in the whole text.
+-- How much a reader eats, so that what is left shrinks, and where it ends in the whole text. Assumes nothing.
 use Prim.Native.Nat.{_+_, _-_, _≤_, suc, zero, ℕ}
 use borrow.Author.Tests.{eq-eqb, eqb-false, eqb-true, ne-eqb}
 use lib.Dec.{eqb}
@@ -10,13 +10,14 @@ use mathlib.Core.Option.{Option, Option·getD, Option·some-injective, none, som
 use mathlib.Core.Path.{_∙_, _≡_, ap, refl, subst, sym}
 use native.Mathlib.Nat.{add-assoc, add-zero}
 use native.Mathlib.Omega.{arith}
+use Rattle.lists.specs.Lists.{isEmpty}
 use Rattle.text.proofs.ByteLaws.{run-within}
 use Rattle.text.proofs.Lefts.{first-drop, skip-from}
 use Rattle.text.specs.Brackets.{Keywords, among, bracketed, many, next, upTo}
 use Rattle.text.specs.Bytes.{firstByte}
-use Rattle.lists.specs.Lists.{isEmpty}
-use Rattle.text.specs.Reader.{Left, Reader, _>>=_, _>>_, andThen, byte, ended, from, give, ifNext, nextIs, refuse, require, skip, whole}
-use Rattle.text.specs.Words.{Word, isCalled, nameBytes, word, wordThat}
+use Rattle.text.specs.Numbers.{rank}
+use Rattle.text.specs.Reader.{Left, Reader, _>>=_, _>>_, andThen, byte, ended, from, give, given, ifNext, nextIs, refuse, require, skip, whole}
+use Rattle.text.specs.Words.{Word, isCalled, nameBytes, readNumber, word, wordThat}
 
 -- l′ is what is left of l after k bytes or more
 pub record Past (k : ℕ) (l l′ : Left) : Type 0 where
@@ -124,6 +125,22 @@ eats-wordThat f =
     eats-bind (λ w. length (w .bytes)) (λ w. length (w .bytes)) word _ eats-word (λ (w : Word).
     eats-then 0 (λ v. length (v .bytes) - length (w .bytes)) (require (f (w .bytes))) (give w) (eats-require (f (w .bytes)))
     (eats-give (λ v. length (v .bytes) - length (w .bytes) - 0) w (omega arith)))
+
+pub eats-given : {A : Type 0} (w : A → ℕ) (o : Option A) → ((a : A) → o ≡ some a → w a ≤ 0) → Eats w (given o)
+eats-given w none h = eats-refuse w
+eats-given w (some a) h = eats-give w a (h a refl)
+
+-- a number has a byte
+one-digit : (bs : List ℕ) (k : ℕ) → rank bs ≡ some k → 1 ≤ length bs
+unfolding rank
+one-digit [] k h = not-read k h
+one-digit (b ∷ bs) k h = omega arith
+
+pub eats-number : Eats (λ k. 1) readNumber
+unfolding readNumber
+eats-number =
+    eats-bind (λ w. length (w .bytes)) (λ k. 1) word _ eats-word (λ (w : Word).
+    eats-given (λ k. 1 - length (w .bytes)) (rank (w .bytes)) (λ k e. omega (arith, one-digit (w .bytes) k e)))
 
 module _ {A : Type 0} (w : A → ℕ) where
   -- either reader eats enough

@@ -9,4 +9,5 @@ pub mod Lines
 pub mod Refusal
 pub mod Offending
 pub mod Ends
+pub mod CodeEnds
 pub mod Computing

@@ -1,1 +1,6 @@
-// Bracket texts: bytes, names, numbers, words, readers and refusals.
+// Bracket texts: bytes and their classes, words, names and numbers, items behind a space, and lines.
+pub mod brackets;
+pub mod bytes;
+pub mod lines;
+pub mod numbers;
+pub mod words;

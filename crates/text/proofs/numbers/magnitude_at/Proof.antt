@@ -1,0 +1,32 @@
+-- `text::numbers::magnitude_at` meets its contract: digits without a leading zero.
+-- Assumes nothing.
+use borrow.Author.Needs.{needs}
+use mathlib.Core.Bool.{false, true}
+use mathlib.Core.Path.{_∙_, _≡_, sym}
+use Rattle.text.specs.Numbers.{magnitude, noLeadingZero}
+use Rattle.text.specs.Words.{wordAt}
+use Rattle.text.proofs.numbers.magnitude_at.Statement.{statement}
+use Rattle.text.proofs.numbers.magnitude_at.Tie as tie
+
+is-canonical-requires : tie.Need-is-canonical-requires
+is-canonical-requires c κs = search needs
+
+digits-requires : tie.Need-digits-requires
+digits-requires c κs = search needs
+
+returns : tie.Need-returns
+unfolding magnitude
+returns c =
+    let w = wordAt (c .before .before .before .before .args .s .now) (c .before .before .before .before .args .at) in
+    let h : noLeadingZero w ≡ true = sym (c .before .before .is-canonical .ensures) ∙ c .before .if1 .taken in
+    rw (h, magnitude) (c .digits .ensures)
+
+returns-2 : tie.Need-returns-2
+unfolding magnitude
+returns-2 c =
+    let w = wordAt (c .before .before .before .args .s .now) (c .before .before .before .args .at) in
+    let h : noLeadingZero w ≡ false = sym (c .before .is-canonical .ensures) ∙ c .if1 .left in
+    rw (h, magnitude)
+
+pub magnitude-at-spec : {M : Type 1} → statement M
+magnitude-at-spec = tie.close (tie.spec is-canonical-requires digits-requires returns returns-2)
