@@ -1,1 +1,2 @@
-// The forms of a document's lines.
+// The forms of a document's lines: reading a line by the places of its words.
+pub mod parts;

@@ -19,4 +19,6 @@ pub mod Places
 pub mod Written
 pub mod Integers
 pub mod DecimalLaws
+pub mod WalkingLaws
 pub mod CodeLaws
+pub mod EndLaws

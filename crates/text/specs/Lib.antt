@@ -9,5 +9,6 @@ pub mod Lines
 pub mod Refusal
 pub mod Offending
 pub mod Ends
+pub mod Walking
 pub mod CodeEnds
 pub mod Computing

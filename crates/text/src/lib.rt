@@ -3,4 +3,5 @@ pub mod brackets;
 pub mod bytes;
 pub mod lines;
 pub mod numbers;
+pub mod walking;
 pub mod words;

@@ -1,0 +1,90 @@
+-- Lists of a line by the positions where they stand: what code walks through after the line was read.
+use Prim.Native.Nat.{_+_, suc, zero, ℕ}
+use lib.Dec.{eqb}
+use lib.ListN.{getD, length}
+use mathlib.Core.Bool.{cond}
+use mathlib.Core.List.{List, [], _∷_}
+use Rattle.condition.specs.Kinds.{Kind, names, numbers}
+use Rattle.form.specs.Form.{ColumnForm, GivenForm, Item, labelled, plain}
+use Rattle.text.specs.Bytes.{ascii}
+use Rattle.text.specs.Names.{sameName}
+use Rattle.text.specs.Walking.{nextWord, past, wordEndAt}
+use Rattle.text.specs.Words.{Word, wordAt, wordOf}
+
+module _ {A : Type 0} (itemAt : List ℕ → ℕ → A) (endAt : List ℕ → ℕ → ℕ) where
+  -- at most n items, each behind a space, by where each stands and ends
+  unfoldable pub listUpTo : ℕ → List ℕ → ℕ → List A
+  listUpTo zero s at = []
+  listUpTo (suc n) s at = cond (eqb (getD s at 0) 32) (itemAt s (at + 1) ∷ listUpTo n s (endAt s (at + 1))) []
+
+  -- the items that stand from a position on, each behind a space
+  unfoldable pub listAt : List ℕ → ℕ → List A
+  listAt s at = listUpTo (length s) s at
+
+-- the names from a position on
+unfoldable pub namesAt : List ℕ → ℕ → List Word
+namesAt s at = listAt wordOf wordEndAt s at
+
+-- where the first word stands in a bracket that opens at a position
+unfoldable pub firstIn : List ℕ → ℕ → ℕ
+firstIn s at = past 40 s at
+
+-- where its second word stands
+unfoldable pub secondIn : List ℕ → ℕ → ℕ
+secondIn s at = nextWord s (firstIn s at)
+
+-- where its third word stands
+unfoldable pub thirdIn : List ℕ → ℕ → ℕ
+thirdIn s at = nextWord s (secondIn s at)
+
+-- where a bracket of two words ends
+unfoldable pub pairEndAt : List ℕ → ℕ → ℕ
+pairEndAt s at = past 41 s (wordEndAt s (secondIn s at))
+
+-- where a bracket of three words ends
+unfoldable pub tripleEndAt : List ℕ → ℕ → ℕ
+tripleEndAt s at = past 41 s (wordEndAt s (thirdIn s at))
+
+-- the `(A v)` at a position
+unfoldable pub givenAt : List ℕ → ℕ → GivenForm
+givenAt s at = record { attribute = wordOf s (firstIn s at); value = wordOf s (secondIn s at) }
+
+-- the values of a user from a position on
+unfoldable pub givensAt : List ℕ → ℕ → List GivenForm
+givensAt s at = listAt givenAt pairEndAt s at
+
+-- the type that the word at a position names: `num`, or else `name`
+unfoldable pub kindAt : List ℕ → ℕ → Kind
+kindAt s at = cond (sameName (wordAt s at) (ascii "num")) numbers names
+
+-- the column of the `(COL num)` or `(COL num L)` at a position
+unfoldable pub columnAt : List ℕ → ℕ → ColumnForm
+columnAt s at = record { name = wordOf s (firstIn s at); kind = kindAt s (secondIn s at) }
+
+-- the columns of a table from a position on
+unfoldable pub columnsAt : List ℕ → ℕ → List ColumnForm
+columnsAt s at = listAt columnAt pairEndAt s at
+
+-- the columns of a table with a label at each, from a position on
+unfoldable pub labelledColumnsAt : List ℕ → ℕ → List ColumnForm
+labelledColumnsAt s at = listAt columnAt tripleEndAt s at
+
+-- the label of the `(COL num L)` at a position
+unfoldable pub columnLabelAt : List ℕ → ℕ → Word
+columnLabelAt s at = wordOf s (thirdIn s at)
+
+-- the labels of such columns from a position on
+unfoldable pub columnLabelsAt : List ℕ → ℕ → List Word
+columnLabelsAt s at = listAt columnLabelAt tripleEndAt s at
+
+-- the item of a row at a position: `(v L)` where a bracket opens, and else `v`
+unfoldable pub itemAt : List ℕ → ℕ → Item
+itemAt s at = cond (eqb (getD s at 0) 40) (labelled (wordOf s (firstIn s at)) (wordOf s (secondIn s at))) (plain (wordOf s at))
+
+-- where it ends
+unfoldable pub itemEndAt : List ℕ → ℕ → ℕ
+itemEndAt s at = cond (eqb (getD s at 0) 40) (pairEndAt s at) (wordEndAt s at)
+
+-- the items of a row from a position on
+unfoldable pub itemsAt : List ℕ → ℕ → List Item
+itemsAt s at = listAt itemAt itemEndAt s at
