@@ -11,4 +11,5 @@ pub mod Offending
 pub mod Ends
 pub mod Walking
 pub mod CodeEnds
+pub mod Reasons
 pub mod Computing

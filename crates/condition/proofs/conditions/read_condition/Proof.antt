@@ -1,0 +1,42 @@
+use mathlib.Core.Path.{_∙_, _≡_, ap, refl, sym}
+use mathlib.Core.Bool.{false}
+use mathlib.Core.List.{[], _∷_}
+use Rattle.condition.proofs.WalkLaws.{walk-counts, walk-refused}
+use Rattle.condition.specs.Answers.{counted}
+use Rattle.condition.specs.CondForm.{conditionInForm}
+use Rattle.text.specs.Reader.{from}
+use borrow.Author.Needs.{needs}
+use Rattle.condition.proofs.conditions.read_condition.Statement.{statement}
+use Rattle.condition.proofs.conditions.read_condition.Tie as tie
+use Rattle.condition.proofs.conditions.read_condition.Reads as reads
+use Rattle.condition.proofs.conditions.read_condition.Lts as lts
+use Rattle.condition.proofs.walk.walk_one.Reads as walk-one-reads
+
+slice-aggregate-walk-one : tie.Need-slice-aggregate-walk-one
+slice-aggregate-walk-one c = search needs
+
+walk-one-requires : tie.Need-walk-one-requires
+walk-one-requires c κs = search needs
+
+enum-known-w : tie.Need-enum-known-w
+enum-known-w c = search needs
+
+enum-told : tie.Need-enum-told
+enum-told c = search needs
+
+returns : tie.Need-returns
+unfolding conditionInForm
+returns c =
+    let o = conditionInForm (from (c .before .before .before .before .before .before .args .s .now) (c .before .before .before .before .before .before .args .at)) in
+    sym (walk-counts (false ∷ []) o _ _ _ (sym (c .before .before .before .walk-one .ensures) ∙ c .before .w .given .1))
+
+returns-2 : tie.Need-returns-2
+unfolding conditionInForm
+returns-2 c =
+    let o = conditionInForm (from (c .before .before .before .before .before .args .s .now) (c .before .before .before .before .before .args .at)) in
+    sym (ap counted (walk-refused (false ∷ []) o (sym (c .before .before .walk-one .ensures) ∙ c .enum-told .given .1)))
+
+pub read-condition-spec : {M : Type 1} → statement M
+read-condition-spec =
+    tie.close
+    (tie.spec slice-aggregate-walk-one walk-one-requires enum-known-w enum-told returns returns-2)

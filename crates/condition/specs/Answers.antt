@@ -1,0 +1,117 @@
+-- What the code's answers stand for.
+use Prim.Native.Nat.{_+_, ℕ}
+use lib.Dec.{eqb}
+use lib.ListN.{getD, length, take}
+use mathlib.Core.Bool.{Bool, _&&_, cond, false}
+use mathlib.Core.List.{List, [], _∷_, map}
+use mathlib.Core.Option.{Option, none, some}
+use mathlib.Core.Path.{_≡_}
+use Rattle.condition.specs.Cond.{Cond, Conds, both, comparisons, either, holds, last, more, negate, test}
+use Rattle.condition.specs.CondForm.{Compared, conditionInForm}
+use Rattle.condition.specs.Kinds.{Kind, Op, eq, ge, gt, le, lt, names, ne, numbers}
+use Rattle.lists.specs.Lists.{anyOf}
+use Rattle.text.specs.Bytes.{ascii}
+use Rattle.text.specs.Ends.{answer}
+use Rattle.text.specs.Names.{sameName}
+use Rattle.text.specs.Reader.{Left, from}
+use Rattle.text.specs.Walking.{nextWord}
+use Rattle.text.specs.Words.{Word, wordAt, wordOf}
+use Rattle.condition.specs.declared.comparisons.Wrong.{Wrong}
+use Rattle.condition.specs.declared.comparisons.Wrong.the-variants as wrong
+use Rattle.condition.specs.declared.conditions.Read.{Read}
+use Rattle.condition.specs.declared.conditions.Read.the-variants as read
+use Rattle.condition.specs.declared.kinds.Kind as kinds
+use Rattle.condition.specs.declared.kinds.Kind.the-variants as kind
+use Rattle.condition.specs.declared.kinds.Op as ops
+use Rattle.condition.specs.declared.kinds.Op.the-variants as op
+use Rattle.condition.specs.declared.walk.Walk.{Walk}
+use Rattle.condition.specs.declared.walk.Walk.the-variants as walk
+
+-- the type that the code's answer names
+abbrev pub kindOf : kinds.Kind → Kind
+kindOf kind.Num = numbers
+kindOf kind.Name = names
+
+-- the operator that the code's answer names
+abbrev pub opOf : ops.Op → Op
+opOf op.Eq = eq
+opOf op.Ne = ne
+opOf op.Lt = lt
+opOf op.Le = le
+opOf op.Gt = gt
+opOf op.Ge = ge
+
+-- the word is one of the six operators
+unfoldable pub isComparator : List ℕ → Bool
+isComparator w = anyOf (sameName w) (ascii "eq" ∷ ascii "ne" ∷ ascii "lt" ∷ ascii "le" ∷ ascii "gt" ∷ ascii "ge" ∷ [])
+
+-- the operator that the word is; `ge` where it is none of the other five
+unfoldable pub operatorOf : List ℕ → Op
+operatorOf w =
+    cond (sameName w (ascii "eq")) eq
+    (cond (sameName w (ascii "ne")) ne
+    (cond (sameName w (ascii "lt")) lt
+    (cond (sameName w (ascii "le")) le
+    (cond (sameName w (ascii "gt")) gt
+    ge))))
+
+-- the comparison whose operator stands at a position of a text: the name and the value are the two words behind it
+unfoldable pub comparedAt : List ℕ → ℕ → Compared
+comparedAt s at = record { op = operatorOf (wordAt s at); operator = wordOf s at; of = wordOf s (nextWord s at); value = wordOf s (nextWord s (nextWord s at)) }
+
+-- the word at the position that the code's answer names, if it names one
+abbrev pub wrongWord : List ℕ → Wrong → Option Word
+wrongWord s wrong.Nothing = none
+wrongWord s (wrong.At at) = some (wordOf s at)
+
+-- where a condition ends, and how many comparisons it has
+abbrev pub counted : Option (Cond Compared × Left) → Read
+counted o = answer read.At read.Refused (λ c. length (comparisons c)) o
+
+-- the comparisons of the condition that was read, from left to right
+abbrev pub comparedIn : Option (Cond Compared × Left) → List Compared
+comparedIn none = []
+comparedIn (some r) = comparisons (r .0)
+
+-- the comparisons of the condition at a position of a text, from left to right; none where there is no condition
+abbrev pub comparisonsAt : List ℕ → ℕ → List Compared
+comparisonsAt s at = comparedIn (conditionInForm (from s at))
+
+-- a condition was read, and it holds, given which comparisons do
+abbrev pub heldRead : (Compared → Bool) → Option (Cond Compared × Left) → Bool
+heldRead f none = false
+heldRead f (some r) = holds f (r .0)
+
+-- what the code's answer r and the positions that it stored say of the condition at a position of the text s: where it ends
+-- and how many comparisons it has, and the first 64 comparisons by the positions of their operators
+pub record Placed (s : List ℕ) (at : ℕ) (r : Read) (ops : List ℕ) : Type 0 where
+  pub reads : r ≡ counted (conditionInForm (from s at))
+  pub places : map (comparedAt s) (take (length (comparisonsAt s at)) ops) ≡ take 64 (comparisonsAt s at)
+
+-- ---- for the functions that are not called from outside
+
+-- `either` or `both`
+abbrev pub joining : {C : Type 0} → Bool → Conds C → Cond C
+joining one = cond one either both
+
+-- the condition with each comparison replaced by its number, counted from left to right, the first being k
+unfoldable mutual
+  pub numbered : {C : Type 0} → ℕ → Cond C → Cond ℕ
+  numbered k (test c) = test k
+  numbered k (negate c) = negate (numbered k c)
+  numbered k (both cs) = both (numberedAll k cs)
+  numbered k (either cs) = either (numberedAll k cs)
+
+  -- one condition or more, likewise
+  pub numberedAll : {C : Type 0} → ℕ → Conds C → Conds ℕ
+  numberedAll k (last c) = last (numbered k c)
+  numberedAll k (more c cs) = more (numbered k c) (numberedAll (k + length (comparisons c)) cs)
+
+-- where a condition ends, the number of the comparison behind it, and whether it holds, given the truths of the comparisons
+-- by their numbers
+abbrev pub walked : List Bool → ℕ → Option (Cond Compared × Left) → Walk
+walked truths k o = answer (λ e (y : ℕ × Bool). walk.At e (y .0) (y .1)) walk.Refused (λ c. (k + length (comparisons c), holds (λ n. getD truths n false) (numbered k c))) o
+
+-- a comparison's bracket opens at a position
+unfoldable pub opensComparison : List ℕ → ℕ → Bool
+opensComparison s at = eqb (getD s at 0) 40 && isComparator (wordAt s (at + 1))
