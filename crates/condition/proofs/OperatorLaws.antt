@@ -94,31 +94,30 @@ module _ (s : List ℕ) (at : ℕ) where
   no-bracket zero h = refl
   no-bracket (suc d) h = rw (byte-at-refused s at 40 h)
 
-  -- the operator, what stands behind it from e on, and the closing bracket
-  module _ (d e : ℕ) (nz : d ≡ 0 → ⊥) (b : getD s at 0 ≡ 40) (end : e ≡ at + 1 + length (wordAt s (at + 1))) where
-    -- what stands behind the operator
-    abbrev pub behind : Option (Cond Compared × Left)
-    behind = among (operators (condition (d - 1)) (wordOf s (at + 1))) (wordOf s (at + 1)) (from s e)
+  -- what stands behind the operator, from e on
+  abbrev pub behind : ℕ → ℕ → Option (Cond Compared × Left)
+  behind d e = among (operators (condition (d - 1)) (wordOf s (at + 1))) (wordOf s (at + 1)) (from s e)
 
-    pub opened : condition d (from s at) ≡ andThen behind (λ c. byte 41 >> give c)
-    unfolding condition bracketed inside
-    opened = go d nz refl
-      where
-        go : (n : ℕ) → (n ≡ 0 → ⊥) → d ≡ n → condition d (from s at) ≡ andThen behind (λ c. byte 41 >> give c)
-        go zero z q = absurd (z refl)
-        go (suc n) z q =
-            let m : suc n - 1 ≡ n = omega arith in
-            rw (q, byte-at-read s at 40 b, word-always s (at + 1), ← end, m)
+  -- the bracket, the operator, what stands behind it, and the closing bracket
+  pub opened : (d e : ℕ) → (d ≡ 0 → ⊥) → getD s at 0 ≡ 40 → e ≡ at + 1 + length (wordAt s (at + 1)) → condition d (from s at) ≡ andThen (behind d e) (λ c. byte 41 >> give c)
+  unfolding condition bracketed inside
+  opened zero e nz b q = absurd (nz refl)
+  opened (suc d) e nz b q =
+      let m : suc d - 1 ≡ d = omega arith in
+      rw (byte-at-read s at 40 b, word-always s (at + 1), ← q, m)
 
-    pub bracket-refused : behind ≡ none → condition d (from s at) ≡ none
-    bracket-refused h = opened ∙ ap (λ (o : Option (Cond Compared × Left)). andThen o (λ c. byte 41 >> give c)) h
+  module _ (d e : ℕ) (nz : d ≡ 0 → ⊥) (b : getD s at 0 ≡ 40) (q : e ≡ at + 1 + length (wordAt s (at + 1))) where
+    closes : (o : Option (Cond Compared × Left)) → behind d e ≡ o → condition d (from s at) ≡ andThen o (λ c. byte 41 >> give c)
+    closes o h = opened d e nz b q ∙ ap (λ (r : Option (Cond Compared × Left)). andThen r (λ c. byte 41 >> give c)) h
 
-    module _ (c : Cond Compared) (f : ℕ) (h : behind ≡ some (c, from s f)) where
-      pub bracket-closed : getD s f 0 ≡ 41 → condition d (from s at) ≡ some (c, from s (f + 1))
-      bracket-closed q = opened ∙ ap (λ (o : Option (Cond Compared × Left)). andThen o (λ x. byte 41 >> give x)) h ∙ (rw (byte-at-read s f 41 q))
+    pub bracket-refused : behind d e ≡ none → condition d (from s at) ≡ none
+    bracket-refused h = closes none h
 
-      pub bracket-open : (getD s f 0 ≡ 41 → ⊥) → condition d (from s at) ≡ none
-      bracket-open q = opened ∙ ap (λ (o : Option (Cond Compared × Left)). andThen o (λ x. byte 41 >> give x)) h ∙ (rw (byte-at-refused s f 41 q))
+    pub bracket-closed : (c : Cond Compared) (f : ℕ) → behind d e ≡ some (c, from s f) → getD s f 0 ≡ 41 → condition d (from s at) ≡ some (c, from s (f + 1))
+    bracket-closed c f h k = closes (some (c, from s f)) h ∙ (rw (byte-at-read s f 41 k))
+
+    pub bracket-open : (c : Cond Compared) (f : ℕ) → behind d e ≡ some (c, from s f) → (getD s f 0 ≡ 41 → ⊥) → condition d (from s at) ≡ none
+    bracket-open c f h k = closes (some (c, from s f)) h ∙ (rw (byte-at-refused s f 41 k))
 
 -- ---- `not`
 
@@ -152,21 +151,20 @@ module _ (o : Op) (w : Word) (s : List ℕ) (at : ℕ) where
     unfolding compared next
     compared-unnamed n = rw (byte-at-read s at 32 b, n)
 
-    module _ (a : Word) (e : ℕ) (n : name (from s (at + 1)) ≡ some (a, from s e)) where
-      pub compared-alone : (getD s e 0 ≡ 32 → ⊥) → compared o w (from s at) ≡ none
-      unfolding compared next
-      compared-alone h = rw (byte-at-read s at 32 b, n, byte-at-refused s e 32 h)
+    pub compared-alone : (a : Word) (e : ℕ) → name (from s (at + 1)) ≡ some (a, from s e) → (getD s e 0 ≡ 32 → ⊥) → compared o w (from s at) ≡ none
+    unfolding compared next
+    compared-alone a e n h = rw (byte-at-read s at 32 b, n, byte-at-refused s e 32 h)
 
-      pub compared-value : getD s e 0 ≡ 32 → compared o w (from s at) ≡ andThen (value (from s (e + 1))) (λ v. give (test (record { op = o; operator = w; of = a; value = v })))
-      unfolding compared next
-      compared-value h = rw (byte-at-read s at 32 b, n, byte-at-read s e 32 h)
+    pub compared-value : (a : Word) (e : ℕ) → name (from s (at + 1)) ≡ some (a, from s e) → getD s e 0 ≡ 32 → compared o w (from s at) ≡ andThen (value (from s (e + 1))) (λ v. give (test (record { op = o; operator = w; of = a; value = v })))
+    unfolding compared next
+    compared-value a e n h = rw (byte-at-read s at 32 b, n, byte-at-read s e 32 h)
 
 -- a comparison that was read: the bytes of it, and its words
 pub record ReadCompared (o : Op) (w : Word) (s : List ℕ) (at : ℕ) (c : Cond Compared) (l : Left) : Type 0 where
   pub space : getD s at 0 ≡ 32
   pub space2 : getD s (at + 1 + length (wordAt s (at + 1))) 0 ≡ 32
   pub what : c ≡ test (record { op = o; operator = w; of = wordOf s (at + 1); value = wordOf s (at + 1 + length (wordAt s (at + 1)) + 1) })
-  pub end : l ≡ from s (at + 1 + length (wordAt s (at + 1)) + 1 + length (wordAt s (at + 1 + length (wordAt s (at + 1)) + 1)))
+  pub ends : l ≡ from s (at + 1 + length (wordAt s (at + 1)) + 1 + length (wordAt s (at + 1 + length (wordAt s (at + 1)) + 1)))
 
 module _ (o : Op) (w : Word) (s : List ℕ) (at : ℕ) (c : Cond Compared) (l : Left) (h : compared o w (from s at) ≡ some (c, l)) where
   pub compared-got : ReadCompared o w s at c l
@@ -180,7 +178,7 @@ module _ (o : Op) (w : Word) (s : List ℕ) (at : ℕ) (c : Cond Compared) (l : 
           let x : Cond Compared = test (record { op = o; operator = w; of = wordOf s (at + 1); value = wordOf s (e + 1) }) in
           let q : compared o w (from s at) ≡ some (x, from s (e + 1 + length (wordAt s (e + 1)))) = compared-value o w s at b (wordOf s (at + 1)) e (word-read s (at + 1) isName n) b2 ∙ (rw (word-read s (e + 1) isValue v)) in
           let g = got (x, from s (e + 1 + length (wordAt s (e + 1)))) c l (sym q ∙ h) in
-          record { space = b; space2 = b2; what = sym (g .0); end = sym (g .1) }
+          record { space = b; space2 = b2; what = sym (g .0); ends = sym (g .1) }
       fourth b n b2 false v =
           let q : compared o w (from s at) ≡ none = compared-value o w s at b (wordOf s (at + 1)) e (word-read s (at + 1) isName n) b2 ∙ (rw (word-refused s (e + 1) isValue v)) in
           not-read (c, l) (sym q ∙ h)
@@ -218,5 +216,5 @@ module _ (o : Op) (w : Word) (s : List ℕ) (at : ℕ) where
       go (some r) q k =
           let g = compared-got o w s at (r .0) (r .1) q in
           let same : r .1 .at ≡ e = cc in
-          let l : r .1 ≡ from s e = g .end ∙ ap (from s) (sym (ap (λ (m : Left). m .at) (g .end)) ∙ same) in
+          let l : r .1 ≡ from s e = g .ends ∙ ap (from s) (sym (ap (λ (m : Left). m .at) (g .ends)) ∙ same) in
           (q ∙ (λ i. some (g .what i, l i)), before-end s at (λ z. absurd (omega (arith, g .space, z))))

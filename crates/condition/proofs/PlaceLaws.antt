@@ -5,31 +5,29 @@ use borrow.Author.Tests.{eq-eqb, eqb-false, eqb-true, leb-false, leb-true, ne-eq
 use lib.Dec.{eqb, leb}
 use lib.ListN.{getD, length, length-map, length-set, set, take}
 use lib.Seq.{length-take-le, take-all, take-append-le, take-length, take-suc-set}
-use mathlib.Core.Bool.{Bool, _&&_, cond, false, false≢true, true}
+use mathlib.Core.Bool.{Bool, cond, false, false≢true, true}
 use mathlib.Core.List.{List, [], _++_, _∷_, append-assoc, append-nil, map}
-use mathlib.Core.Option.{Option, none, some}
+use mathlib.Core.Option.{some}
 use mathlib.Core.Path.{_∙_, _≡_, ap, refl, subst, sym}
 use native.Mathlib.Nat.{add-assoc, add-zero}
 use native.Mathlib.Numerals.{add-one}
 use native.Mathlib.Omega.{arith}
 use Rattle.condition.proofs.CondLaws.{comparisonsOf-more}
-use Rattle.condition.proofs.OperatorLaws as OperatorLaws
-use Rattle.condition.proofs.OperatorLaws.{ReadCompared, compared-got, opened, operators-and, operators-compare, operators-none, operators-not, operators-or}
+use Rattle.condition.proofs.OperatorLaws.{ReadCompared, compared-got, no-bracket, opened, operators-and, operators-compare, operators-none, operators-not, operators-or}
 use Rattle.condition.specs.Answers.{comparedAt, isComparator, opensComparison, operatorOf}
 use Rattle.condition.specs.Cond.{Cond, Conds, both, comparisons, comparisonsOf, either, negate, test}
-use Rattle.condition.specs.CondForm.{Compared, compared, condition, conditionInForm, conditions, inRow, inside, negation, operators}
+use Rattle.condition.specs.CondForm.{Compared, compared, condition, conditionInForm, conditions, inRow, negation, operators}
 use Rattle.condition.specs.Kinds.{Op}
-use Rattle.text.proofs.Lefts.{first-drop, skip-from}
 use Rattle.text.proofs.ReaderLaws.{byte-at-read, byte-at-refused, got, not-read, then-some}
 use Rattle.text.proofs.WordLaws.{word-always, word-more, word-read, word-refused, word-stop}
-use Rattle.text.specs.Brackets.{among, bracketed, many, next, upTo}
+use Rattle.text.specs.Brackets.{among, many, next, upTo}
 use Rattle.text.specs.Bytes.{ascii, isDigit, isLetter, isNameByte}
 use Rattle.text.specs.Names.{isName, sameName}
 use Rattle.text.specs.Numbers.{isValue}
 use Rattle.text.specs.Reader.{Left, Reader, _>>=_, _>>_, andThen, byte, from, give, ifNext, nextIs, refuse}
 use Rattle.text.proofs.WalkingLaws.{past-here}
 use Rattle.text.specs.Walking.{nextWord, wordEndAt}
-use Rattle.text.specs.Words.{Word, isCalled, name, value, word, wordAt, wordOf, wordThat}
+use Rattle.text.specs.Words.{Word, name, value, word, wordAt, wordOf, wordThat}
 
 -- the position in front of others, where the test holds
 abbrev pub withPlace : Bool → ℕ → List ℕ → List ℕ
@@ -100,13 +98,13 @@ module _ (s : List ℕ) where
         ∙ sym (append-assoc xs (comparedAt s (at + 1) ∷ []) (opening m (at + 1)));
   }
 
-  no-bracket : (at b : ℕ) → getD s at 0 ≡ b → (b ≡ 40 → ⊥) → opensComparison s at ≡ false
+  no-opening : (at b : ℕ) → getD s at 0 ≡ b → (b ≡ 40 → ⊥) → opensComparison s at ≡ false
   unfolding opensComparison
-  no-bracket at b h n = rw (ne-eqb (getD s at 0) 40 (λ z. n (sym h ∙ z)))
+  no-opening at b h n = rw (ne-eqb (getD s at 0) 40 (λ z. n (sym h ∙ z)))
 
   -- name bytes open none
   name-byte-no : (at : ℕ) → isNameByte (getD s at 0) ≡ true → opensComparison s at ≡ false
-  name-byte-no at h = no-bracket at (getD s at 0) refl (λ z. not-forty (ap isNameByte (sym z) ∙ h))
+  name-byte-no at h = no-opening at (getD s at 0) refl (λ z. not-forty (ap isNameByte (sym z) ∙ h))
     where
       not-forty : isNameByte 40 ≡ true → ⊥
       not-forty h = unfold isNameByte isLetter isDigit in absurd (false≢true h)
@@ -177,7 +175,7 @@ module _ (s : List ℕ) where
       go : (t : Bool) → eqb (getD s at 0) b ≡ t → Shown ys at l ys
       go true e =
           let g = got (b, from s (at + 1)) c l (sym (byte-at-read s at b (eqb-true _ _ e)) ∙ h) in
-          subst (λ (k : Left). Shown ys at k ys) (g .1) (shown-byte ys at (no-bracket at b (eqb-true _ _ e) n))
+          subst (λ (k : Left). Shown ys at k ys) (g .1) (shown-byte ys at (no-opening at b (eqb-true _ _ e) n))
       go false e = not-read (c, l) (sym (byte-at-refused s at b (eqb-false _ _ e)) ∙ h)
 
   silent-word : Silent word
@@ -336,7 +334,7 @@ module _ (s : List ℕ) where
       go item true t =
           let b = eqb-true _ _ t in
           shows-bracket (condition (suc n - 1)) item ys at c l b (sym (opened s at (suc n) (at + 1 + length (wordAt s (at + 1))) (λ z. absurd (omega (arith, z))) b refl) ∙ h)
-      go item false t = not-read (c, l) (sym (OperatorLaws.no-bracket s at (suc n) (eqb-false _ _ t)) ∙ h)
+      go item false t = not-read (c, l) (sym (no-bracket s at (suc n) (eqb-false _ _ t)) ∙ h)
 
 -- PLACES: the brackets of comparisons that open in a condition that was read are its comparisons, from left to right
 pub places-read : (s : List ℕ) (at e : ℕ) (c : Cond Compared) → conditionInForm (from s at) ≡ some (c, from s e) → map (comparedAt s) (placesIn s (e - at) at) ≡ comparisons c
@@ -362,71 +360,67 @@ filled ops ps n h e = go (leb (length ps) (length ops)) refl
 
     go : (t : Bool) → leb (length ps) (length ops) ≡ t → take (length ps) ops ≡ take (length ops) ps
     go true t =
-        let whole : take (length ops) ps ≡ ps = take-all (length ops) ps (leb-true _ _ t) in
-        let k : length ps ≡ n = ap length (sym whole) ∙ long in
+        let all : take (length ops) ps ≡ ps = take-all (length ops) ps (leb-true _ _ t) in
+        let k : length ps ≡ n = ap length (sym all) ∙ long in
         ap (λ (m : ℕ). take m ops) k ∙ e
     go false t =
         let l : length ops < length ps = leb-false _ _ t in
         let k : n ≡ length ops = sym long ∙ length-take-le (length ops) ps (omega arith) in
         take-all (length ps) ops (omega arith) ∙ sym (take-length ops) ∙ ap (λ (m : ℕ). take m ops) (sym k) ∙ e
 
-module _ (s : List ℕ) (at end room : ℕ) where
+module _ (s : List ℕ) (at stop room : ℕ) where
   -- n places are stored in ops, and with those that open from i on they are all
   pub record Storing (ops : List ℕ) (i n : ℕ) : Type 0 where
     pub long : length ops ≡ room
     pub few : n ≤ room
-    pub same : take room (take n ops ++ placesIn s (end - i) i) ≡ take room (placesIn s (end - at) at)
+    pub same : take room (take n ops ++ placesIn s (stop - i) i) ≡ take room (placesIn s (stop - at) at)
 
   pub storing-start : (ops : List ℕ) → length ops ≡ room → Storing ops at 0
   storing-start ops h = record { long = h; few = omega arith; same = refl }
 
   module _ (ops : List ℕ) (i n : ℕ) (p : Storing ops i n) where
-    left : i < end → end - i ≡ suc (end - (i + 1))
+    left : i < stop → stop - i ≡ suc (stop - (i + 1))
     left h = omega arith
 
-    pub storing-next : i < end → opensComparison s i ≡ false → Storing ops (i + 1) n
+    pub storing-next : i < stop → opensComparison s i ≡ false → Storing ops (i + 1) n
     storing-next h e = record {
       long = p .long;
       few = p .few;
-      same = ap (λ (l : List ℕ). take room (take n ops ++ l)) (sym (ap (λ (k : ℕ). placesIn s k i) (left h) ∙ places-next s (end - (i + 1)) i e)) ∙ p .same;
+      same = ap (λ (l : List ℕ). take room (take n ops ++ l)) (sym (ap (λ (k : ℕ). placesIn s k i) (left h) ∙ places-next s (stop - (i + 1)) i e)) ∙ p .same;
     }
 
-    pub storing-more : i < end → opensComparison s i ≡ true → n < room → Storing (set ops n (i + 1)) (i + 1) (n + 1)
+    pub storing-more : i < stop → opensComparison s i ≡ true → n < room → Storing (set ops n (i + 1)) (i + 1) (n + 1)
     storing-more h e f = record {
       long = length-set ops n (i + 1) ∙ p .long;
       few = omega arith;
       same =
-          ap (λ (m : ℕ). take room (take m (set ops n (i + 1)) ++ placesIn s (end - (i + 1)) (i + 1))) (add-one n)
-          ∙ ap (λ (l : List ℕ). take room (l ++ placesIn s (end - (i + 1)) (i + 1))) (take-suc-set ops n (i + 1) (omega (arith, p .long)))
-          ∙ ap (take room) (append-assoc (take n ops) ((i + 1) ∷ []) (placesIn s (end - (i + 1)) (i + 1)))
-          ∙ ap (λ (l : List ℕ). take room (take n ops ++ l)) (sym (ap (λ (k : ℕ). placesIn s k i) (left h) ∙ places-here s (end - (i + 1)) i e))
+          ap (λ (m : ℕ). take room (take m (set ops n (i + 1)) ++ placesIn s (stop - (i + 1)) (i + 1))) (add-one n)
+          ∙ ap (λ (l : List ℕ). take room (l ++ placesIn s (stop - (i + 1)) (i + 1))) (take-suc-set ops n (i + 1) (omega (arith, p .long)))
+          ∙ ap (take room) (append-assoc (take n ops) ((i + 1) ∷ []) (placesIn s (stop - (i + 1)) (i + 1)))
+          ∙ ap (λ (l : List ℕ). take room (take n ops ++ l)) (sym (ap (λ (k : ℕ). placesIn s k i) (left h) ∙ places-here s (stop - (i + 1)) i e))
           ∙ p .same;
     }
 
-    module _ (c : Cond Compared) (h : conditionInForm (from s at) ≡ some (c, from s end)) where
-      ps : List ℕ
-      ps = placesIn s (end - at) at
+  module _ (ops : List ℕ) (i n : ℕ) (p : Storing ops i n) (c : Cond Compared) (h : conditionInForm (from s at) ≡ some (c, from s stop)) where
+    stored : take n ops ≡ take room (placesIn s (stop - at) at) → map (comparedAt s) (take (length (comparisons c)) ops) ≡ take room (comparisons c)
+    stored e =
+        let g = comparedAt s in
+        let ps = placesIn s (stop - at) at in
+        let m : map g ps ≡ comparisons c = places-read s at stop c h in
+        let k : length (comparisons c) ≡ length ps = ap length (sym m) ∙ length-map ps g in
+        let f : take (length ps) ops ≡ take (length ops) ps = filled ops ps n (omega (arith, p .few, p .long)) (e ∙ ap (λ (r : ℕ). take r ps) (sym (p .long))) in
+        ap (λ (r : ℕ). map g (take r ops)) k ∙ ap (map g) (f ∙ ap (λ (r : ℕ). take r ps) (p .long)) ∙ map-take g room ps ∙ ap (take room) m
 
-      stored : take n ops ≡ take room ps → map (comparedAt s) (take (length (comparisons c)) ops) ≡ take room (comparisons c)
-      unfolding ps
-      stored e =
-          let g = comparedAt s in
-          let m : map g ps ≡ comparisons c = places-read s at end c h in
-          let k : length (comparisons c) ≡ length ps = ap length (sym m) ∙ length-map ps g in
-          let f : take (length ps) ops ≡ take (length ops) ps = filled ops ps n (omega (arith, p .few, p .long)) (e ∙ ap (λ (r : ℕ). take r ps) (sym (p .long))) in
-          ap (λ (r : ℕ). map g (take r ops)) k ∙ ap (map g) (f ∙ ap (λ (r : ℕ). take r ps) (p .long)) ∙ map-take g room ps ∙ ap (take room) m
+    -- there is no more room
+    pub stored-full : n ≡ length ops → map (comparedAt s) (take (length (comparisons c)) ops) ≡ take room (comparisons c)
+    stored-full e =
+        let l : length (take n ops) ≡ room = length-take-le n ops (omega arith) ∙ e ∙ p .long in
+        stored (sym (take-all room (take n ops) (omega (arith, l))) ∙ sym (take-append-le room (take n ops) (placesIn s (stop - i) i) (omega (arith, l))) ∙ p .same)
 
-      -- there is no more room
-      pub stored-full : n ≡ length ops → map (comparedAt s) (take (length (comparisons c)) ops) ≡ take room (comparisons c)
-      unfolding ps
-      stored-full e =
-          let l : length (take n ops) ≡ room = length-take-le n ops (omega arith) ∙ e ∙ p .long in
-          stored (sym (take-all room (take n ops) (omega (arith, l))) ∙ sym (take-append-le room (take n ops) (placesIn s (end - i) i) (omega (arith, l))) ∙ p .same)
-
-      -- the condition has ended
-      pub stored-end : end ≤ i → map (comparedAt s) (take (length (comparisons c)) ops) ≡ take room (comparisons c)
-      unfolding ps placesIn
-      stored-end e =
-          let z : end - i ≡ 0 = omega arith in
-          let l : length (take n ops) ≡ n = length-take-le n ops (omega (arith, p .few, p .long)) in
-          stored (sym (take-all room (take n ops) (omega (arith, l, p .few))) ∙ ap (take room) (sym (append-nil (take n ops))) ∙ ap (λ (k : ℕ). take room (take n ops ++ placesIn s k i)) (sym z) ∙ p .same)
+    -- the condition has ended
+    pub stored-end : stop ≤ i → map (comparedAt s) (take (length (comparisons c)) ops) ≡ take room (comparisons c)
+    unfolding placesIn
+    stored-end e =
+        let z : stop - i ≡ 0 = omega arith in
+        let l : length (take n ops) ≡ n = length-take-le n ops (omega (arith, p .few, p .long)) in
+        stored (sym (take-all room (take n ops) (omega (arith, l, p .few))) ∙ ap (take room) (sym (append-nil (take n ops))) ∙ ap (λ (k : ℕ). take room (take n ops ++ placesIn s k i)) (sym z) ∙ p .same)

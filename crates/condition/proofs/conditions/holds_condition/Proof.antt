@@ -1,14 +1,11 @@
-use mathlib.Core.Path.{_∙_, _≡_, ap, refl, sym}
+use borrow.Author.Needs.{needs}
+use mathlib.Core.Path.{_∙_, _≡_, ap, sym}
 use Rattle.condition.proofs.WalkLaws.{walk-holds, walk-refused}
-use Rattle.condition.specs.Answers.{heldRead}
+use Rattle.condition.specs.Answers.{heldRead, walked}
 use Rattle.condition.specs.CondForm.{conditionInForm}
 use Rattle.text.specs.Reader.{from}
-use borrow.Author.Needs.{needs}
 use Rattle.condition.proofs.conditions.holds_condition.Statement.{statement}
 use Rattle.condition.proofs.conditions.holds_condition.Tie as tie
-use Rattle.condition.proofs.conditions.holds_condition.Reads as reads
-use Rattle.condition.proofs.conditions.holds_condition.Lts as lts
-use Rattle.condition.proofs.walk.walk_one.Reads as walk-one-reads
 
 walk-one-requires : tie.Need-walk-one-requires
 walk-one-requires c κs = search needs
@@ -23,13 +20,15 @@ returns : tie.Need-returns
 unfolding conditionInForm
 returns c =
     let o = conditionInForm (from (c .before .before .before .before .before .before .args .s .now) (c .before .before .before .before .before .before .args .at)) in
-    walk-holds (c .before .before .before .before .before .before .args .truths .now) o _ _ _ (sym (c .before .before .before .walk-one .ensures) ∙ c .before .w .given .1)
+    let told : c .before .before .before .walk-one .result ≡ walked (c .before .before .before .before .before .before .args .truths .now) 0 o = c .before .before .before .walk-one .ensures in
+    walk-holds (c .before .before .before .before .before .before .args .truths .now) o _ _ _ (sym told ∙ c .before .w .given .1)
 
 returns-2 : tie.Need-returns-2
 unfolding conditionInForm
 returns-2 c =
     let o = conditionInForm (from (c .before .before .before .before .before .args .s .now) (c .before .before .before .before .before .args .at)) in
-    λ f g. sym (ap (heldRead f) (walk-refused (c .before .before .before .before .before .args .truths .now) o (sym (c .before .before .walk-one .ensures) ∙ c .enum-told .given .1)))
+    let told : c .before .before .walk-one .result ≡ walked (c .before .before .before .before .before .args .truths .now) 0 o = c .before .before .walk-one .ensures in
+    λ f g. sym (ap (heldRead f) (walk-refused (c .before .before .before .before .before .args .truths .now) o (sym told ∙ c .enum-told .given .1)))
 
 pub holds-condition-spec : {M : Type 1} → statement M
 holds-condition-spec =

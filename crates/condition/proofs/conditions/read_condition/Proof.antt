@@ -1,16 +1,13 @@
-use mathlib.Core.Path.{_∙_, _≡_, ap, refl, sym}
+use borrow.Author.Needs.{needs}
 use mathlib.Core.Bool.{false}
 use mathlib.Core.List.{[], _∷_}
+use mathlib.Core.Path.{_∙_, _≡_, ap, sym}
 use Rattle.condition.proofs.WalkLaws.{walk-counts, walk-refused}
-use Rattle.condition.specs.Answers.{counted}
+use Rattle.condition.specs.Answers.{counted, walked}
 use Rattle.condition.specs.CondForm.{conditionInForm}
 use Rattle.text.specs.Reader.{from}
-use borrow.Author.Needs.{needs}
 use Rattle.condition.proofs.conditions.read_condition.Statement.{statement}
 use Rattle.condition.proofs.conditions.read_condition.Tie as tie
-use Rattle.condition.proofs.conditions.read_condition.Reads as reads
-use Rattle.condition.proofs.conditions.read_condition.Lts as lts
-use Rattle.condition.proofs.walk.walk_one.Reads as walk-one-reads
 
 slice-aggregate-walk-one : tie.Need-slice-aggregate-walk-one
 slice-aggregate-walk-one c = search needs
@@ -28,13 +25,15 @@ returns : tie.Need-returns
 unfolding conditionInForm
 returns c =
     let o = conditionInForm (from (c .before .before .before .before .before .before .args .s .now) (c .before .before .before .before .before .before .args .at)) in
-    sym (walk-counts (false ∷ []) o _ _ _ (sym (c .before .before .before .walk-one .ensures) ∙ c .before .w .given .1))
+    let w : c .before .before .before .walk-one .result ≡ walked (false ∷ []) 0 o = c .before .before .before .walk-one .ensures in
+    sym (walk-counts (false ∷ []) o _ _ _ (sym w ∙ c .before .w .given .1))
 
 returns-2 : tie.Need-returns-2
 unfolding conditionInForm
 returns-2 c =
     let o = conditionInForm (from (c .before .before .before .before .before .args .s .now) (c .before .before .before .before .before .args .at)) in
-    sym (ap counted (walk-refused (false ∷ []) o (sym (c .before .before .walk-one .ensures) ∙ c .enum-told .given .1)))
+    let w : c .before .before .walk-one .result ≡ walked (false ∷ []) 0 o = c .before .before .walk-one .ensures in
+    sym (ap counted (walk-refused (false ∷ []) o (sym w ∙ c .enum-told .given .1)))
 
 pub read-condition-spec : {M : Type 1} → statement M
 read-condition-spec =

@@ -1,8 +1,9 @@
 use Prim.Native.Nat.{_*_, _+_, _-_, _<_, _≤_, ℕ}
 use borrow.Author.Needs.{needs}
+use borrow.Fn.Kinds.{In}
+use borrow.Fn.PlainCycle.{Measures, and, falls, is}
 use lib.ListN.{getD, length}
 use mathlib.Core.Bool.{Bool, false, not, true}
-use mathlib.Core.Option.{Option}
 use mathlib.Core.Path.{_∙_, _≡_, ap, sym}
 use native.Mathlib.Omega.{arith}
 use Rattle.condition.proofs.CondEats.{eats-behind, eats-condition, size}
@@ -11,18 +12,16 @@ use Rattle.condition.proofs.WalkLaws.{join, list-end, list-more, list-n
 use Rattle.condition.specs.Answers.{isComparator, joining, numbered, operatorOf, walked}
 use Rattle.condition.specs.Cond.{Cond, both, comparisons, either, holds}
 use Rattle.condition.specs.CondForm.{Compared, compared, condition, conditions, negation, operators}
-use Rattle.text.proofs.AnswerLaws.{ReadAt, answerOf, read-at, read-refused}
+use Rattle.text.proofs.AnswerLaws.{answerOf, read-at, read-refused}
 use Rattle.text.proofs.Lefts.{before-end}
 use Rattle.text.proofs.ManyLaws.{many-wrong}
 use Rattle.text.specs.Brackets.{among, many}
 use Rattle.text.specs.Bytes.{ascii}
 use Rattle.text.specs.Names.{sameName}
 use Rattle.text.specs.Reader.{Reader, from}
-use Rattle.text.specs.Words.{Word, wordAt, wordOf}
+use Rattle.text.specs.Words.{wordAt, wordOf}
 use Rattle.condition.specs.declared.walk.Walk.{Walk}
 use Rattle.condition.specs.declared.walk.Walk.the-variants as walk
-use borrow.Fn.Kinds.{In}
-use borrow.Fn.PlainCycle.{Measures, is, falls, and}
 use Rattle.condition.proofs.walk.walk_list.Reads as walk-list
 use Rattle.condition.proofs.walk.walk_list.Kinds as walk-list-kinds
 use Rattle.condition.proofs.walk.+walk_list+walk_one+walk_rest.Lts-walk_list as walk-list-lts
@@ -100,9 +99,9 @@ walk-list-returns t c =
     let at = c .before .before .before .before .args .at in
     let d = c .before .before .before .before .args .depth in
     let k = c .before .before .before .before .args .k in
-    let T = c .before .before .before .before .args .truths .now in
+    let ts = c .before .before .before .before .args .truths .now in
     let j = c .before .before .before .before .args .one in
-    sym (ap (walked T k) (list-none j T (condition d) (λ c. 2 + size c) (eats-condition d) s at (λ z. c .if1 .taken (c .before .byte-at .ensures ∙ z))))
+    sym (ap (walked ts k) (list-none j ts (condition d) (λ c. 2 + size c) (eats-condition d) s at (λ z. c .if1 .taken (c .before .byte-at .ensures ∙ z))))
 
 walk-list-loop-holds : (t : ℕ) → walk-list-lts.Need-loop-holds (walk-list-calls t) (walk-list-at t) walk-list.Post walk-list-Inv-loop walk-list-μ-loop
 walk-list-loop-holds t c =
@@ -110,10 +109,10 @@ walk-list-loop-holds t c =
     let at = c .before .before .before .before .args .at in
     let d = c .before .before .before .before .args .depth in
     let k = c .before .before .before .before .args .k in
-    let T = c .before .before .before .before .args .truths .now in
+    let ts = c .before .before .before .before .args .truths .now in
     let j = c .before .before .before .before .args .one in
     let sp : getD s at 0 ≡ 32 = sym (c .before .byte-at .ensures) ∙ c .if1 .left in
-    (sym (list-start j T (condition d) (λ c. 2 + size c) (eats-condition d) s k at sp), c .before .before .before .before .pre .1, omega arith)
+    (sym (list-start j ts (condition d) (λ c. 2 + size c) (eats-condition d) s k at sp), c .before .before .before .before .pre .1, omega arith)
 
 walk-list-byte-at-requires-2 : (t : ℕ) → walk-list-lts.Need-byte-at-requires-2 (walk-list-calls t) (walk-list-at t) walk-list.Post walk-list-Inv-loop walk-list-μ-loop
 walk-list-byte-at-requires-2 t c κs = search needs
@@ -138,14 +137,15 @@ walk-list-returns-2 : (t : ℕ) → walk-list-lts.Need-returns-2 (walk-list-call
 walk-list-returns-2 t c =
     let s = c .before .before .before .before .before .before .before .before .before .before .args .s .now in
     let d = c .before .before .before .before .before .before .before .before .before .before .args .depth in
-    let T = c .before .before .before .before .before .before .before .before .before .before .args .truths .now in
+    let ts = c .before .before .before .before .before .before .before .before .before .before .args .truths .now in
     let j = c .before .before .before .before .before .before .before .before .before .before .args .one in
     let i = c .before .before .before .before .before .loop .i in
     let n = c .before .before .before .before .before .loop .n in
     let far = c .before .before .before .before .before .loop .so-far in
     let sp : getD s i 0 ≡ 32 = sym (c .before .before .before .before .byte-at2 .ensures) ∙ c .before .before .before .if2 .taken in
-    let none-there = read-refused walks (condition d) (walkOf T n) (λ c. 2 + size c) (eats-condition d) s (i + 1) (sym (c .before .before .walk-one .ensures) ∙ c .enum-told .given .1) in
-    sym (ap (answerOf walks (listOf j T far n)) (many-wrong (λ c. 2 + size c) (condition d) (eats-condition d) s i sp none-there)) ∙ c .before .before .before .before .before .loop .inv .0
+    let told-of : c .before .before .walk-one .result ≡ walked ts n (condition d (from s (i + 1))) = c .before .before .walk-one .ensures in
+    let none-there = read-refused walks (condition d) (walkOf ts n) (λ c. 2 + size c) (eats-condition d) s (i + 1) (sym told-of ∙ c .enum-told .given .1) in
+    sym (ap (answerOf walks (listOf j ts far n)) (many-wrong (λ c. 2 + size c) (condition d) (eats-condition d) s i sp none-there)) ∙ c .before .before .before .before .before .loop .inv .0
 
 walk-list-joined-requires : (t : ℕ) → walk-list-lts.Need-joined-requires (walk-list-calls t) (walk-list-at t) walk-list.Post walk-list-Inv-loop walk-list-μ-loop
 walk-list-joined-requires t c κs = search needs
@@ -154,21 +154,22 @@ walk-list-loop-less : (t : ℕ) → walk-list-lts.Need-loop-less (walk-list-call
 walk-list-loop-less t c =
     let s = c .before .before .before .before .before .before .before .before .before .before .before .before .args .s .now in
     let d = c .before .before .before .before .before .before .before .before .before .before .before .before .args .depth in
-    let T = c .before .before .before .before .before .before .before .before .before .before .before .before .args .truths .now in
+    let ts = c .before .before .before .before .before .before .before .before .before .before .before .before .args .truths .now in
     let i = c .before .before .before .before .before .before .before .loop .i in
     let n = c .before .before .before .before .before .before .before .loop .n in
     let sp : getD s i 0 ≡ 32 = sym (c .before .before .before .before .before .before .byte-at2 .ensures) ∙ c .before .before .before .before .before .if2 .taken in
     let e = c .before .before .c .given .0 .0 in
     let m = c .before .before .c .given .0 .1 .0 in
     let b = c .before .before .c .given .0 .1 .1 .0 in
-    let r = read-at walks (condition d) (walkOf T n) (λ c. 2 + size c) (eats-condition d) s (i + 1) e (m, b) (sym (c .before .before .before .before .walk-one .ensures) ∙ c .before .before .c .given .1) in
+    let told-of : c .before .before .before .before .walk-one .result ≡ walked ts n (condition d (from s (i + 1))) = c .before .before .before .before .walk-one .ensures in
+    let r = read-at walks (condition d) (walkOf ts n) (λ c. 2 + size c) (eats-condition d) s (i + 1) e (m, b) (sym told-of ∙ c .before .before .c .given .1) in
     omega (arith, r .past, before-end s i (λ z. absurd (omega (arith, sp, z))))
 
 walk-list-loop-again : (t : ℕ) → walk-list-lts.Need-loop-again (walk-list-calls t) (walk-list-at t) walk-list.Post walk-list-Inv-loop walk-list-μ-loop
 walk-list-loop-again t c =
     let s = c .before .before .before .before .before .before .before .before .before .before .before .before .args .s .now in
     let d = c .before .before .before .before .before .before .before .before .before .before .before .before .args .depth in
-    let T = c .before .before .before .before .before .before .before .before .before .before .before .before .args .truths .now in
+    let ts = c .before .before .before .before .before .before .before .before .before .before .before .before .args .truths .now in
     let j = c .before .before .before .before .before .before .before .before .before .before .before .before .args .one in
     let i = c .before .before .before .before .before .before .before .loop .i in
     let n = c .before .before .before .before .before .before .before .loop .n in
@@ -177,12 +178,13 @@ walk-list-loop-again t c =
     let e = c .before .before .c .given .0 .0 in
     let m = c .before .before .c .given .0 .1 .0 in
     let b = c .before .before .c .given .0 .1 .1 .0 in
-    let r = read-at walks (condition d) (walkOf T n) (λ c. 2 + size c) (eats-condition d) s (i + 1) e (m, b) (sym (c .before .before .before .before .walk-one .ensures) ∙ c .before .before .c .given .1) in
+    let told-of : c .before .before .before .before .walk-one .result ≡ walked ts n (condition d (from s (i + 1))) = c .before .before .before .before .walk-one .ensures in
+    let r = read-at walks (condition d) (walkOf ts n) (λ c. 2 + size c) (eats-condition d) s (i + 1) e (m, b) (sym told-of ∙ c .before .before .c .given .1) in
     let rest = many (condition d) (from s e) in
     let now-far : c .joined .result ≡ join j far b = c .joined .ensures in
-    let told = ap (λ (x : Bool). answerOf walks (listOf j T x m) rest) now-far in
-    let made = ap (λ (y : ℕ × Bool). answerOf walks (listOf j T (join j far (y .1)) (y .0)) rest) (r .made) in (
-      told ∙ sym made ∙ sym (list-more j T (condition d) (λ c. 2 + size c) (eats-condition d) s far n i (r .what) e sp (r .is)) ∙ c .before .before .before .before .before .before .before .loop .inv .0,
+    let told = ap (λ (x : Bool). answerOf walks (listOf j ts x m) rest) now-far in
+    let made = ap (λ (y : ℕ × Bool). answerOf walks (listOf j ts (join j far (y .1)) (y .0)) rest) (r .made) in (
+      told ∙ sym made ∙ sym (list-more j ts (condition d) (λ c. 2 + size c) (eats-condition d) s far n i (r .what) e sp (r .is)) ∙ c .before .before .before .before .before .before .before .loop .inv .0,
       omega (arith, r .past, ap (λ (y : ℕ × Bool). y .0) (r .made), c .before .before .before .before .before .before .before .loop .inv .1),
       omega (arith, r .past, c .before .before .before .before .before .before .before .loop .inv .2),
     )
@@ -191,12 +193,12 @@ walk-list-returns-3 : (t : ℕ) → walk-list-lts.Need-returns-3 (walk-list-call
 walk-list-returns-3 t c =
     let s = c .before .before .before .before .before .before .before .args .s .now in
     let d = c .before .before .before .before .before .before .before .args .depth in
-    let T = c .before .before .before .before .before .before .before .args .truths .now in
+    let ts = c .before .before .before .before .before .before .before .args .truths .now in
     let j = c .before .before .before .before .before .before .before .args .one in
     let i = c .before .before .loop .i in
     let n = c .before .before .loop .n in
     let far = c .before .before .loop .so-far in
-    sym (list-end j T (condition d) (λ c. 2 + size c) (eats-condition d) s far n i (λ z. c .if2 .left (c .before .byte-at2 .ensures ∙ z))) ∙ c .before .before .loop .inv .0
+    sym (list-end j ts (condition d) (λ c. 2 + size c) (eats-condition d) s far n i (λ z. c .if2 .left (c .before .byte-at2 .ensures ∙ z))) ∙ c .before .before .loop .inv .0
 
 walk-one-returns : (t : ℕ) → walk-one-lts.Need-returns (walk-one-calls t) (walk-one-at t) walk-one.Post
 unfolding condition
@@ -213,8 +215,8 @@ walk-one-returns-2 t c =
     let at = c .before .before .before .before .before .args .at in
     let d = c .before .before .before .before .before .args .depth in
     let k = c .before .before .before .before .before .args .k in
-    let T = c .before .before .before .before .before .args .truths .now in
-    sym (ap (walked T k) (no-bracket s at d (λ z. c .if2 .taken (c .before .byte-at .ensures ∙ z))))
+    let ts = c .before .before .before .before .before .args .truths .now in
+    sym (ap (walked ts k) (no-bracket s at d (λ z. c .if2 .taken (c .before .byte-at .ensures ∙ z))))
 
 walk-one-add-op : (t : ℕ) → walk-one-lts.Need-add-op (walk-one-calls t) (walk-one-at t) walk-one.Post
 walk-one-add-op t c =
@@ -248,12 +250,13 @@ walk-one-returns-3 t c =
     let at = c .before .before .before .before .before .before .before .before .before .args .at in
     let d = c .before .before .before .before .before .before .before .before .before .args .depth in
     let k = c .before .before .before .before .before .before .before .before .before .args .k in
-    let T = c .before .before .before .before .before .before .before .before .before .args .truths .now in
+    let ts = c .before .before .before .before .before .before .before .before .before .args .truths .now in
     let open-here : getD s at 0 ≡ 40 = sym (c .before .before .before .before .before .byte-at .ensures) ∙ c .before .before .before .before .if2 .left in
     let e0 = c .before .before .before .word-end .result in
     let w = wordOf s (at + 1) in
-    let none-there = read-refused walks (among (operators (condition (d - 1)) w) w) (walkOf T k) size (eats-behind (d - 1) w) s e0 (sym (c .before .before .walk-rest .ensures) ∙ c .enum-told .given .1) in
-    sym (ap (walked T k) (bracket-refused s at d e0 (c .before .before .before .before .before .before .if1 .left) open-here (c .before .before .before .word-end .ensures) none-there))
+    let told-of : c .before .before .walk-rest .result ≡ walked ts k (among (operators (condition (d - 1)) w) w (from s e0)) = c .before .before .walk-rest .ensures in
+    let none-there = read-refused walks (among (operators (condition (d - 1)) w) w) (walkOf ts k) size (eats-behind (d - 1) w) s e0 (sym told-of ∙ c .enum-told .given .1) in
+    sym (ap (walked ts k) (bracket-refused s at d e0 (c .before .before .before .before .before .before .if1 .left) open-here (c .before .before .before .word-end .ensures) none-there))
 
 walk-one-byte-at-requires-2 : (t : ℕ) → walk-one-lts.Need-byte-at-requires-2 (walk-one-calls t) (walk-one-at t) walk-one.Post
 walk-one-byte-at-requires-2 t c κs = search needs
@@ -264,15 +267,16 @@ walk-one-returns-4 t c =
     let at = c .before .before .before .before .before .before .before .before .before .before .before .before .args .at in
     let d = c .before .before .before .before .before .before .before .before .before .before .before .before .args .depth in
     let k = c .before .before .before .before .before .before .before .before .before .before .before .before .args .k in
-    let T = c .before .before .before .before .before .before .before .before .before .before .before .before .args .truths .now in
+    let ts = c .before .before .before .before .before .before .before .before .before .before .before .before .args .truths .now in
     let open-here : getD s at 0 ≡ 40 = sym (c .before .before .before .before .before .before .before .before .byte-at .ensures) ∙ c .before .before .before .before .before .before .before .if2 .left in
     let e0 = c .before .before .before .before .before .before .word-end .result in
     let w = wordOf s (at + 1) in
     let e = c .before .before .before .r .given .0 .0 in
     let n = c .before .before .before .r .given .0 .1 .0 in
     let b = c .before .before .before .r .given .0 .1 .1 .0 in
-    let r = read-at walks (among (operators (condition (d - 1)) w) w) (walkOf T k) size (eats-behind (d - 1) w) s e0 e (n, b) (sym (c .before .before .before .before .before .walk-rest .ensures) ∙ c .before .before .before .r .given .1) in
-    sym (ap (walked T k) (bracket-open s at d e0 (c .before .before .before .before .before .before .before .before .before .if1 .left) open-here (c .before .before .before .before .before .before .word-end .ensures) (r .what) e (r .is) (λ z. c .if3 .taken (c .before .byte-at2 .ensures ∙ z))))
+    let told-of : c .before .before .before .before .before .walk-rest .result ≡ walked ts k (among (operators (condition (d - 1)) w) w (from s e0)) = c .before .before .before .before .before .walk-rest .ensures in
+    let r = read-at walks (among (operators (condition (d - 1)) w) w) (walkOf ts k) size (eats-behind (d - 1) w) s e0 e (n, b) (sym told-of ∙ c .before .before .before .r .given .1) in
+    sym (ap (walked ts k) (bracket-open s at d e0 (c .before .before .before .before .before .before .before .before .before .if1 .left) open-here (c .before .before .before .before .before .before .word-end .ensures) (r .what) e (r .is) (λ z. c .if3 .taken (c .before .byte-at2 .ensures ∙ z))))
 
 walk-one-add-t14 : (t : ℕ) → walk-one-lts.Need-add-t14 (walk-one-calls t) (walk-one-at t) walk-one.Post
 walk-one-add-t14 t c =
@@ -287,16 +291,17 @@ walk-one-returns-5 t c =
     let at = c .before .before .before .before .before .before .before .before .before .before .before .before .args .at in
     let d = c .before .before .before .before .before .before .before .before .before .before .before .before .args .depth in
     let k = c .before .before .before .before .before .before .before .before .before .before .before .before .args .k in
-    let T = c .before .before .before .before .before .before .before .before .before .before .before .before .args .truths .now in
+    let ts = c .before .before .before .before .before .before .before .before .before .before .before .before .args .truths .now in
     let open-here : getD s at 0 ≡ 40 = sym (c .before .before .before .before .before .before .before .before .byte-at .ensures) ∙ c .before .before .before .before .before .before .before .if2 .left in
     let e0 = c .before .before .before .before .before .before .word-end .result in
     let w = wordOf s (at + 1) in
     let e = c .before .before .before .r .given .0 .0 in
     let n = c .before .before .before .r .given .0 .1 .0 in
     let b = c .before .before .before .r .given .0 .1 .1 .0 in
-    let r = read-at walks (among (operators (condition (d - 1)) w) w) (walkOf T k) size (eats-behind (d - 1) w) s e0 e (n, b) (sym (c .before .before .before .before .before .walk-rest .ensures) ∙ c .before .before .before .r .given .1) in
+    let told-of : c .before .before .before .before .before .walk-rest .result ≡ walked ts k (among (operators (condition (d - 1)) w) w (from s e0)) = c .before .before .before .before .before .walk-rest .ensures in
+    let r = read-at walks (among (operators (condition (d - 1)) w) w) (walkOf ts k) size (eats-behind (d - 1) w) s e0 e (n, b) (sym told-of ∙ c .before .before .before .r .given .1) in
     let closed : getD s e 0 ≡ 41 = sym (c .before .byte-at2 .ensures) ∙ c .if3 .left in
-    sym (ap (walked T k) (bracket-closed s at d e0 (c .before .before .before .before .before .before .before .before .before .if1 .left) open-here (c .before .before .before .before .before .before .word-end .ensures) (r .what) e (r .is) closed) ∙ ap (λ (y : ℕ × Bool). walk.At (e + 1) (y .0) (y .1)) (r .made))
+    sym (ap (walked ts k) (bracket-closed s at d e0 (c .before .before .before .before .before .before .before .before .before .if1 .left) open-here (c .before .before .before .before .before .before .word-end .ensures) (r .what) e (r .is) closed) ∙ ap (λ (y : ℕ × Bool). walk.At (e + 1) (y .0) (y .1)) (r .made))
 
 walk-rest-is-comparator-requires : (t : ℕ) → walk-rest-lts.Need-is-comparator-requires (walk-rest-calls t) (walk-rest-at t) walk-rest.Post
 walk-rest-is-comparator-requires t c κs = search needs
@@ -317,12 +322,12 @@ walk-rest-returns t c =
     let at = c .before .before .before .before .before .before .before .args .at in
     let d = c .before .before .before .before .before .before .before .args .depth in
     let k = c .before .before .before .before .before .before .before .args .k in
-    let T = c .before .before .before .before .before .before .before .args .truths .now in
+    let ts = c .before .before .before .before .before .before .before .args .truths .now in
     let w = wordOf s op in
     let o = operatorOf (wordAt s op) in
     let h : isComparator (wordAt s op) ≡ true = sym (c .before .before .before .before .is-comparator .ensures) ∙ c .before .before .before .if1 .taken in
-    let q : walked T k (among (operators (condition d) w) w (from s at)) ≡ walked T k (compared o w (from s at)) = ap (λ (R : Reader (Cond Compared)). walked T k (R (from s at))) (operators-compare (condition d) w h) in
-    sym (q ∙ ap (walked T k) (compared-refused o w s at (sym (c .before .before .compared-end .ensures o w) ∙ c .enum-told .given .1)))
+    let q : walked ts k (among (operators (condition d) w) w (from s at)) ≡ walked ts k (compared o w (from s at)) = ap (λ (R : Reader (Cond Compared)). walked ts k (R (from s at))) (operators-compare (condition d) w h) in
+    sym (q ∙ ap (walked ts k) (compared-refused o w s at (sym (c .before .before .compared-end .ensures o w) ∙ c .enum-told .given .1)))
 
 walk-rest-add-t17 : (t : ℕ) → walk-rest-lts.Need-add-t17 (walk-rest-calls t) (walk-rest-at t) walk-rest.Post
 walk-rest-add-t17 t c =
@@ -344,13 +349,13 @@ walk-rest-returns-2 t c =
     let at = c .before .before .before .before .before .before .before .before .before .args .at in
     let d = c .before .before .before .before .before .before .before .before .before .args .depth in
     let k = c .before .before .before .before .before .before .before .before .before .args .k in
-    let T = c .before .before .before .before .before .before .before .before .before .args .truths .now in
+    let ts = c .before .before .before .before .before .before .before .before .before .args .truths .now in
     let w = wordOf s op in
     let o = operatorOf (wordAt s op) in
     let h : isComparator (wordAt s op) ≡ true = sym (c .before .before .before .before .before .before .is-comparator .ensures) ∙ c .before .before .before .before .before .if1 .taken in
-    let q : walked T k (among (operators (condition d) w) w (from s at)) ≡ walked T k (compared o w (from s at)) = ap (λ (R : Reader (Cond Compared)). walked T k (R (from s at))) (operators-compare (condition d) w h) in
+    let q : walked ts k (among (operators (condition d) w) w (from s at)) ≡ walked ts k (compared o w (from s at)) = ap (λ (R : Reader (Cond Compared)). walked ts k (R (from s at))) (operators-compare (condition d) w h) in
     let e = c .before .before .c .given .0 .0 in
-    ap (walk.At e (k + 1)) (c .truth-at .ensures) ∙ sym (q ∙ ap (walked T k) (compared-to o w s at e (sym (c .before .before .before .before .compared-end .ensures o w) ∙ c .before .before .c .given .1) .0))
+    ap (walk.At e (k + 1)) (c .truth-at .ensures) ∙ sym (q ∙ ap (walked ts k) (compared-to o w s at e (sym (c .before .before .before .before .compared-end .ensures o w) ∙ c .before .before .c .given .1) .0))
 
 walk-rest-slice-aggregate-is-word : (t : ℕ) → walk-rest-lts.Need-slice-aggregate-is-word (walk-rest-calls t) (walk-rest-at t) walk-rest.Post
 walk-rest-slice-aggregate-is-word t c = search needs
@@ -368,12 +373,12 @@ walk-rest-returns-3 t c =
     let at = c .before .before .before .before .before .before .before .before .before .args .at in
     let d = c .before .before .before .before .before .before .before .before .before .args .depth in
     let k = c .before .before .before .before .before .before .before .before .before .args .k in
-    let T = c .before .before .before .before .before .before .before .before .before .args .truths .now in
+    let ts = c .before .before .before .before .before .before .before .before .before .args .truths .now in
     let w = wordOf s op in
     let h : isComparator (wordAt s op) ≡ false = sym (c .before .before .before .before .before .before .is-comparator .ensures) ∙ c .before .before .before .before .before .if1 .left in
     let a : sameName (wordAt s op) (ascii "not") ≡ true = sym (c .before .before .before .is-word .ensures) ∙ c .before .before .if2 .taken in
-    let q : walked T k (among (operators (condition d) w) w (from s at)) ≡ walked T k (negation (condition d) (from s at)) = ap (λ (R : Reader (Cond Compared)). walked T k (R (from s at))) (operators-not (condition d) w h a) in
-    sym (q ∙ ap (walked T k) (negation-unspaced (condition d) s at (λ z. c .if3 .taken (c .before .byte-at .ensures ∙ z))))
+    let q : walked ts k (among (operators (condition d) w) w (from s at)) ≡ walked ts k (negation (condition d) (from s at)) = ap (λ (R : Reader (Cond Compared)). walked ts k (R (from s at))) (operators-not (condition d) w h a) in
+    sym (q ∙ ap (walked ts k) (negation-unspaced (condition d) s at (λ z. c .if3 .taken (c .before .byte-at .ensures ∙ z))))
 
 walk-rest-add-walk-one : (t : ℕ) → walk-rest-lts.Need-add-walk-one (walk-rest-calls t) (walk-rest-at t) walk-rest.Post
 walk-rest-add-walk-one t c =
@@ -398,14 +403,15 @@ walk-rest-returns-4 t c =
     let at = c .before .before .before .before .before .before .before .before .before .before .before .before .args .at in
     let d = c .before .before .before .before .before .before .before .before .before .before .before .before .args .depth in
     let k = c .before .before .before .before .before .before .before .before .before .before .before .before .args .k in
-    let T = c .before .before .before .before .before .before .before .before .before .before .before .before .args .truths .now in
+    let ts = c .before .before .before .before .before .before .before .before .before .before .before .before .args .truths .now in
     let w = wordOf s op in
     let h : isComparator (wordAt s op) ≡ false = sym (c .before .before .before .before .before .before .before .before .before .is-comparator .ensures) ∙ c .before .before .before .before .before .before .before .before .if1 .left in
     let a : sameName (wordAt s op) (ascii "not") ≡ true = sym (c .before .before .before .before .before .before .is-word .ensures) ∙ c .before .before .before .before .before .if2 .taken in
-    let q : walked T k (among (operators (condition d) w) w (from s at)) ≡ walked T k (negation (condition d) (from s at)) = ap (λ (R : Reader (Cond Compared)). walked T k (R (from s at))) (operators-not (condition d) w h a) in
+    let q : walked ts k (among (operators (condition d) w) w (from s at)) ≡ walked ts k (negation (condition d) (from s at)) = ap (λ (R : Reader (Cond Compared)). walked ts k (R (from s at))) (operators-not (condition d) w h a) in
     let sp : getD s at 0 ≡ 32 = sym (c .before .before .before .before .byte-at .ensures) ∙ c .before .before .before .if3 .left in
-    let none-there = read-refused walks (condition d) (walkOf T k) (λ c. 2 + size c) (eats-condition d) s (at + 1) (sym (c .before .before .walk-one .ensures) ∙ c .enum-told2 .given .1) in
-    sym (q ∙ ap (walked T k) (negation-refused (condition d) s at sp none-there))
+    let told-of : c .before .before .walk-one .result ≡ walked ts k (condition d (from s (at + 1))) = c .before .before .walk-one .ensures in
+    let none-there = read-refused walks (condition d) (walkOf ts k) (λ c. 2 + size c) (eats-condition d) s (at + 1) (sym told-of ∙ c .enum-told2 .given .1) in
+    sym (q ∙ ap (walked ts k) (negation-refused (condition d) s at sp none-there))
 
 walk-rest-returns-5 : (t : ℕ) → walk-rest-lts.Need-returns-5 (walk-rest-calls t) (walk-rest-at t) walk-rest.Post
 unfolding comparisons holds numbered
@@ -415,17 +421,18 @@ walk-rest-returns-5 t c =
     let at = c .before .before .before .before .before .before .before .before .before .before .before .before .before .args .at in
     let d = c .before .before .before .before .before .before .before .before .before .before .before .before .before .args .depth in
     let k = c .before .before .before .before .before .before .before .before .before .before .before .before .before .args .k in
-    let T = c .before .before .before .before .before .before .before .before .before .before .before .before .before .args .truths .now in
+    let ts = c .before .before .before .before .before .before .before .before .before .before .before .before .before .args .truths .now in
     let w = wordOf s op in
     let h : isComparator (wordAt s op) ≡ false = sym (c .before .before .before .before .before .before .before .before .before .before .is-comparator .ensures) ∙ c .before .before .before .before .before .before .before .before .before .if1 .left in
     let a : sameName (wordAt s op) (ascii "not") ≡ true = sym (c .before .before .before .before .before .before .before .is-word .ensures) ∙ c .before .before .before .before .before .before .if2 .taken in
-    let q : walked T k (among (operators (condition d) w) w (from s at)) ≡ walked T k (negation (condition d) (from s at)) = ap (λ (R : Reader (Cond Compared)). walked T k (R (from s at))) (operators-not (condition d) w h a) in
+    let q : walked ts k (among (operators (condition d) w) w (from s at)) ≡ walked ts k (negation (condition d) (from s at)) = ap (λ (R : Reader (Cond Compared)). walked ts k (R (from s at))) (operators-not (condition d) w h a) in
     let sp : getD s at 0 ≡ 32 = sym (c .before .before .before .before .before .byte-at .ensures) ∙ c .before .before .before .before .if3 .left in
     let e = c .before .r .given .0 .0 in
     let n = c .before .r .given .0 .1 .0 in
     let b = c .before .r .given .0 .1 .1 .0 in
-    let r = read-at walks (condition d) (walkOf T k) (λ c. 2 + size c) (eats-condition d) s (at + 1) e (n, b) (sym (c .before .before .before .walk-one .ensures) ∙ c .before .r .given .1) in
-    sym (q ∙ ap (walked T k) (negation-read (condition d) s at sp (r .what) e (r .is)) ∙ ap (λ (y : ℕ × Bool). walk.At e (y .0) (not (y .1))) (r .made))
+    let told-of : c .before .before .before .walk-one .result ≡ walked ts k (condition d (from s (at + 1))) = c .before .before .before .walk-one .ensures in
+    let r = read-at walks (condition d) (walkOf ts k) (λ c. 2 + size c) (eats-condition d) s (at + 1) e (n, b) (sym told-of ∙ c .before .r .given .1) in
+    sym (q ∙ ap (walked ts k) (negation-read (condition d) s at sp (r .what) e (r .is)) ∙ ap (λ (y : ℕ × Bool). walk.At e (y .0) (not (y .1))) (r .made))
 
 walk-rest-slice-aggregate-is-word-2 : (t : ℕ) → walk-rest-lts.Need-slice-aggregate-is-word-2 (walk-rest-calls t) (walk-rest-at t) walk-rest.Post
 walk-rest-slice-aggregate-is-word-2 t c = search needs
@@ -443,13 +450,13 @@ walk-rest-returns-6 t c =
     let at = c .before .before .before .before .before .before .before .before .before .before .before .args .at in
     let d = c .before .before .before .before .before .before .before .before .before .before .before .args .depth in
     let k = c .before .before .before .before .before .before .before .before .before .before .before .args .k in
-    let T = c .before .before .before .before .before .before .before .before .before .before .before .args .truths .now in
+    let ts = c .before .before .before .before .before .before .before .before .before .before .before .args .truths .now in
     let w = wordOf s op in
     let h : isComparator (wordAt s op) ≡ false = sym (c .before .before .before .before .before .before .before .before .is-comparator .ensures) ∙ c .before .before .before .before .before .before .before .if1 .left in
     let a : sameName (wordAt s op) (ascii "not") ≡ false = sym (c .before .before .before .before .before .is-word .ensures) ∙ c .before .before .before .before .if2 .left in
     let b : sameName (wordAt s op) (ascii "and") ≡ true = sym (c .before .before .is-word2 .ensures) ∙ c .before .if4 .taken in
-    let told : c .walk-list .result ≡ walked T k (conditions both (condition d) (from s at)) = c .walk-list .ensures in
-    told ∙ sym (ap (λ (X : Reader (Cond Compared)). walked T k (X (from s at))) (operators-and (condition d) w h a b))
+    let told : c .walk-list .result ≡ walked ts k (conditions both (condition d) (from s at)) = c .walk-list .ensures in
+    told ∙ sym (ap (λ (X : Reader (Cond Compared)). walked ts k (X (from s at))) (operators-and (condition d) w h a b))
 
 walk-rest-slice-aggregate-is-word-3 : (t : ℕ) → walk-rest-lts.Need-slice-aggregate-is-word-3 (walk-rest-calls t) (walk-rest-at t) walk-rest.Post
 walk-rest-slice-aggregate-is-word-3 t c = search needs
@@ -467,14 +474,14 @@ walk-rest-returns-7 t c =
     let at = c .before .before .before .before .before .before .before .before .before .before .before .before .before .before .args .at in
     let d = c .before .before .before .before .before .before .before .before .before .before .before .before .before .before .args .depth in
     let k = c .before .before .before .before .before .before .before .before .before .before .before .before .before .before .args .k in
-    let T = c .before .before .before .before .before .before .before .before .before .before .before .before .before .before .args .truths .now in
+    let ts = c .before .before .before .before .before .before .before .before .before .before .before .before .before .before .args .truths .now in
     let w = wordOf s op in
     let h : isComparator (wordAt s op) ≡ false = sym (c .before .before .before .before .before .before .before .before .before .before .before .is-comparator .ensures) ∙ c .before .before .before .before .before .before .before .before .before .before .if1 .left in
     let a : sameName (wordAt s op) (ascii "not") ≡ false = sym (c .before .before .before .before .before .before .before .before .is-word .ensures) ∙ c .before .before .before .before .before .before .before .if2 .left in
     let b : sameName (wordAt s op) (ascii "and") ≡ false = sym (c .before .before .before .before .before .is-word2 .ensures) ∙ c .before .before .before .before .if4 .left in
     let x : sameName (wordAt s op) (ascii "or") ≡ true = sym (c .before .before .is-word3 .ensures) ∙ c .before .if5 .taken in
-    let told : c .walk-list2 .result ≡ walked T k (conditions either (condition d) (from s at)) = c .walk-list2 .ensures in
-    told ∙ sym (ap (λ (X : Reader (Cond Compared)). walked T k (X (from s at))) (operators-or (condition d) w h a b x))
+    let told : c .walk-list2 .result ≡ walked ts k (conditions either (condition d) (from s at)) = c .walk-list2 .ensures in
+    told ∙ sym (ap (λ (X : Reader (Cond Compared)). walked ts k (X (from s at))) (operators-or (condition d) w h a b x))
 
 walk-rest-returns-8 : (t : ℕ) → walk-rest-lts.Need-returns-8 (walk-rest-calls t) (walk-rest-at t) walk-rest.Post
 walk-rest-returns-8 t c =
@@ -483,13 +490,13 @@ walk-rest-returns-8 t c =
     let at = c .before .before .before .before .before .before .before .before .before .before .before .before .before .args .at in
     let d = c .before .before .before .before .before .before .before .before .before .before .before .before .before .args .depth in
     let k = c .before .before .before .before .before .before .before .before .before .before .before .before .before .args .k in
-    let T = c .before .before .before .before .before .before .before .before .before .before .before .before .before .args .truths .now in
+    let ts = c .before .before .before .before .before .before .before .before .before .before .before .before .before .args .truths .now in
     let w = wordOf s op in
     let h : isComparator (wordAt s op) ≡ false = sym (c .before .before .before .before .before .before .before .before .before .before .is-comparator .ensures) ∙ c .before .before .before .before .before .before .before .before .before .if1 .left in
     let a : sameName (wordAt s op) (ascii "not") ≡ false = sym (c .before .before .before .before .before .before .before .is-word .ensures) ∙ c .before .before .before .before .before .before .if2 .left in
     let b : sameName (wordAt s op) (ascii "and") ≡ false = sym (c .before .before .before .before .is-word2 .ensures) ∙ c .before .before .before .if4 .left in
     let x : sameName (wordAt s op) (ascii "or") ≡ false = sym (c .before .is-word3 .ensures) ∙ c .if5 .left in
-    sym (ap (λ (X : Reader (Cond Compared)). walked T k (X (from s at))) (operators-none (condition d) w h a b x))
+    sym (ap (λ (X : Reader (Cond Compared)). walked ts k (X (from s at))) (operators-none (condition d) w h a b x))
 
 pub +walk-list+walk-one+walk-rest-spec : {M : Type 1} → statement M
 +walk-list+walk-one+walk-rest-spec =

@@ -1,0 +1,2 @@
+-- What the code says of a line. Assumes nothing.
+pub mod Judged

@@ -1,0 +1,75 @@
+-- `index::found::find_name` meets its contract. The loop's invariant: no name that was passed is the one looked for. Assumes nothing.
+use Prim.Native.Nat.{_+_, _-_, _<_, _≤_, ℕ}
+use borrow.Author.Count.{below-more, below-none}
+use borrow.Author.Needs.{needs}
+use lib.ListN.{getD}
+use mathlib.Core.Bool.{false}
+use mathlib.Core.Path.{_∙_, _≡_, sym}
+use native.Mathlib.Omega.{arith}
+use Rattle.index.proofs.ListedLaws.{listed-found, listed-none}
+use Rattle.text.specs.Words.{isCalled, wordAt, wordOf}
+use Rattle.index.proofs.found.find_name.Statement.{statement}
+use Rattle.index.proofs.found.find_name.Tie as tie
+
+abbrev Inv-loop : tie.InvT-loop
+Inv-loop text ws base n line i k₀ k = (k ≤ n) × ((j : ℕ) → j < k → isCalled (wordOf line i) (wordAt text (getD ws (base + j) 0)) ≡ false)
+
+abbrev μ-loop : tie.MeasureT-loop
+μ-loop text ws base n line i k₀ k = n - k
+
+loop-holds : tie.Need-loop-holds Inv-loop μ-loop
+loop-holds c = (omega arith, below-none _)
+
+add-same-name : tie.Need-add-same-name Inv-loop μ-loop
+add-same-name c = omega arith
+
+mul-same-name : tie.Need-mul-same-name Inv-loop μ-loop
+mul-same-name c = omega arith
+
+shared-slice-read-same-name : tie.Need-shared-slice-read-same-name Inv-loop μ-loop
+shared-slice-read-same-name c = omega arith
+
+same-name-requires : tie.Need-same-name-requires Inv-loop μ-loop
+same-name-requires c κs = search needs
+
+returns : tie.Need-returns Inv-loop μ-loop
+unfolding isCalled
+returns c =
+    let a = c .before .before .before .before .before .before .before .before .args in
+    let l = c .before .before .before .before .loop in
+    let small : c .before .before .before .before .loop .k < c .before .before .before .before .before .before .before .before .args .n = omega arith in
+    (sym (listed-found (λ p. isCalled (wordOf (a .line .now) (a .i)) (wordAt (a .text .now) p)) (λ j. getD (a .ws .now) (a .base + j) 0) (a .n) (l .k) small (l .inv .1) (sym (c .before .same-name .ensures) ∙ c .if1 .taken)), small)
+
+add-k : tie.Need-add-k Inv-loop μ-loop
+add-k c = omega arith
+
+loop-less : tie.Need-loop-less Inv-loop μ-loop
+loop-less c = omega arith
+
+loop-again : tie.Need-loop-again Inv-loop μ-loop
+unfolding isCalled
+loop-again c =
+    (omega arith, below-more _ (c .before .before .before .before .loop .k) (c .before .before .before .before .loop .inv .1) (sym (c .before .same-name .ensures) ∙ c .if1 .left))
+
+returns-2 : tie.Need-returns-2 Inv-loop μ-loop
+returns-2 c =
+    let a = c .before .before .before .before .before .args in
+    let inv = c .before .loop .inv in
+    (sym (listed-none (λ p. isCalled (wordOf (a .line .now) (a .i)) (wordAt (a .text .now) p)) (λ j. getD (a .ws .now) (a .base + j) 0) (a .n) (λ j l. inv .1 j (omega (arith, l)))), tt)
+
+pub find-name-spec : {M : Type 1} → statement M
+find-name-spec =
+    tie.close
+    (tie.spec
+    Inv-loop
+    μ-loop
+    loop-holds
+    add-same-name
+    mul-same-name
+    shared-slice-read-same-name
+    same-name-requires
+    returns
+    add-k
+    loop-less
+    loop-again
+    returns-2)

@@ -1,0 +1,17 @@
+-- `index::names::add_role` meets its contract: the array has room. Assumes nothing.
+use borrow.Author.Needs.{needs}
+use native.Mathlib.Omega.{arith}
+use Rattle.index.proofs.names.add_role.Statement.{statement}
+use Rattle.index.proofs.names.add_role.Tie as tie
+
+add-node-requires : tie.Need-add-node-requires
+add-node-requires c κs = search needs
+
+returns : tie.Need-returns
+returns c text ns n l = c .add-node .ensures text ns n
+
+returns-2 : tie.Need-returns-2
+returns-2 c text ns n l = absurd (omega arith)
+
+pub add-role-spec : {M : Type 1} → statement M
+add-role-spec = tie.close (tie.spec add-node-requires returns returns-2)

@@ -1,0 +1,3 @@
+-- How the lent workspace of the checker holds a document. Assumes nothing.
+pub mod Listed
+pub mod Index

@@ -1,0 +1,8 @@
+-- Lists by what stands at each number.
+use Prim.Native.Nat.{suc, zero, ℕ}
+use mathlib.Core.List.{List, [], _++_, _∷_}
+
+-- what f gives for 0, 1, 2 and so on, k of them
+unfoldable pub listed : {A : Type 0} → (ℕ → A) → ℕ → List A
+listed f zero = []
+listed f (suc k) = listed f k ++ (f k ∷ [])

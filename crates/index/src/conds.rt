@@ -1,0 +1,80 @@
+// Conditional roles: looking one up by its name, and adding one. A condition is not kept: what is kept is where it stands,
+// as the start and the end of its line in the text and its place in the line.
+use crate::found::Found;
+use crate::found::find_name;
+use crate::layout::COND_ROLE_CELLS;
+use crate::layout::COND_ROLES;
+ghost use Prim.Native.Nat.{_+_, _<_, ℕ};
+ghost use lib.ListN.{length};
+ghost use mathlib.Core.Bool.{true};
+ghost use mathlib.Core.List.{List, [], _++_, _∷_};
+ghost use mathlib.Core.Path.{_≡_};
+ghost use Rattle.condition.specs.Cond.{mapCond};
+ghost use Rattle.document.specs.Meaning.{attributeComparison};
+ghost use Rattle.document.specs.Policy.{CondRole, Policy};
+ghost use Rattle.index.specs.Index.{CondRoles, FoundBelow, attributesKnown, conditionAt, foundAs};
+ghost use Rattle.lists.specs.Lists.{findIndex};
+ghost use Rattle.text.specs.Words.{isCalled, wordAt, wordOf};
+
+// Where the roles, the starts and ends of the lines, and the places in them stand.
+const ROLE_AT: usize = COND_ROLES;
+
+const START_AT: usize = 2 * COND_ROLES;
+
+const END_AT: usize = 3 * COND_ROLES;
+
+const PLACE_AT: usize = 4 * COND_ROLES;
+
+// The conditional role of the name at i of the line, among the first k.
+pub fn find_cond_role(
+    text: &[u8],
+    ws: &[usize; COND_ROLE_CELLS],
+    k: usize,
+    line: &[u8],
+    i: usize,
+) -> Found
+    ensures { λ r. ⌜ ((d : Policy) (cs : List CondRole) → CondRoles d (now (text .entry)) (now (ws .entry)) k cs → foundAs r ≡ findIndex (λ x. isCalled (wordOf (now (line .entry)) i) (x .name)) cs) × FoundBelow r k ⌝ }
+{
+    if COND_ROLES < k {
+        return Found::Nothing;
+    }
+    find_name(text, ws, 0, k, line, i)
+}
+
+// One conditional role more, where there is room.
+fn store_cond_role(
+    ws: &mut [usize],
+    k: usize,
+    pos: usize,
+    role: usize,
+    start: usize,
+    end: usize,
+    place: usize,
+)
+    requires { ⌜ (k < 64) × (256 + k < length (now ws)) ⌝ }
+    ensures { λ r. ⌜ ((d : Policy) (text : List ℕ) (cs : List CondRole) → CondRoles d text (now (ws .entry)) k cs → attributesKnown d (conditionAt text start end place) ≡ true → CondRoles d text (now (ws .exit)) (k + 1) (cs ++ (record { name = wordAt text pos; role = role; condition = mapCond (attributeComparison d) (conditionAt text start end place) } ∷ []))) ⌝ }
+{
+    ws[k] = pos;
+    ws[ROLE_AT + k] = role;
+    ws[START_AT + k] = start;
+    ws[END_AT + k] = end;
+    ws[PLACE_AT + k] = place;
+}
+
+// One conditional role more, whose name stands at pos of the text, and whose condition stands at `place` of the line from
+// `start` to `end`.
+pub fn add_cond_role(
+    ws: &mut [usize; COND_ROLE_CELLS],
+    k: usize,
+    pos: usize,
+    role: usize,
+    start: usize,
+    end: usize,
+    place: usize,
+)
+    ensures { λ r. ⌜ ((d : Policy) (text : List ℕ) (cs : List CondRole) → CondRoles d text (now (ws .entry)) k cs → k < 64 → attributesKnown d (conditionAt text start end place) ≡ true → CondRoles d text (now (ws .exit)) (k + 1) (cs ++ (record { name = wordAt text pos; role = role; condition = mapCond (attributeComparison d) (conditionAt text start end place) } ∷ []))) ⌝ }
+{
+    if k < COND_ROLES {
+        store_cond_role(ws, k, pos, role, start, end, place);
+    }
+}

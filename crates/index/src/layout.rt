@@ -1,0 +1,64 @@
+// How large the lent arrays are: how many of each kind there may be, and how many numbers hold them (specs/Index.antt says
+// what stands where).
+use purpose::LIMIT;
+use purpose::WORDS;
+
+pub const PURPOSES: usize = LIMIT;
+
+pub const PURPOSE_CELLS: usize = 2 * PURPOSES;
+
+pub const ROLES: usize = 64;
+
+pub const ROLE_CELLS: usize = 2 * ROLES;
+
+pub const ATTRIBUTES: usize = 32;
+
+pub const ATTRIBUTE_CELLS: usize = 3 * ATTRIBUTES;
+
+pub const COND_ROLES: usize = 64;
+
+pub const COND_ROLE_CELLS: usize = 5 * COND_ROLES;
+
+pub const GRANTS: usize = 128;
+
+pub const GRANT_CELLS: usize = 2 * GRANTS;
+
+pub const USERS: usize = 256;
+
+pub const USER_CELLS: usize = 5 * USERS;
+
+pub const LABELS: usize = 64;
+
+pub const SET_WORDS: usize = 2 * LABELS * WORDS;
+
+// Tables: their names from 0, then their schemes, labels and numbers of columns, and `COLUMNS` places of each kind for a table.
+pub const TABLES: usize = 8;
+
+pub const COLUMNS: usize = 16;
+
+pub const TABLE_SCHEMES: usize = TABLES;
+
+pub const TABLE_LABELS: usize = 2 * TABLES;
+
+pub const TABLE_WIDTHS: usize = 3 * TABLES;
+
+pub const COLUMN_NAMES: usize = 4 * TABLES;
+
+pub const COLUMN_KINDS: usize = COLUMN_NAMES + COLUMNS * TABLES;
+
+pub const COLUMN_LABELS: usize = COLUMN_KINDS + COLUMNS * TABLES;
+
+pub const TABLE_CELLS: usize = COLUMN_LABELS + COLUMNS * TABLES;
+
+// Rows: their tables from 0, then their numbers of values and of labels, and `COLUMNS` places of each for a row.
+pub const ROWS: usize = 1024;
+
+pub const ROW_WIDTHS: usize = ROWS;
+
+pub const ROW_MARKS: usize = 2 * ROWS;
+
+pub const ROW_VALUES: usize = 3 * ROWS;
+
+pub const ROW_LABELS: usize = ROW_VALUES + COLUMNS * ROWS;
+
+pub const ROW_CELLS: usize = ROW_LABELS + COLUMNS * ROWS;

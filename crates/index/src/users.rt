@@ -1,0 +1,81 @@
+// Users: names from 0, roles from 256, the start and the end of the line from 512 and 768, the place of the values in it from
+// 1,024.
+use crate::found::Found;
+use crate::found::find_name;
+use crate::layout::USER_CELLS;
+use crate::layout::USERS;
+use crate::store::put;
+use text::words::same_name;
+ghost use Prim.Native.Nat.{_+_, _<_, ℕ};
+ghost use lib.Dec.{eqb};
+ghost use mathlib.Core.Bool.{_&&_};
+ghost use mathlib.Core.List.{List, [], _++_, _∷_, map};
+ghost use mathlib.Core.Path.{_≡_};
+ghost use Rattle.document.specs.Meaning.{givenOf};
+ghost use Rattle.document.specs.Policy.{Policy, User};
+ghost use Rattle.form.specs.Walks.{givensAt};
+ghost use Rattle.index.specs.Index.{FoundBelow, Users, foundAs, lineIn};
+ghost use Rattle.lists.specs.Lists.{anyOf, findIndex};
+ghost use Rattle.text.specs.Words.{isCalled, wordAt, wordOf};
+
+// The user form, among the first k, that gives the user of the name at u of the line this role.
+pub fn find_user(
+    text: &[u8],
+    ws: &[usize; USER_CELLS],
+    k: usize,
+    line: &[u8],
+    u: usize,
+    role: usize,
+) -> Found
+    ensures { λ r. ⌜ ((d : Policy) (us : List User) → Users d (now (text .entry)) (now (ws .entry)) k us → foundAs r ≡ findIndex (λ x. isCalled (wordOf (now (line .entry)) u) (x .name) && eqb (x .role) role) us) × FoundBelow r k ⌝ }
+{
+    if USERS < k {
+        return Found::Nothing;
+    }
+    let mut i = 0;
+    while i < k {
+        if same_name(line, u, text, ws[i]) {
+            if ws[USERS + i] == role {
+                return Found::At(i);
+            }
+        }
+        i += 1;
+    }
+    Found::Nothing
+}
+
+// Whether one of the first k user forms has the name at u of the line.
+pub fn user_named(text: &[u8], ws: &[usize; USER_CELLS], k: usize, line: &[u8], u: usize) -> bool
+    ensures { λ r. ⌜ ((d : Policy) (us : List User) → Users d (now (text .entry)) (now (ws .entry)) k us → r ≡ anyOf (λ x. isCalled (wordOf (now (line .entry)) u) (x .name)) us) ⌝ }
+{
+    if USERS < k {
+        return false;
+    }
+    let found = find_name(text, ws, 0, k, line, u);
+    match found {
+        Found::At(_) => true,
+        Found::Nothing => false,
+    }
+}
+
+// One user form more, behind k of them: its name stands at pos of the text, its line from start to end, and its values from a
+// place of the line on. Nothing is stored where there is no room.
+pub fn add_user(
+    ws: &mut [usize; USER_CELLS],
+    k: usize,
+    pos: usize,
+    role: usize,
+    start: usize,
+    end: usize,
+    place: usize,
+)
+    ensures { λ _. ⌜ ((d : Policy) (text : List ℕ) (us : List User) → Users d text (now (ws .entry)) k us → k < 256 → Users d text (now (ws .exit)) (k + 1) (us ++ (record { name = wordAt text pos; role = role; values = map (givenOf d) (givensAt (lineIn text start end) place) } ∷ []))) ⌝ }
+{
+    if k < USERS {
+        put(ws, k, pos);
+        put(ws, USERS + k, role);
+        put(ws, 2 * USERS + k, start);
+        put(ws, 3 * USERS + k, end);
+        put(ws, 4 * USERS + k, place);
+    }
+}
