@@ -167,7 +167,7 @@ finds-name s = finds-word s isName
 finds-value : (s : List ℕ) → Finds s value (wordOf s) (wordEndAt s)
 finds-value s = finds-word s isValue
 
-finds-kind : (s : List ℕ) → Finds s (keyword kinds) (kindAt s) (wordEndAt s)
+pub finds-kind : (s : List ℕ) → Finds s (keyword kinds) (kindAt s) (wordEndAt s)
 unfolding keyword kinds among isCalled kindAt
 finds-kind s = finds-bind (finds-run s) (among kinds) (λ w. record { found = λ at k l h. go (sameName (w .bytes) (ascii "num")) (sameName (w .bytes) (ascii "name")) at k l h })
   where

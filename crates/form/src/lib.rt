@@ -1,2 +1,3 @@
 // The forms of a document's lines: reading a line by the places of its words.
+pub mod lines;
 pub mod parts;

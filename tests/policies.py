@@ -1,0 +1,251 @@
+"""Policies with what the checker must say of each, derived by hand from the request.
+
+A case is (name, lines, expected). Lines are joined with line feeds; a policy given as bytes is taken as it stands.
+Expected is the number of lines where the policy is accepted, or (number, line, item): the number of the refusal, the line
+counted from 0, and the offending item as (text, occurrence in that line, counted from 0), or None for the whole line.
+"""
+
+import re
+
+BASE = [
+    "(purpose all)",
+    "(purpose bill all)",
+    "(purpose ads all)",
+    "(purpose post ads)",
+    "(role desk)",
+    "(role clerk desk)",
+    "(role other)",
+    "(attr desk level num)",
+    "(attr clerk team name)",
+    "(attr other size num)",
+]
+USERS = BASE + ["(user ana desk (level 5))", "(user ben clerk (team red) (level 7))"]
+ROLES = USERS + ["(cond-role senior desk (and (ge level 5) (lt hour 17)))"]
+LABELS = ROLES + ["(grant ads senior)", "(label free (allow all) (deny))", "(label noads (allow all) (deny ads))"]
+TABLES = LABELS + [
+    "(table n none (a num) (b name))",
+    "(table t table free (a num))",
+    "(table c column (a num free) (b name noads))",
+    "(table r row (a num) (b name))",
+    "(table e cell (who name) (due num))",
+]
+ROWS = TABLES + [
+    "(row n 1 x)",
+    "(row t -5)",
+    "(row c 3 y)",
+    "(row r free 4 z)",
+    "(row e (Ida free) (40 noads))",
+]
+
+
+def after(base, *lines):
+    return base + list(lines)
+
+
+def nested(depth):
+    """A condition of so many brackets."""
+    return "(not " * (depth - 1) + "(eq level 1)" + ")" * (depth - 1)
+
+
+def some(n, form):
+    return [form.format(i) for i in range(n)]
+
+
+def row_fill(n):
+    return TABLES + ["(row t 1)"] * n
+
+
+NAME24 = "a" + "b" * 23
+WIDE = "(table w none " + " ".join(f"(c{i} num)" for i in range(16)) + ")"
+WIDER = "(table w none " + " ".join(f"(c{i} num)" for i in range(17)) + ")"
+MANY = "(cond-role many desk (and " + " ".join(["(eq level 1)"] * 64) + "))"
+MORE = "(cond-role many desk (and " + " ".join(["(eq level 1)"] * 65) + "))"
+
+
+CASES = [
+    # ---- accepted
+    ("empty", b"", 0),
+    ("sample", ROWS, len(ROWS)),
+    ("every number of columns", after(LABELS, WIDE), len(LABELS) + 1),
+    ("64 comparisons", after(USERS, MANY), len(USERS) + 1),
+    ("nesting 16", after(USERS, f"(cond-role deep desk {nested(15)})"), len(USERS) + 1),
+    ("name of 24", ["(purpose " + NAME24 + ")"], 1),
+    ("both ends of the numbers", after(TABLES, "(row t 9223372036854775807)", "(row t -9223372036854775808)"), len(TABLES) + 2),
+    ("a purpose in both sets", after(BASE, "(label l (allow ads) (deny ads))"), len(BASE) + 1),
+    ("grants repeat", after(ROLES, "(grant ads senior)", "(grant ads senior)"), len(ROLES) + 2),
+    ("names of different kinds", ["(purpose x)", "(role x)", "(attr x x num)", "(label x (allow x) (deny))", "(table x none (x num))"], 5),
+    ("keywords as names", ["(purpose purpose)", "(role row)", "(label deny (allow purpose) (deny))", "(table table none (name num))", "(row table 3)"], 5),
+    ("values in any order", after(BASE, "(user ben clerk (level 7) (team red))"), len(BASE) + 1),
+    ("user with a second role", after(USERS, "(user ana clerk (team red) (level 1))"), len(USERS) + 1),
+    ("64 purposes", ["(purpose p0)"] + [f"(purpose p{i} p0)" for i in range(1, 64)], 64),
+    ("64 roles", some(64, "(role r{})"), 64),
+    ("32 attributes", ["(role r)"] + some(32, "(attr r a{} num)"), 33),
+    ("256 users", ["(role r)"] + some(256, "(user u{} r)"), 257),
+    ("64 conditional roles", ["(role r)"] + some(64, "(cond-role c{} r (eq hour 1))"), 65),
+    ("128 grants", ROLES + ["(grant ads senior)"] * 128, len(ROLES) + 128),
+    ("64 labels", some(64, "(label l{} (allow) (deny))"), 64),
+    ("8 tables", some(8, "(table t{} none (a num))"), 8),
+    ("1,024 rows", row_fill(1024), len(TABLES) + 1024),
+    ("60,000 bytes", None, None),
+    # ---- 1
+    ("60,001 bytes", None, None),
+    ("60,001 bytes of anything", b"x" * 60001, (1, None, None)),
+    # ---- 2
+    ("blank line", ["(purpose all)", "", "(role r)"], (2, 1, None)),
+    ("unfinished line", b"(purpose all)\n(role r)", (2, 1, None)),
+    ("only a line feed", b"\n", (2, 0, None)),
+    ("no form", ["(porpoise all)"], (2, 0, None)),
+    ("keyword by case", ["(Purpose all)"], (2, 0, None)),
+    ("two spaces", ["(purpose  all)"], (2, 0, None)),
+    ("space before bracket", ["(purpose all )"], (2, 0, None)),
+    ("space after bracket", ["( purpose all)"], (2, 0, None)),
+    ("more behind the form", ["(purpose all) "], (2, 0, None)),
+    ("three names", ["(purpose a b c)"], (2, 0, None)),
+    ("name of 25", ["(purpose " + NAME24 + "b)"], (2, 0, None)),
+    ("name that begins with a digit", ["(purpose 1all)"], (2, 0, None)),
+    ("byte above 127", b"(purpose caf\xc3\xa9)\n", (2, 0, None)),
+    ("carriage return", b"(purpose all)\r\n", (2, 0, None)),
+    ("attribute without type", after(BASE, "(attr desk extra)"), (2, len(BASE), None)),
+    ("attribute of another type", after(BASE, "(attr desk extra date)"), (2, len(BASE), None)),
+    ("user without role", after(BASE, "(user ana)"), (2, len(BASE), None)),
+    ("value without attribute", after(BASE, "(user ana desk (5))"), (2, len(BASE), None)),
+    ("no condition", after(BASE, "(cond-role c desk)"), (2, len(BASE), None)),
+    ("and over nothing", after(BASE, "(cond-role c desk (and))"), (2, len(BASE), None)),
+    ("not over two", after(BASE, "(cond-role c desk (not (eq level 1) (eq level 2)))"), (2, len(BASE), None)),
+    ("nesting 17", after(BASE, f"(cond-role deep desk {nested(16)})"), (2, len(BASE), None)),
+    ("label without deny", after(BASE, "(label l (allow))"), (2, len(BASE), None)),
+    ("label turned", after(BASE, "(label l (deny) (allow))"), (2, len(BASE), None)),
+    ("table without column", after(LABELS, "(table x none)"), (2, len(LABELS), None)),
+    ("table of another scheme", after(LABELS, "(table x nest (a num))"), (2, len(LABELS), None)),
+    ("column scheme without label", after(LABELS, "(table x column (a num))"), (2, len(LABELS), None)),
+    ("one more than the largest number", after(TABLES, "(row t 9223372036854775808)"), (2, len(TABLES), None)),
+    ("one less than the least number", after(TABLES, "(row t -9223372036854775809)"), (2, len(TABLES), None)),
+    ("-0", after(TABLES, "(row t -0)"), (2, len(TABLES), None)),
+    ("007", after(TABLES, "(row t 007)"), (2, len(TABLES), None)),
+    ("12ab", after(TABLES, "(row t 12ab)"), (2, len(TABLES), None)),
+    ("+5", after(TABLES, "(row t +5)"), (2, len(TABLES), None)),
+    # ---- 3
+    ("65th purpose", ["(purpose p0)"] + [f"(purpose p{i} p0)" for i in range(1, 65)], (3, 64, None)),
+    ("65th purpose, wrong in other ways too", ["(purpose p0)"] + [f"(purpose p{i} p0)" for i in range(1, 64)] + ["(purpose p0 q)"], (3, 64, None)),
+    ("65th role", some(65, "(role r{})"), (3, 64, None)),
+    ("33rd attribute", ["(role r)"] + some(33, "(attr r a{} num)"), (3, 33, None)),
+    ("257th user", ["(role r)"] + some(257, "(user u{} r)"), (3, 257, None)),
+    ("65th conditional role", ["(role r)"] + some(65, "(cond-role c{} r (eq hour 1))"), (3, 65, None)),
+    ("65 comparisons", after(USERS, MORE), (3, len(USERS), None)),
+    ("129th grant", ROLES + ["(grant ads senior)"] * 129, (3, len(ROLES) + 128, None)),
+    ("65th label", some(65, "(label l{} (allow) (deny))"), (3, 64, None)),
+    ("9th table", some(9, "(table t{} none (a num))"), (3, 8, None)),
+    ("17 columns", after(LABELS, WIDER), (3, len(LABELS), None)),
+    ("1,025th row", row_fill(1025), (3, len(TABLES) + 1024, None)),
+    # ---- 4
+    ("purpose taken", after(BASE, "(purpose ads bill)"), (4, len(BASE), ("ads", 0))),
+    ("taken right of unknown", after(BASE, "(attr nobody level num)"), (4, len(BASE), ("level", 0))),
+    ("role taken", after(BASE, "(role desk)"), (4, len(BASE), ("desk", 0))),
+    ("attribute taken by another role", after(BASE, "(attr other level num)"), (4, len(BASE), ("level", 0))),
+    ("clock name as attribute", after(BASE, "(attr desk hour num)"), (4, len(BASE), ("hour", 0))),
+    ("pair of user and role", after(USERS, "(user ana desk (level 9))"), (4, len(USERS), ("desk", 0))),
+    ("conditional role taken", after(ROLES, "(cond-role senior clerk (eq hour 1))"), (4, len(ROLES), ("senior", 0))),
+    ("label taken", after(LABELS, "(label free (allow) (deny))"), (4, len(LABELS), ("free", 0))),
+    ("purpose twice in the allowed set", after(LABELS, "(label l (allow ads ads) (deny))"), (4, len(LABELS), ("ads", 1))),
+    ("unknown name twice in the denied set", after(LABELS, "(label l (allow) (deny nix nix))"), (4, len(LABELS), ("nix", 1))),
+    ("table taken", after(TABLES, "(table e none (a num))"), (4, len(TABLES), ("e", 0))),
+    ("column twice", after(LABELS, "(table x none (aa num) (bb num) (aa name))"), (4, len(LABELS), ("aa", 1))),
+    # ---- 5
+    ("unknown parent", after(BASE, "(purpose more nix)"), (5, len(BASE), ("nix", 0))),
+    ("own name as parent", ["(purpose all)", "(purpose self self)"], (5, 1, ("self", 1))),
+    ("first purpose with a parent", ["(purpose a b)"], (5, 0, ("b", 0))),
+    ("unknown parent role", after(BASE, "(role more nix)"), (5, len(BASE), ("nix", 0))),
+    ("attribute of an unknown role", after(BASE, "(attr nix more num)"), (5, len(BASE), ("nix", 0))),
+    ("user of an unknown role", after(BASE, "(user ana nix (level 5))"), (5, len(BASE), ("nix", 0))),
+    ("user with an unknown attribute", after(BASE, "(user ana desk (lavel 5))"), (5, len(BASE), ("lavel", 0))),
+    ("conditional role over an unknown role", after(BASE, "(cond-role c nix (eq hour 1))"), (5, len(BASE), ("nix", 0))),
+    ("attribute of an unrelated role in a condition", after(BASE, "(cond-role c desk (or (eq level 1) (eq size 1)))"), (5, len(BASE), ("size", 0))),
+    ("attribute of a role below in a condition", after(BASE, "(cond-role c desk (eq team red))"), (5, len(BASE), ("team", 0))),
+    ("grant for an unknown purpose", after(ROLES, "(grant nix senior)"), (5, len(ROLES), ("nix", 0))),
+    ("grant to an unknown conditional role", after(ROLES, "(grant ads nix)"), (5, len(ROLES), ("nix", 0))),
+    ("label with an unknown purpose", after(BASE, "(label l (allow ads) (deny nix))"), (5, len(BASE), ("nix", 0))),
+    ("table with an unknown label", after(LABELS, "(table x table nix (a num))"), (5, len(LABELS), ("nix", 0))),
+    ("column with an unknown label", after(LABELS, "(table x column (a num free) (b num nix))"), (5, len(LABELS), ("nix", 0))),
+    ("row of an unknown table", after(TABLES, "(row nix 1)"), (5, len(TABLES), ("nix", 0))),
+    ("row with an unknown label", after(TABLES, "(row r nix 1 x)"), (5, len(TABLES), ("nix", 0))),
+    ("row whose leading name is no label", after(TABLES, "(row r x)"), (5, len(TABLES), ("x", 0))),
+    ("cell with an unknown label", after(TABLES, "(row e (Ida free) (40 nix))"), (5, len(TABLES), ("nix", 0))),
+    # ---- 6
+    ("second root purpose", after(BASE, "(purpose more)"), (6, len(BASE), None)),
+    # ---- 7
+    ("attribute missing", after(BASE, "(user ana clerk (team red))"), (7, len(BASE), None)),
+    ("attribute twice", after(BASE, "(user ana desk (level 5) (level 5))"), (7, len(BASE), None)),
+    ("attribute of another role", after(BASE, "(user ana desk (size 5))"), (7, len(BASE), None)),
+    ("clock name given", after(BASE, "(user ana desk (level 5) (hour 5))"), (7, len(BASE), None)),
+    ("row with a value too few", after(TABLES, "(row n 1)"), (7, len(TABLES), None)),
+    ("row with a value too many", after(TABLES, "(row n 1 x 2)"), (7, len(TABLES), None)),
+    ("row without values", after(TABLES, "(row t)"), (7, len(TABLES), None)),
+    ("bracket in a plain table", after(TABLES, "(row n (1 free) x)"), (7, len(TABLES), None)),
+    ("row table without a label", after(TABLES, "(row r)"), (7, len(TABLES), None)),
+    ("number for the row's label", after(TABLES, "(row r 1 2 x)"), (7, len(TABLES), None)),
+    ("bracket for the row's label", after(TABLES, "(row r (1 free) 2 x)"), (7, len(TABLES), None)),
+    ("plain value in a cell table", after(TABLES, "(row e (Ida free) 40)"), (7, len(TABLES), None)),
+    # ---- 8
+    ("name for a number attribute", after(BASE, "(user ana desk (level high))"), (8, len(BASE), ("high", 0))),
+    ("number for a name attribute", after(BASE, "(user ben clerk (level 7) (team 3))"), (8, len(BASE), ("3", 0))),
+    ("operator that names do not take", after(BASE, "(cond-role c clerk (lt team 3))"), (8, len(BASE), ("lt", 0))),
+    ("value of the wrong type in a condition", after(BASE, "(cond-role c clerk (and (eq team red) (eq level x)))"), (8, len(BASE), ("x", 0))),
+    ("name for the clock", after(BASE, "(cond-role c desk (eq hour noon))"), (8, len(BASE), ("noon", 0))),
+    ("name in a number column", after(TABLES, "(row n x y)"), (8, len(TABLES), ("x", 0))),
+    ("number in a name column of cells", after(TABLES, "(row e (7 free) (40 free))"), (8, len(TABLES), ("7", 0))),
+    # ---- 9
+    ("attr line after a user line", after(USERS, "(attr desk extra num)"), (9, len(USERS), None)),
+    ("attr line after a user line, with an unknown role", after(USERS, "(attr nix extra num)"), (5, len(USERS), ("nix", 0))),
+    # ---- the first failing line counts
+    ("two failing lines", ["(purpose all)", "(purpose x nix)", "(porpoise)"], (5, 1, ("nix", 0))),
+]
+
+
+def text_of(lines):
+    return lines if isinstance(lines, bytes) else ("\n".join(lines) + "\n").encode()
+
+
+def cases():
+    """(name, text, what the program must print)"""
+    for name, lines, expected in CASES:
+        if name == "60,000 bytes":
+            text = wide(60000)
+            yield name, text, b"(accepted %d 60021)\n" % text.count(b"\n")
+            continue
+        if name == "60,001 bytes":
+            yield name, wide(60001), b"(refused 1 document 0 0)\n"
+            continue
+        text = text_of(lines)
+        if isinstance(expected, int):
+            yield name, text, b"(accepted %d 60021)\n" % expected
+            continue
+        number, line, item = expected
+        if line is None:
+            yield name, text, b"(refused %d document 0 0)\n" % number
+            continue
+        pieces = text.split(b"\n")
+        start = sum(len(p) + 1 for p in pieces[:line])
+        if item is None:
+            yield name, text, b"(refused %d document %d %d)\n" % (number, start, len(pieces[line]))
+            continue
+        word, nth = item
+        places = [m.start() for m in re.finditer(rb"(?<![A-Za-z0-9_-])" + re.escape(word.encode()) + rb"(?![A-Za-z0-9_-])", pieces[line])]
+        yield name, text, b"(refused %d document %d %d)\n" % (number, start + places[nth], len(word))
+
+
+def wide(size):
+    """An accepted policy (bounds aside) of just this many bytes: rows of 16 names, the last made to fit."""
+    text = "(table t none " + " ".join(f"(c{i} name)" for i in range(16)) + ")\n"
+    row = lambda lengths: "(row t " + " ".join("x" * n for n in lengths) + ")\n"
+    whole = row([24] * 16)
+    while size - len(text) > len(whole) + 200:
+        text += whole
+    # two last rows share what is left
+    left = size - len(text)
+    for part in (left // 2, left - left // 2):
+        letters = part - len(row([0] * 16))
+        lengths = [letters // 16 + (1 if i < letters % 16 else 0) for i in range(16)]
+        assert all(1 <= n <= 24 for n in lengths), lengths
+        text += row(lengths)
+    assert len(text) == size
+    return text.encode()
