@@ -3,7 +3,6 @@ use Prim.Native.Nat.{_<_, _≤_, ℕ}
 use lib.ListN.{length}
 use mathlib.Core.List.{List}
 use mathlib.Core.Path.{_≡_}
-use Rattle.condition.specs.Answers.{Placed}
 use Rattle.document.specs.Check.{checkForm}
 use Rattle.document.specs.Meaning.{add}
 use Rattle.document.specs.Policy.{Doc}

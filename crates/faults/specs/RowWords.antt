@@ -1,0 +1,30 @@
+-- The words of a row's items by the positions where they stand.
+use Prim.Native.Nat.{ℕ}
+use mathlib.Core.Bool.{Bool, false, true}
+use mathlib.Core.List.{List}
+use mathlib.Core.Option.{Option}
+use Rattle.document.specs.ValueFaults.{bracketValues, plainValues}
+use Rattle.form.specs.Form.{Item}
+use Rattle.form.specs.Walks.{firstIn, itemEndAt, listAt, secondIn}
+use Rattle.text.specs.Words.{Word, wordOf}
+
+-- the value of the item at a position: the word there, or behind the bracket that opens there
+unfoldable pub valueAt : List ℕ → ℕ → Word
+valueAt s at = wordOf s (firstIn s at)
+
+-- the values of the items from a position on
+unfoldable pub valuesAt : List ℕ → ℕ → List Word
+valuesAt s at = listAt valueAt itemEndAt s at
+
+-- the label of the bracket at a position
+unfoldable pub labelAt : List ℕ → ℕ → Word
+labelAt s at = wordOf s (secondIn s at)
+
+-- the labels of the brackets from a position on, if all items are brackets
+unfoldable pub labelsAt : List ℕ → ℕ → List Word
+labelsAt s at = listAt labelAt itemEndAt s at
+
+-- the values of items that are all brackets (true), or all without one (false)
+unfoldable pub shapedValues : Bool → List Item → Option (List Word)
+shapedValues true is = bracketValues is
+shapedValues false is = plainValues is

@@ -1,0 +1,54 @@
+-- A table line by the places of its words: its scheme and its columns, and what its fault finder gives.
+use Prim.Native.Nat.{_≤_, ℕ}
+use lib.ListN.{length}
+use mathlib.Core.Bool.{Bool, false, true}
+use mathlib.Core.List.{List}
+use mathlib.Core.Path.{_≡_}
+use Rattle.document.specs.Policy.{Doc}
+use Rattle.faults.specs.Judged.{Judges}
+use Rattle.form.specs.Form.{ColumnForm, Scheme, byCell, byColumn, byRow, byTable, table, unlabelled}
+use Rattle.form.specs.Walks.{columnLabelsAt, columnsAt, labelledColumnsAt, pairEndAt, tripleEndAt}
+use Rattle.text.specs.Words.{Word, wordOf}
+use Rattle.faults.specs.declared.fault.Fault.{Fault}
+use Rattle.faults.specs.declared.fault.Fault.the-variants.{Fine}
+use Rattle.index.specs.declared.tables.SchemeCode.{SchemeCode}
+use Rattle.index.specs.declared.tables.SchemeCode.the-variants as code
+
+-- the scheme with the words of its labels: the table's stands at l, the columns begin at cs
+unfoldable pub schemeWords : List ℕ → SchemeCode → ℕ → ℕ → Scheme Word
+schemeWords line code.Unlabelled l cs = unlabelled
+schemeWords line code.ByTable l cs = byTable (wordOf line l)
+schemeWords line code.ByColumn l cs = byColumn (columnLabelsAt line cs)
+schemeWords line code.ByRow l cs = byRow
+schemeWords line code.ByCell l cs = byCell
+
+-- the columns that begin at cs
+unfoldable pub columnWords : List ℕ → SchemeCode → ℕ → List ColumnForm
+columnWords line code.Unlabelled cs = columnsAt line cs
+columnWords line code.ByTable cs = columnsAt line cs
+columnWords line code.ByColumn cs = labelledColumnsAt line cs
+columnWords line code.ByRow cs = columnsAt line cs
+columnWords line code.ByCell cs = columnsAt line cs
+
+-- whether each column has its label, so that its bracket holds three words and not two
+abbrev pub tripled : SchemeCode → Bool
+tripled code.Unlabelled = false
+tripled code.ByTable = false
+tripled code.ByColumn = true
+tripled code.ByRow = false
+tripled code.ByCell = false
+
+-- the columns from a position on, in brackets of three words or of two
+unfoldable pub columnsBy : Bool → List ℕ → ℕ → List ColumnForm
+columnsBy true s at = labelledColumnsAt s at
+columnsBy false s at = columnsAt s at
+
+-- where such a bracket ends
+unfoldable pub bracketEndBy : Bool → List ℕ → ℕ → ℕ
+bracketEndBy true s at = tripleEndAt s at
+bracketEndBy false s at = pairEndAt s at
+
+-- what the fault finder of a table line gives: the outcome of its check, and where nothing is wrong at most 16 columns
+pub record JudgesTable (Held : Doc → Type 0) (Placed : Type 0) (line : List ℕ) (t : ℕ) (scheme : SchemeCode) (l cs k : ℕ) (r : Fault) : Type 0 where
+  pub judges : Judges Held Placed line (table (wordOf line t) (schemeWords line scheme l cs) (columnWords line scheme cs)) k 8 r
+  pub narrow : r ≡ Fine → length (columnWords line scheme cs) ≤ 16
