@@ -25,7 +25,6 @@ use Rattle.text.proofs.Spaces.{next-not}
 use Rattle.text.specs.Brackets.{keyword, many, next}
 use Rattle.text.specs.CodeEnds.{wordEnd}
 use Rattle.text.specs.Reader.{Left, Reader, _>>=_, andThen, from, give, ifNext}
-use Rattle.text.specs.Refusal.{refused}
 use Rattle.text.specs.Words.{Word}
 use Rattle.form.specs.declared.lines.Columns.{Columns}
 use Rattle.form.specs.declared.lines.Columns.the-variants as columns
@@ -78,11 +77,11 @@ module _ (s : List ℕ) (at e : ℕ) (k : coded.Scheme) {A : Type 0} (R : Reader
           let answered : q ≡ columns.At k e g = h ∙ rw (z, y) in
           rw answered (record { is = λ t. called t ∙ one-or-more R (make t) s e p b ∙ rw (x .1, made t (x .0) g (x .1)); within = (w, omega (arith, space-before s e b)) })
       go true z Nothing y =
-          let refused : q ≡ columns.Refused = h ∙ rw (z, y) in
-          rw refused (record { is = λ t. called t ∙ one-or-more R (make t) s e p (eqb-true _ _ z) ∙ rw (end-none (many R) s e (sym c ∙ y)); within = tt })
+          let wrong : q ≡ columns.Refused = h ∙ rw (z, y) in
+          rw wrong (record { is = λ t. called t ∙ one-or-more R (make t) s e p (eqb-true _ _ z) ∙ rw (end-none (many R) s e (sym c ∙ y)); within = tt })
       go false z x y =
-          let refused : q ≡ columns.Refused = h ∙ rw z in
-          rw refused (record { is = λ t. called t ∙ one-not R (make t) s e (eqb-false _ _ z); within = tt })
+          let wrong : q ≡ columns.Refused = h ∙ rw z in
+          rw wrong (record { is = λ t. called t ∙ one-not R (make t) s e (eqb-false _ _ z); within = tt })
 
 module _ (s : List ℕ) (at e : ℕ) where
   -- plain columns, for every scheme but by column

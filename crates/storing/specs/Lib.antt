@@ -1,0 +1,2 @@
+-- What storing an accepted line means. Assumes nothing.
+pub mod Stored

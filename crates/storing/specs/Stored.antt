@@ -1,0 +1,68 @@
+-- What storing an accepted line in the workspace takes: where the line stands in the text, and that its check finds nothing wrong.
+use Prim.Native.Nat.{_+_, _≤_, ℕ}
+use lib.ListN.{drop, length}
+use mathlib.Core.Bool.{Bool, false, true}
+use mathlib.Core.List.{List, [], _++_}
+use mathlib.Core.Path.{_≡_}
+use Rattle.document.specs.Check.{checkForm}
+use Rattle.document.specs.Meaning.{add}
+use Rattle.document.specs.Policy.{Column, Doc, Row, Table}
+use Rattle.form.specs.Form.{ColumnForm, Form, Scheme, byCell, byColumn, byRow, byTable, table, unlabelled}
+use Rattle.form.specs.Walks.{columnLabelsAt, columnsAt, labelledColumnsAt}
+use Rattle.index.specs.Index.{Filling, FillingRow, Rows, Tables}
+use Rattle.index.specs.declared.tables.SchemeCode.{SchemeCode}
+use Rattle.index.specs.declared.tables.SchemeCode.the-variants as code
+use Rattle.text.specs.Numbers.{Value}
+use Rattle.text.specs.Refusal.{accepted}
+use Rattle.text.specs.Words.{Word, nameBytes, wordOf}
+
+-- the line stands at a position of the text, and what stands behind it does not go on with a name
+pub record LineAt (text : List ℕ) (at : ℕ) (line : List ℕ) : Type 0 where
+  pub rest : List ℕ
+  pub is : drop at text ≡ line ++ rest
+  pub ends : nameBytes rest ≡ []
+  pub within : at + length line ≤ length text
+
+-- the check of the form finds nothing wrong
+abbrev pub Passes : Doc → List ℕ → Form → Type 0
+Passes d line f = checkForm d line f ≡ accepted (add d f)
+
+-- the scheme of a table by the code's name for it, the place of the table's label, and that of its columns
+unfoldable pub schemeWords : SchemeCode → List ℕ → ℕ → ℕ → Scheme Word
+schemeWords code.Unlabelled s l cs = unlabelled
+schemeWords code.ByTable s l cs = byTable (wordOf s l)
+schemeWords code.ByColumn s l cs = byColumn (columnLabelsAt s cs)
+schemeWords code.ByRow s l cs = byRow
+schemeWords code.ByCell s l cs = byCell
+
+-- the columns of a table of this scheme
+unfoldable pub schemeColumns : SchemeCode → List ℕ → ℕ → List ColumnForm
+schemeColumns code.Unlabelled s cs = columnsAt s cs
+schemeColumns code.ByTable s cs = columnsAt s cs
+schemeColumns code.ByColumn s cs = labelledColumnsAt s cs
+schemeColumns code.ByRow s cs = columnsAt s cs
+schemeColumns code.ByCell s cs = columnsAt s cs
+
+-- the table line whose name stands at t
+abbrev pub tableLine : List ℕ → ℕ → SchemeCode → ℕ → ℕ → Form
+tableLine s t k l cs = table (wordOf s t) (schemeWords k s l cs) (schemeColumns k s cs)
+
+-- ---- for the functions that are not called from outside
+
+-- the labels of a table of this scheme stand at its columns
+unfoldable pub labelsColumns : SchemeCode → Bool
+labelsColumns code.Unlabelled = false
+labelsColumns code.ByTable = false
+labelsColumns code.ByColumn = true
+labelsColumns code.ByRow = false
+labelsColumns code.ByCell = false
+
+-- the columns of table k stand in the workspace, r of them with these labels, and the tables before it stay
+pub record ColumnsFilled (text before after : List ℕ) (k r : ℕ) (cs : List Column) (ls : List ℕ) : Type 0 where
+  pub kept : (ts : List Table) → Tables text before k ts → Tables text after k ts
+  pub filling : Filling text after k r cs ls
+
+-- the values and labels of row k stand in the workspace, c and m of them, and the rows before it stay
+pub record RowFilled (text before after : List ℕ) (k c m : ℕ) (vs : List Value) (ls : List ℕ) : Type 0 where
+  pub kept : (rs : List Row) → Rows text before k rs → Rows text after k rs
+  pub filling : FillingRow text after k c m vs ls
