@@ -1,0 +1,6 @@
+-- Laws of the checker. Assumes nothing.
+pub mod Growing
+pub mod Judgements
+pub mod CondLines
+pub mod TableLines
+pub mod Turns

@@ -1,0 +1,182 @@
+-- The loop over a document's lines: what holds before each line, and what a line does to it. Assumes nothing.
+use Prim.Native.Nat.{_+_, _-_, _<_, _≤_, ℕ}
+use borrow.Author.Count.{below-none}
+use borrow.Author.Tests.{le-ltb, lt-ltb}
+use lib.Dec.{ltb}
+use lib.ListN.{drop, drop-of-length-le, getElem?, length, length-drop, take, take-append-drop}
+use lib.Seq.{drop-drop, length-take-le}
+use mathlib.Core.Bool.{false, true}
+use mathlib.Core.List.{List, [], _∷_}
+use mathlib.Core.Option.{Option·none-ne-some}
+use mathlib.Core.Path.{_∙_, _≡_, ap, ap₂, refl, sym}
+use native.Mathlib.Nat.{add-zero}
+use native.Mathlib.Omega.{arith}
+use Rattle.checker.specs.Outcome.{Answers, Checks, Reserved, checkedAs, linesOnly}
+use Rattle.checker.specs.Workspace.{Grows, Indexed}
+use Rattle.document.proofs.UniqueNames.{UniqueNames, unique-empty, unique-line}
+use Rattle.document.specs.Check.{Accepted, check, checkFrom, checkLine}
+use Rattle.document.specs.Policy.{Doc, emptyDoc, emptyPolicy}
+use Rattle.index.proofs.IndexLaws.{attributes-start, conds-start, nodes-start, users-start}
+use Rattle.index.specs.Index.{Grants, Labels, Rows, Tables, lineIn}
+use Rattle.index.specs.Listed.{listed}
+use Rattle.purpose.specs.Members.{limit}
+use Rattle.storing.specs.Stored.{LineAt}
+use Rattle.text.proofs.Lefts.{drop-here}
+use Rattle.text.specs.Bytes.{isDigit, isLetter, isNameByte}
+use Rattle.text.specs.Lines.{LineEnd, Pieces, cut}
+use Rattle.text.specs.Reasons.{refusalOf}
+use Rattle.text.specs.Refusal.{Refusal, Result, _>>=_, _>>_, accepted, document, moved, movedBy, pointingAll, pointingNowhere, refuseIf, refused}
+use Rattle.text.specs.Words.{nameBytes}
+use Rattle.checker.specs.declared.documents.Checked.the-variants as checked
+use Rattle.checker.specs.declared.steps.Counts.{Counts}
+use Rattle.text.specs.declared.refusals.Refusal as code
+
+-- the workspace holds the document of the n lines before the position, and the check of the text is the check from there on
+pub record Going (text ps rs bs us cs gs ls ms ts ws : List ℕ) (c : Counts) (at n : ℕ) : Type 0 where
+  pub doc : Doc
+  pub held : Indexed text ps rs bs us cs gs ls ms ts ws c doc
+  pub unique : UniqueNames (doc .policy)
+  pub within : at ≤ length text
+  pub few : n ≤ at
+  pub rest : checkFrom emptyDoc 0 0 (cut text .head) (cut text .others) ≡ checkFrom doc n at (cut (drop at text) .head) (cut (drop at text) .others)
+
+-- before any line
+pub begins : (text ps rs bs us cs gs ls ms ts ws : List ℕ)
+    → Going text ps rs bs us cs gs ls ms ts ws (record { purposes = 0; roles = 0; attributes = 0; users = 0; conds = 0; grants = 0; labels = 0; tables = 0; rows = 0 }) 0 0
+unfolding listed emptyDoc emptyPolicy
+begins text ps rs bs us cs gs ls ms ts ws = record {
+  doc = emptyDoc;
+  held = record {
+    purposes = nodes-start limit text ps;
+    roles = nodes-start 64 text rs;
+    attributes = attributes-start text bs;
+    users = users-start emptyPolicy text us;
+    conds = conds-start emptyPolicy text cs;
+    grants = record { few = omega arith; are = refl };
+    labels = record { few = omega arith; named = refl; allowed = λ i l e. absurd (Option·none-ne-some _ e); denied = λ i l e. absurd (Option·none-ne-some _ e) };
+    tables = record { few = omega arith; narrow = below-none _; are = refl };
+    rows = record { few = omega arith; narrow = below-none _; marked = below-none _; are = refl };
+  };
+  unique = unique-empty;
+  within = omega arith;
+  few = omega arith;
+  rest = refl;
+}
+
+-- ---- the check of the pieces, one at a time
+
+module _ (d : Doc) (n at : ℕ) (piece : List ℕ) where
+  more-fails : (p : List ℕ) (ps : List (List ℕ)) (x : Refusal) → checkLine d piece ≡ refused x → checkFrom d n at piece (p ∷ ps) ≡ refused (moved at x)
+  unfolding checkFrom movedBy _>>=_
+  more-fails p ps x h = rw (h, checkFrom)
+
+  more-goes : (p : List ℕ) (ps : List (List ℕ)) (e : Doc) → checkLine d piece ≡ accepted e → checkFrom d n at piece (p ∷ ps) ≡ checkFrom e (n + 1) (at + length piece + 1) p ps
+  unfolding checkFrom movedBy _>>=_
+  more-goes p ps e h = rw (h, checkFrom)
+
+  last-open : 0 < length piece → checkFrom d n at piece [] ≡ refused (moved at (pointingAll 2 document piece))
+  unfolding checkFrom movedBy refuseIf _>>_
+  last-open h = rw (lt-ltb 0 (length piece) h, checkFrom)
+
+last-none : (d : Doc) (n at : ℕ) → checkFrom d n at [] [] ≡ accepted (record { lines = n; doc = d })
+unfolding checkFrom movedBy refuseIf _>>_
+last-none d n at = refl
+
+-- ---- the line from a position to its end
+
+feed-no-name : (s : List ℕ) → nameBytes (10 ∷ s) ≡ []
+unfolding nameBytes isNameByte isLetter isDigit
+feed-no-name s = refl
+
+module _ (text : List ℕ) (at e : ℕ) (l : LineEnd text at e) where
+  -- it begins before it ends
+  pub line-from : at ≤ e
+  line-from = omega (arith, l .ends)
+
+  pub line-length : at ≤ length text → length (lineIn text at e) ≡ e - at
+  line-length h = length-take-le (e - at) (drop at text) (omega (arith, l .within h, length-drop at text))
+
+  -- a line with its line feed stands in the text as what is stored of it has to
+  pub line-placed : e < length text → LineAt text at (lineIn text at e)
+  line-placed h =
+      let k : at ≤ e = line-from in
+      let q : at + (e - at) ≡ e = omega arith in
+      record {
+        rest = drop (e - at) (drop at text);
+        is = sym (take-append-drop (e - at) (drop at text));
+        ends =
+            ap nameBytes (drop-drop (e - at) at text ∙ ap (λ (m : ℕ). drop m text) q ∙ drop-here text e h ∙ ap (λ (b : ℕ). b ∷ drop (e + 1) text) (l .feed h))
+            ∙ feed-no-name (drop (e + 1) text);
+        within = omega (arith, line-length (omega arith));
+      }
+
+  module _ (d : Doc) (n : ℕ) where
+    -- it is refused
+    pub turn-fails : e < length text → (x : Refusal) → checkLine d (lineIn text at e) ≡ refused x
+        → checkFrom d n at (cut (drop at text) .head) (cut (drop at text) .others) ≡ refused (moved at x)
+    turn-fails h x k = ap₂ (checkFrom d n at) (l .line) (l .behind h) ∙ more-fails d n at (lineIn text at e) _ _ x k
+
+    -- it is accepted
+    pub turn-goes : e < length text → (f : Doc) → checkLine d (lineIn text at e) ≡ accepted f
+        → checkFrom d n at (cut (drop at text) .head) (cut (drop at text) .others) ≡ checkFrom f (n + 1) (e + 1) (cut (drop (e + 1) text) .head) (cut (drop (e + 1) text) .others)
+    turn-goes h f k =
+        let q : at + length (lineIn text at e) + 1 ≡ e + 1 = omega (arith, line-from, line-length (omega (arith, line-from))) in
+        ap₂ (checkFrom d n at) (l .line) (l .behind h) ∙ more-goes d n at (lineIn text at e) _ _ f k
+        ∙ ap (λ (m : ℕ). checkFrom f (n + 1) m (cut (drop (e + 1) text) .head) (cut (drop (e + 1) text) .others)) q
+
+    -- it has no line feed
+    pub turn-open : at < length text → length text ≤ e
+        → checkFrom d n at (cut (drop at text) .head) (cut (drop at text) .others) ≡ refused (moved at (pointingAll 2 document (lineIn text at e)))
+    turn-open h k =
+        ap₂ (checkFrom d n at) (l .line) (l .last k) ∙ last-open d n at (lineIn text at e) (omega (arith, line-length (omega arith)))
+
+-- nothing is left
+pub turn-none : (text : List ℕ) (at : ℕ) → length text ≤ at → (d : Doc) (n : ℕ)
+    → checkFrom d n at (cut (drop at text) .head) (cut (drop at text) .others) ≡ accepted (record { lines = n; doc = d })
+turn-none text at h d n =
+    ap (λ (s : List ℕ). checkFrom d n at (cut s .head) (cut s .others)) (drop-of-length-le text h) ∙ (unfold cut in last-none d n at)
+
+-- ---- answers
+
+-- a refusal of the whole line
+pub whole-moved : (at n : ℕ) (line : List ℕ) → moved at (pointingAll n document line) ≡ record { number = n; source = document; start = at; len = length line }
+unfolding moved pointingAll
+whole-moved at n line = ap {B = Refusal} (λ k. record { number = n; source = document; start = k; len = length line }) (add-zero at)
+
+-- of one without a line feed
+pub open-moved : (text : List ℕ) (at e : ℕ) → LineEnd text at e → at ≤ length text → record { number = 2; source = document; start = at; len = e - at } ≡ moved at (pointingAll 2 document (lineIn text at e))
+open-moved text at e l h =
+    sym (whole-moved at 2 (lineIn text at e) ∙ ap {B = Refusal} (λ k. record { number = 2; source = document; start = at; len = k }) (line-length text at e l h))
+
+pub answers-refused : {o : Result Accepted} {x : Refusal} (r : code.Refusal) → o ≡ refused x → refusalOf r ≡ x → Answers o (checked.Refused r)
+unfolding checkedAs linesOnly Reserved
+answers-refused r p q = record { is = ap refused q ∙ sym (ap linesOnly p); reserve = tt }
+
+pub answers-accepted : {o : Result Accepted} (n : ℕ) (d : Doc) → o ≡ accepted (record { lines = n; doc = d }) → Answers o (checked.Accepted n 60021)
+unfolding checkedAs linesOnly Reserved
+answers-accepted n d p = record { is = sym (ap linesOnly p); reserve = refl }
+
+-- ---- the text
+
+pub text-long : (s : List ℕ) → 60000 < length s → check s ≡ refused (pointingNowhere 1 document)
+unfolding check refuseIf _>>_
+text-long s h = rw (lt-ltb 60000 (length s) h)
+
+pub text-fits : (s : List ℕ) → length s ≤ 60000 → check s ≡ checkFrom emptyDoc 0 0 (cut s .head) (cut s .others)
+unfolding check refuseIf _>>_
+text-fits s h = rw (le-ltb 60000 (length s) h)
+
+-- ---- a turn
+
+module _ {text ps rs bs us cs gs ls ms ts ws : List ℕ} {c : Counts} {at n : ℕ} (e : ℕ) (I : Going text ps rs bs us cs gs ls ms ts ws c at n) (l : LineEnd text at e) (h : e < length text) where
+  pub goes-on : {ps′ rs′ bs′ us′ cs′ gs′ ls′ ms′ ts′ ws′ : List ℕ} {c′ : Counts}
+      → Grows (Indexed text ps′ rs′ bs′ us′ cs′ gs′ ls′ ms′ ts′ ws′) (checkLine (I .doc) (lineIn text at e)) c′
+      → Going text ps′ rs′ bs′ us′ cs′ gs′ ls′ ms′ ts′ ws′ c′ (e + 1) (n + 1)
+  goes-on g = record {
+    doc = g .doc;
+    held = g .held;
+    unique = unique-line (I .doc) (lineIn text at e) (g .doc) (I .unique) (g .is);
+    within = omega arith;
+    few = omega (arith, I .few, line-from text at e l);
+    rest = I .rest ∙ turn-goes text at e l (I .doc) n h (g .doc) (g .is);
+  }

@@ -1,0 +1,3 @@
+-- What the checker's answers stand for. Assumes nothing.
+pub mod Outcome
+pub mod Workspace

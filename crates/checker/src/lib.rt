@@ -1,0 +1,3 @@
+// The check of a document: its lines in order, each read, judged and stored in a workspace of arrays.
+pub mod documents;
+mod steps;
