@@ -1,17 +1,17 @@
 -- A line of a conditional role: its form is told by the condition that is read in it. Assumes nothing.
-use Prim.Native.Nat.{_<_, ℕ}
+use Prim.Native.Nat.{ℕ}
 use mathlib.Core.Bool.{false, true}
 use mathlib.Core.List.{List}
 use mathlib.Core.Option.{Option, Option·map, none, some}
 use mathlib.Core.Path.{_∙_, _≡_, ap, refl, subst, sym}
-use Rattle.checker.proofs.Judgements.{has-room, judges-as, line-form, line-none, refuses}
+use Rattle.checker.proofs.Judgements.{judges-as, line-form, line-none, refuses}
 use Rattle.checker.specs.Workspace.{Refuses, isFine, refusalIn}
 use Rattle.condition.specs.Cond.{Cond}
 use Rattle.condition.specs.CondForm.{Compared, conditionInForm}
 use Rattle.document.specs.Check.{checkForm, checkLine}
 use Rattle.document.specs.Policy.{Doc}
 use Rattle.faults.specs.CondLine.{JudgesCond}
-use Rattle.faults.specs.Judged.{Judges, Reaches}
+use Rattle.faults.specs.Judged.{Judges}
 use Rattle.form.specs.Form.{Form, condRole}
 use Rattle.form.specs.FormReader.{formOf}
 use Rattle.index.specs.Index.{conditionRead}
@@ -26,20 +26,20 @@ use Rattle.text.specs.declared.refusals.Reason.the-variants.{WrongForm}
 abbrev pub condForm : List ℕ → ℕ → ℕ → ℕ → Form
 condForm line n r t = condRole (wordOf line n) (wordOf line r) (conditionRead (conditionInForm (from line t)))
 
-module _ {Held : Doc → Type 0} {Placed : Type 0} {line : List ℕ} {n r t k : ℕ} {f : Fault} (j : JudgesCond Held Placed line n r t k f) where
+module _ {Held : Doc → Type 0} {Inside : Type 0} {line : List ℕ} {n r t k : ℕ} {f : Fault} (j : JudgesCond Held Inside line n r t k f) where
   wrong-form : isFine f ≡ true → f ≡ Whole WrongForm → ⊥
   unfolding isFine
   wrong-form h e = true-not-false (sym (ap isFine e) ∙ h) refl
 
-  told : (x : Cond Compared × Left) → conditionInForm (from line t) ≡ some x → Judges Held Placed line (condForm line n r t) k 64 f
+  told : (x : Cond Compared × Left) → conditionInForm (from line t) ≡ some x → Judges Held Inside line (condForm line n r t) k 64 f
   unfolding conditionRead
   told x e = judges-as (ap (λ (o : Option (Cond Compared × Left)). condRole (wordOf line n) (wordOf line r) (conditionRead o)) (sym e)) (j .judges (x .0) (x .1) e)
 
   -- nothing is wrong: a condition was read
-  pub cond-judges : isFine f ≡ true → Judges Held Placed line (condForm line n r t) k 64 f
+  pub cond-judges : isFine f ≡ true → Judges Held Inside line (condForm line n r t) k 64 f
   cond-judges h = go (conditionInForm (from line t)) refl
     where
-      go : (o : Option (Cond Compared × Left)) → conditionInForm (from line t) ≡ o → Judges Held Placed line (condForm line n r t) k 64 f
+      go : (o : Option (Cond Compared × Left)) → conditionInForm (from line t) ≡ o → Judges Held Inside line (condForm line n r t) k 64 f
       go none e = absurd (wrong-form h (j .refuses e))
       go (some x) e = told x e
 
@@ -59,7 +59,7 @@ module _ {Held : Doc → Type 0} {Placed : Type 0} {line : List ℕ} {n r t k : 
         go (some x) e = sym (line-form d line (condForm line n r t) (cond-is x e))
 
     -- something is wrong, perhaps the condition
-    pub cond-refuses : isFine f ≡ false → (d : Doc) → Held d → Placed → Refuses line (checkLine d line) f
+    pub cond-refuses : isFine f ≡ false → (d : Doc) → Held d → Inside → Refuses line (checkLine d line) f
     cond-refuses h d held p = go (conditionInForm (from line t)) refl
       where
         none-read : Refuses line (checkLine d line) (Whole WrongForm) → f ≡ Whole WrongForm → Refuses line (checkLine d line) f

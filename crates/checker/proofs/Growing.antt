@@ -16,10 +16,10 @@ use Rattle.document.specs.Bounds.{lateAttr}
 use Rattle.document.specs.Check.{checkForm}
 use Rattle.document.specs.Lookup.{roleOf}
 use Rattle.document.specs.Meaning.{add, define, rowsGiven}
-use Rattle.document.specs.Policy.{Attribute, Doc, Grant, Policy, Row, User}
+use Rattle.document.specs.Policy.{Doc, Grant, Policy, Row, User}
 use Rattle.form.specs.Form.{ColumnForm, Form, GivenForm, Item, Scheme, attr, condRole, grant, label, purpose, role, row, table, user}
-use Rattle.index.proofs.ListedLaws.{length-listed}
 use Rattle.index.proofs.IndexLaws.{conds-grown, conds-same, users-length, users-none, users-same}
+use Rattle.index.proofs.ListedLaws.{length-listed}
 use Rattle.index.specs.Index.{Attributes, CondRoles, Grants, Labels, Nodes, Rows, Tables, Users, grantIn, rowIn}
 use Rattle.purpose.specs.Members.{limit}
 use Rattle.text.proofs.RefusalLaws.{refuseIf-accepted, then-accepted}

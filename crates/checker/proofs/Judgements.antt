@@ -3,7 +3,7 @@ use Prim.Native.Nat.{_<_, ℕ}
 use mathlib.Core.Bool.{false, true}
 use mathlib.Core.List.{List}
 use mathlib.Core.Option.{none, some}
-use mathlib.Core.Path.{_∙_, _≡_, ap, refl, subst, sym}
+use mathlib.Core.Path.{_∙_, _≡_, refl, subst}
 use native.Mathlib.Omega.{arith}
 use Rattle.checker.specs.Workspace.{Follows, Grows, Refuses, isFine, refusalIn}
 use Rattle.document.specs.Check.{checkForm, checkLine}
@@ -39,7 +39,7 @@ room-fine Fine k room h q = q
 room-fine (Whole x) k room h q = true-not-false h refl
 room-fine (Item x at) k room h q = true-not-false h refl
 
-module _ {Held : Doc → Type 0} {Placed : Type 0} {line : List ℕ} {f : Form} {k room : ℕ} {r : Fault} (j : Judges Held Placed line f k room r) where
+module _ {Held : Doc → Type 0} {Inside : Type 0} {line : List ℕ} {f : Form} {k room : ℕ} {r : Fault} (j : Judges Held Inside line f k room r) where
   -- nothing is wrong: there is room, and the form passes
   pub has-room : isFine r ≡ true → k < room
   has-room h = room-fine r k room h (j .roomy)
@@ -48,7 +48,7 @@ module _ {Held : Doc → Type 0} {Placed : Type 0} {line : List ℕ} {f : Form} 
   passes h d held = j .is d held ∙ judged-fine d line f r h
 
   -- something is wrong
-  pub refuses : isFine r ≡ false → (d : Doc) → Held d → Placed → Refuses line (checkForm d line f) r
+  pub refuses : isFine r ≡ false → (d : Doc) → Held d → Inside → Refuses line (checkForm d line f) r
   refuses h d held p = record { is = j .is d held ∙ judged-wrong d line f r h; reaches = j .reaches p }
 
 -- a line that is a form, and one that is none
@@ -80,5 +80,5 @@ pub follows-as : {Held : Counts → Doc → Type 0} {line : List ℕ} {o p : Res
 follows-as {Held} {line} {o} {p} {s} e f = subst (λ (x : Result Doc). Follows Held line x s) e f
 
 -- the same for a form that equals it
-pub judges-as : {Held : Doc → Type 0} {Placed : Type 0} {line : List ℕ} {f g : Form} {k room : ℕ} {r : Fault} → f ≡ g → Judges Held Placed line f k room r → Judges Held Placed line g k room r
-judges-as {Held} {Placed} {line} {f} {g} {k} {room} {r} e j = subst (λ (x : Form). Judges Held Placed line x k room r) e j
+pub judges-as : {Held : Doc → Type 0} {Inside : Type 0} {line : List ℕ} {f g : Form} {k room : ℕ} {r : Fault} → f ≡ g → Judges Held Inside line f k room r → Judges Held Inside line g k room r
+judges-as {Held} {Inside} {line} {f} {g} {k} {room} {r} e j = subst (λ (x : Form). Judges Held Inside line x k room r) e j

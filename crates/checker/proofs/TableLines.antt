@@ -5,12 +5,12 @@ use mathlib.Core.List.{List}
 use mathlib.Core.Path.{_∙_, _≡_, ap₂, refl, subst, sym}
 use native.Mathlib.Omega.{arith}
 use Rattle.checker.specs.Workspace.{labelPlace, schemeCoded}
-use Rattle.faults.specs.TableLine as judging
 use Rattle.form.specs.Form.{table}
 use Rattle.form.specs.Places.{SchemeWithin, schemeAt, tableColumnsAt}
-use Rattle.storing.specs.Stored as storing
 use Rattle.storing.specs.Stored.{tableLine}
 use Rattle.text.specs.Words.{wordOf}
+use Rattle.faults.specs.TableLine as judging
+use Rattle.storing.specs.Stored as storing
 use Rattle.form.specs.declared.lines.Scheme.{Scheme}
 use Rattle.form.specs.declared.lines.Scheme.the-variants as scheme
 use Rattle.index.specs.declared.tables.SchemeCode.{SchemeCode}

@@ -2,28 +2,26 @@
 use Prim.Native.Nat.{_+_, _-_, _<_, _≤_, ℕ}
 use borrow.Author.Count.{below-none}
 use borrow.Author.Tests.{le-ltb, lt-ltb}
-use lib.Dec.{ltb}
-use lib.ListN.{drop, drop-of-length-le, getElem?, length, length-drop, take, take-append-drop}
+use lib.ListN.{drop, drop-of-length-le, length, length-drop, take-append-drop}
 use lib.Seq.{drop-drop, length-take-le}
-use mathlib.Core.Bool.{false, true}
 use mathlib.Core.List.{List, [], _∷_}
 use mathlib.Core.Option.{Option·none-ne-some}
 use mathlib.Core.Path.{_∙_, _≡_, ap, ap₂, refl, sym}
 use native.Mathlib.Nat.{add-zero}
 use native.Mathlib.Omega.{arith}
-use Rattle.checker.specs.Outcome.{Answers, Checks, Reserved, checkedAs, linesOnly}
+use Rattle.checker.specs.Outcome.{Answers, Reserved, checkedAs, linesOnly}
 use Rattle.checker.specs.Workspace.{Grows, Indexed}
 use Rattle.document.proofs.UniqueNames.{UniqueNames, unique-empty, unique-line}
 use Rattle.document.specs.Check.{Accepted, check, checkFrom, checkLine}
 use Rattle.document.specs.Policy.{Doc, emptyDoc, emptyPolicy}
 use Rattle.index.proofs.IndexLaws.{attributes-start, conds-start, nodes-start, users-start}
-use Rattle.index.specs.Index.{Grants, Labels, Rows, Tables, lineIn}
+use Rattle.index.specs.Index.{lineIn}
 use Rattle.index.specs.Listed.{listed}
 use Rattle.purpose.specs.Members.{limit}
 use Rattle.storing.specs.Stored.{LineAt}
 use Rattle.text.proofs.Lefts.{drop-here}
 use Rattle.text.specs.Bytes.{isDigit, isLetter, isNameByte}
-use Rattle.text.specs.Lines.{LineEnd, Pieces, cut}
+use Rattle.text.specs.Lines.{LineEnd, cut}
 use Rattle.text.specs.Reasons.{refusalOf}
 use Rattle.text.specs.Refusal.{Refusal, Result, _>>=_, _>>_, accepted, document, moved, movedBy, pointingAll, pointingNowhere, refuseIf, refused}
 use Rattle.text.specs.Words.{nameBytes}

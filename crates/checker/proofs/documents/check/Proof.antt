@@ -1,7 +1,7 @@
 -- `checker::documents::check` meets its contract. Assumes nothing.
 use mathlib.Core.Path.{refl, subst, sym}
 use Rattle.checker.proofs.Turns.{answers-refused, text-fits, text-long}
-use Rattle.checker.specs.Outcome.{Answers, Checks}
+use Rattle.checker.specs.Outcome.{Answers}
 use Rattle.document.specs.Check.{Accepted}
 use Rattle.text.specs.Refusal.{Result, pointingNowhere}
 use Rattle.checker.proofs.documents.check.Statement.{statement}

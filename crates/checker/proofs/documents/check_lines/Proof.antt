@@ -1,14 +1,11 @@
 -- `checker::documents::check_lines` meets its contract. The loop's invariant: the workspace holds the document of the lines before the
 -- position, and the check of the text is the check from there on. Assumes nothing.
-use Prim.Native.Nat.{_+_, _-_, _<_, _≤_, ℕ}
+use Prim.Native.Nat.{_-_, _<_}
 use borrow.Author.Needs.{needs}
 use lib.ListN.{length}
-use mathlib.Core.Path.{_∙_, _≡_}
+use mathlib.Core.Path.{_∙_}
 use native.Mathlib.Omega.{arith}
 use Rattle.checker.proofs.Turns.{Going, answers-accepted, answers-refused, begins, goes-on, line-from, line-length, line-placed, open-moved, turn-fails, turn-none, turn-open}
-use Rattle.checker.specs.Workspace.{Follows, Grows, Indexed, Refuses, refusalIn}
-use Rattle.document.specs.Check.{checkLine}
-use Rattle.index.specs.Index.{lineIn}
 use Rattle.checker.proofs.documents.check_lines.Statement.{statement}
 use Rattle.checker.proofs.documents.check_lines.Tie as tie
 

@@ -1,16 +1,16 @@
 -- `checker::documents::refusal_of` meets its contract. Assumes nothing.
-use Prim.Native.Nat.{_+_, _-_, _≤_, ℕ}
+use Prim.Native.Nat.{_+_, _-_, _≤_}
 use borrow.Author.Needs.{needs}
 use lib.ListN.{length}
 use mathlib.Core.Path.{_∙_, _≡_, ap, subst, sym}
 use native.Mathlib.Omega.{arith}
-use Rattle.checker.specs.Workspace.{refusalIn}
 use Rattle.checker.proofs.Turns.{whole-moved}
+use Rattle.checker.specs.Workspace.{refusalIn}
 use Rattle.faults.specs.Judged.{Reaches}
-use Rattle.faults.specs.declared.fault.Fault.{Fault}
 use Rattle.text.specs.Reasons.{numberOf}
 use Rattle.text.specs.Refusal.{Refusal, document, moved, pointing}
 use Rattle.text.specs.Words.{wordAt}
+use Rattle.faults.specs.declared.fault.Fault.{Fault}
 use Rattle.checker.proofs.documents.refusal_of.Statement.{statement}
 use Rattle.checker.proofs.documents.refusal_of.Tie as tie
 

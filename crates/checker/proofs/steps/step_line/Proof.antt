@@ -1,6 +1,6 @@
 -- `checker::steps::step_line` meets its contract: the line is read, and each form is answered by its own function. Assumes nothing.
 use borrow.Author.Needs.{needs}
-use mathlib.Core.Path.{_∙_, _≡_, ap, refl, subst, sym}
+use mathlib.Core.Path.{_∙_, ap, subst, sym}
 use Rattle.checker.proofs.Judgements.{follows-as, follows-fails, line-form, line-none}
 use Rattle.checker.specs.Workspace.{refusalIn}
 use Rattle.form.specs.Places.{Within, lineAt}
