@@ -99,8 +99,8 @@ fn check_lines(
         tables: 0,
         rows: 0,
     };
-    let mut at = 0;
-    let mut n = 0;
+    let mut at: usize = 0;
+    let mut n: usize = 0;
     while at < text.len() {
         let e = line_end(text, at);
         if e == text.len() {
