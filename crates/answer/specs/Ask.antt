@@ -7,8 +7,8 @@ use mathlib.Core.List.{List, _++_}
 use Rattle.document.specs.Check.{check}
 use Rattle.document.specs.Lookup.{purposeOf, userOf}
 use Rattle.document.specs.Policy.{Doc}
-use Rattle.gate.specs.Answer.{Answer, answerTo}
-use Rattle.gate.specs.Seen.{seenRows}
+use Rattle.answer.specs.Answer.{Answer, answerTo}
+use Rattle.answer.specs.Seen.{seenRows}
 use Rattle.query.specs.Authority.{Clock, firstGrant, inRange}
 use Rattle.query.specs.Query.{closedPart, mistypedQuery, resolved, unknownColumn, unknownParty}
 use Rattle.query.specs.QueryForm.{QueryForm, queryOf}

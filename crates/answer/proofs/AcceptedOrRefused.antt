@@ -10,9 +10,9 @@ use mathlib.Core.Path.{_∙_, _≡_, ap, refl, subst, sym}
 use Rattle.document.specs.Check.{Accepted, check}
 use Rattle.document.specs.Lookup.{purposeOf, userOf}
 use Rattle.document.specs.Policy.{Doc}
-use Rattle.gate.specs.Answer.{Answer, answerTo}
-use Rattle.gate.specs.Ask.{Answered, answerForm, ask}
-use Rattle.gate.specs.Seen.{seenRows}
+use Rattle.answer.specs.Answer.{Answer, answerTo}
+use Rattle.answer.specs.Ask.{Answered, answerForm, ask}
+use Rattle.answer.specs.Seen.{seenRows}
 use Rattle.lists.proofs.Tests.{not-false}
 use Rattle.lists.specs.Lists.{known, there}
 use Rattle.query.specs.Authority.{Clock, firstGrant, inRange}

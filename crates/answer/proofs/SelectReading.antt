@@ -8,7 +8,7 @@ use mathlib.Core.Option.{Option, Option·map, Option·none-ne-some, Option·some
 use mathlib.Core.Path.{_∙_, _≡_, ap, refl, subst, sym}
 use Rattle.condition.proofs.CondPlaces.{conditionInForm-agree}
 use Rattle.condition.specs.CondForm.{conditionInForm}
-use Rattle.gate.specs.Further.{selectText}
+use Rattle.answer.specs.Further.{selectText}
 use Rattle.query.proofs.Below.{forPurpose}
 use Rattle.query.proofs.QueryPlaces.{bounds-placeless, placelessQuery}
 use Rattle.query.specs.QueryForm.{QueryForm, columnList, ifWithinBounds, queryBody, queryForm, queryForms, queryOf, selectColumns, selectedWords, withinBounds}

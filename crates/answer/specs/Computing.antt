@@ -6,14 +6,14 @@ use Rattle.condition.specs.Computing as condition
 use Rattle.form.specs.Computing as form
 use Rattle.document.specs.Computing as document
 use Rattle.query.specs.Computing as query
-use Rattle.gate.specs.Seen as Seen
-use Rattle.gate.specs.Answer as Answer
-use Rattle.gate.specs.Ask as Ask
-use Rattle.gate.specs.Exactly as Exactly
-use Rattle.gate.specs.Reserve as Reserve
-use Rattle.gate.specs.Alike as Alike
-use Rattle.gate.specs.Further as Further
-use Rattle.gate.specs.Session as Session
+use Rattle.answer.specs.Seen as Seen
+use Rattle.answer.specs.Answer as Answer
+use Rattle.answer.specs.Ask as Ask
+use Rattle.answer.specs.Exactly as Exactly
+use Rattle.answer.specs.Reserve as Reserve
+use Rattle.answer.specs.Alike as Alike
+use Rattle.answer.specs.Further as Further
+use Rattle.answer.specs.Session as Session
 
 unfoldable pub computing : Unit {0}
 unfolding mathlib.Core.Option.bind mathlib.Core.List.flatten lists.computing purpose.computing text.computing condition.computing form.computing document.computing query.computing Seen.onlyNamed Seen.seenRow Seen.rowsIn Seen.seenRows Answer.matches Answer.rowLine Answer.endLine Answer.isWithheld Answer.isPassed Answer.isUnmatched Answer.lineOf Answer.rowLines Answer.counted Answer.answerTo Ask.answerForm Ask.ask Ask.after Ask.pointedText Ask.partOf Exactly.isWithheldRow Exactly.isGiven Exactly.isUnmatchedRow Reserve.SelectsOnce Reserve.IsReserve Alike.namedColumns Alike.inTable Alike.withheldFrom Alike.openTo Alike.free Alike.rowOf Alike.linesOf Further.selectText Further.Prints Session.sourceName Session.refusalLine Session.printed Session.natural Session.clockNumbers Session.clockOf Session.linesIn Session.programRoom Session.answers Session.writes Session.session

@@ -12,10 +12,10 @@ use Rattle.document.specs.Lookup.{columnsOf, purposeOf, schemeAt, userOf}
 use Rattle.document.specs.Open.{columnOpen, labelOpen, rowWithheld, tableOpen}
 use Rattle.document.specs.Policy.{Policy, Row}
 use Rattle.form.specs.Form.{Scheme}
-use Rattle.gate.specs.Alike.{SameOrFree, differs, done, free, inTable, namedColumns, openTo, same, withheldFrom}
-use Rattle.gate.specs.Answer.{answerTo}
-use Rattle.gate.specs.Ask.{answerForm}
-use Rattle.gate.specs.Seen.{Seen, onlyNamed, rowsIn, seenRow, seenRows, shown, withheld}
+use Rattle.answer.specs.Alike.{SameOrFree, differs, done, free, inTable, namedColumns, openTo, same, withheldFrom}
+use Rattle.answer.specs.Answer.{answerTo}
+use Rattle.answer.specs.Ask.{answerForm}
+use Rattle.answer.specs.Seen.{Seen, onlyNamed, rowsIn, seenRow, seenRows, shown, withheld}
 use Rattle.query.proofs.NamedColumns.{columns-known, columns-open, found-known, named-words, purpose-known, table-known, table-open}
 use Rattle.query.specs.Authority.{Clock, firstGrant}
 use Rattle.query.specs.Query.{closedPart, mistypedQuery, named, resolved, unknownColumn, unknownParty}

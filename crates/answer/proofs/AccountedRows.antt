@@ -14,9 +14,9 @@ use Rattle.document.specs.Lookup.{schemeAt}
 use Rattle.document.specs.Open.{labelOpen, rowWithheld}
 use Rattle.document.specs.Policy.{Doc, Row}
 use Rattle.form.specs.Form.{unlabelled}
-use Rattle.gate.specs.Answer.{Answer, answerTo, counted, endLine, isPassed, isUnmatched, isWithheld, lineOf, matches, rowLine, rowLines}
-use Rattle.gate.specs.Exactly.{isGiven, isUnmatchedRow, isWithheldRow}
-use Rattle.gate.specs.Seen.{Seen, onlyNamed, rowsIn, seenRow, seenRows, shown, withheld}
+use Rattle.answer.specs.Answer.{Answer, answerTo, counted, endLine, isPassed, isUnmatched, isWithheld, lineOf, matches, rowLine, rowLines}
+use Rattle.answer.specs.Exactly.{isGiven, isUnmatchedRow, isWithheldRow}
+use Rattle.answer.specs.Seen.{Seen, onlyNamed, rowsIn, seenRow, seenRows, shown, withheld}
 use Rattle.lists.proofs.KeptLaws.{count-map, count-three, flatten-keep, map-agree}
 use Rattle.lists.proofs.ListLaws.{map-map}
 use Rattle.lists.specs.Lists.{allOf, anyOf, countOf, keep, member}

@@ -7,14 +7,14 @@ use mathlib.Core.Path.{_≡_, refl}
 use Rattle.document.specs.Check.{Accepted, check}
 use Rattle.document.specs.Lookup.{labelOf, purposeOf}
 use Rattle.document.specs.Open.{labelOpen}
-use Rattle.gate.specs.Ask.{Outcome, ask}
-use Rattle.gate.specs.Computing.{computing}
+use Rattle.answer.specs.Ask.{Outcome, ask}
+use Rattle.answer.specs.Computing.{computing}
 use Rattle.query.specs.Authority.{Clock}
 use Rattle.text.specs.Bytes.{ascii}
 use Rattle.lists.specs.Lists.{known}
 use Rattle.text.specs.Refusal.{Result, accepted, query, refused}
 use Rattle.text.specs.Words.{Word, plainWord}
-use Rattle.gate.specs.Session as Session
+use Rattle.answer.specs.Session as Session
 
 -- the sample session's policy, up to its rows
 unfoldable pub policy : List ℕ

@@ -14,11 +14,11 @@ use Rattle.document.proofs.RowsFit.{Rows, accepted-rows, columns-count, countAt
 use Rattle.document.specs.Lookup.{columnOf, columnsOf, schemeAt, tableOf}
 use Rattle.document.specs.Open.{labelOpen}
 use Rattle.document.specs.Policy.{Column, Doc, Row}
-use Rattle.gate.proofs.RowLines.{AllBelow, Distinct, lines-cost}
-use Rattle.gate.specs.Answer.{answerTo, counted, endLine, isPassed, isUnmatched, isWithheld, lineOf, matches, rowLines}
-use Rattle.gate.specs.Ask.{Answered, answerForm, ask}
-use Rattle.gate.specs.Reserve.{IsReserve, SelectsOnce}
-use Rattle.gate.specs.Seen.{Seen, rowsIn, seenRows}
+use Rattle.answer.proofs.RowLines.{AllBelow, Distinct, lines-cost}
+use Rattle.answer.specs.Answer.{answerTo, counted, endLine, isPassed, isUnmatched, isWithheld, lineOf, matches, rowLines}
+use Rattle.answer.specs.Ask.{Answered, answerForm, ask}
+use Rattle.answer.specs.Reserve.{IsReserve, SelectsOnce}
+use Rattle.answer.specs.Seen.{Seen, rowsIn, seenRows}
 use Rattle.query.proofs.NamedColumns.{columnNumber}
 use Rattle.query.specs.Authority.{Clock}
 use Rattle.query.specs.Query.{Query, Wanted, named, resolved, select, unknownColumn, wantedOf}

@@ -23,7 +23,7 @@ use Rattle.form.proofs.RowWritten.{row-written}
 use Rattle.form.specs.Form.{Item, Scheme, row, table}
 use Rattle.form.specs.FormReader.{formOf}
 use Rattle.form.specs.RowText.{labelCount, rowText}
-use Rattle.gate.specs.Alike.{Alike, AlikeLines, AlikeRows, RowLine, SameOrFree, alikeRows, free, linesOf, noMore, rowOf, sameLine}
+use Rattle.answer.specs.Alike.{Alike, AlikeLines, AlikeRows, RowLine, SameOrFree, alikeRows, free, linesOf, noMore, rowOf, sameLine}
 use Rattle.lists.proofs.ListLaws.{map-map}
 use Rattle.lists.specs.Lists.{known}
 use Rattle.query.specs.QueryForm.{QueryForm, queryOf}

@@ -9,14 +9,14 @@ use mathlib.Core.Path.{_∙_, _≡_, ap, refl, subst, sym}
 use Rattle.document.specs.Check.{Accepted, check}
 use Rattle.document.specs.Lookup.{columnsOf, purposeOf, roleOf, userOf}
 use Rattle.document.specs.Policy.{Doc, treeOf}
-use Rattle.gate.proofs.AcceptedOrRefused.{Answers, answered, ask-answered, ask-is, is-answered}
-use Rattle.gate.proofs.FurtherDown.{further-down, passedRows, rows-printed}
-use Rattle.gate.proofs.SelectReading.{IsSelect, is-select, other, other-query}
-use Rattle.gate.specs.Answer.{answerTo, counted, endLine, matches, rowLines}
-use Rattle.gate.specs.Ask.{Answered, ask}
-use Rattle.gate.specs.Further.{Contains, Prints, selectText}
-use Rattle.gate.specs.Seen.{Seen, seenRows}
-use Rattle.gate.specs.Session.{answers}
+use Rattle.answer.proofs.AcceptedOrRefused.{Answers, answered, ask-answered, ask-is, is-answered}
+use Rattle.answer.proofs.FurtherDown.{further-down, passedRows, rows-printed}
+use Rattle.answer.proofs.SelectReading.{IsSelect, is-select, other, other-query}
+use Rattle.answer.specs.Answer.{answerTo, counted, endLine, matches, rowLines}
+use Rattle.answer.specs.Ask.{Answered, ask}
+use Rattle.answer.specs.Further.{Contains, Prints, selectText}
+use Rattle.answer.specs.Seen.{Seen, seenRows}
+use Rattle.answer.specs.Session.{answers}
 use Rattle.lists.specs.Lists.{known}
 use Rattle.purpose.specs.Compliance.{descends}
 use Rattle.query.proofs.Below.{forPurpose}

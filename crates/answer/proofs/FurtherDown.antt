@@ -12,10 +12,10 @@ use Rattle.document.specs.Lookup.{purposeOf, schemeAt}
 use Rattle.document.specs.Open.{labelOpen, rowWithheld}
 use Rattle.document.specs.Policy.{Doc, Row, treeOf}
 use Rattle.form.specs.Form.{Scheme}
-use Rattle.gate.proofs.AcceptedOrRefused.{answered, is-answered}
-use Rattle.gate.specs.Answer.{answerTo, counted, isWithheld, lineOf, matches, rowLine, rowLines}
-use Rattle.gate.specs.Ask.{Answered, answerForm}
-use Rattle.gate.specs.Seen.{Seen, rowsIn, seenRow, seenRows, shown, withheld}
+use Rattle.answer.proofs.AcceptedOrRefused.{answered, is-answered}
+use Rattle.answer.specs.Answer.{answerTo, counted, isWithheld, lineOf, matches, rowLine, rowLines}
+use Rattle.answer.specs.Ask.{Answered, answerForm}
+use Rattle.answer.specs.Seen.{Seen, rowsIn, seenRow, seenRows, shown, withheld}
 use Rattle.lists.proofs.Tests.{true-not-false}
 use Rattle.lists.specs.Lists.{countOf, known}
 use Rattle.purpose.specs.Compliance.{descends}

@@ -13,8 +13,8 @@ use Rattle.document.proofs.RowsFit.{AllFit, countAt, rowsCost, valuesCost}
 use Rattle.document.specs.Open.{rowWithheld}
 use Rattle.document.specs.Policy.{Row, Table}
 use Rattle.form.specs.Form.{Scheme}
-use Rattle.gate.specs.Answer.{lineOf, rowLine}
-use Rattle.gate.specs.Seen.{onlyNamed, rowsIn, seenRow, shown, withheld}
+use Rattle.answer.specs.Answer.{lineOf, rowLine}
+use Rattle.answer.specs.Seen.{onlyNamed, rowsIn, seenRow, shown, withheld}
 use Rattle.text.proofs.ReaderLaws.{listCost}
 use Rattle.lists.proofs.Tests.{eqb-self}
 use Rattle.text.specs.Bytes.{ascii}

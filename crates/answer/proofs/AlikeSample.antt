@@ -6,9 +6,9 @@ use mathlib.Core.List.{List, [], _∷_, zipWith}
 use mathlib.Core.Path.{_≡_, refl}
 use Rattle.document.specs.Check.{Accepted, check}
 use Rattle.document.specs.Policy.{emptyDoc}
-use Rattle.gate.proofs.Samples.{cy, ida, policy, session, session10}
-use Rattle.gate.specs.Alike.{Alike, AlikeLines, AlikeRows, alikeRows, differs, done, free, linesOf, noMore, rowOf, same, sameLine}
-use Rattle.gate.specs.Computing.{computing}
+use Rattle.answer.proofs.Samples.{cy, ida, policy, session, session10}
+use Rattle.answer.specs.Alike.{Alike, AlikeLines, AlikeRows, alikeRows, differs, done, free, linesOf, noMore, rowOf, same, sameLine}
+use Rattle.answer.specs.Computing.{computing}
 use Rattle.query.specs.QueryForm.{queryOf}
 use Rattle.lists.proofs.Tests.{true-not-false}
 use Rattle.text.specs.Bytes.{ascii}

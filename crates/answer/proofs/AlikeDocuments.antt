@@ -18,8 +18,8 @@ use Rattle.form.proofs.RowBack.{itemsOf, row-back, rowParts}
 use Rattle.form.specs.Form.{Form, Scheme}
 use Rattle.form.specs.FormReader.{formOf}
 use Rattle.form.specs.RowText.{labelCount}
-use Rattle.gate.proofs.Seeing.{RowAlike, RowsAlike, noRows, rowAnd}
-use Rattle.gate.specs.Alike.{Alike, AlikeLines, AlikeRows, SameOrFree, alikeRows, differs, done, free, linesOf, noMore, rowOf, same, sameLine}
+use Rattle.answer.proofs.Seeing.{RowAlike, RowsAlike, noRows, rowAnd}
+use Rattle.answer.specs.Alike.{Alike, AlikeLines, AlikeRows, SameOrFree, alikeRows, differs, done, free, linesOf, noMore, rowOf, same, sameLine}
 use Rattle.query.specs.QueryForm.{QueryForm, queryOf}
 use Rattle.lists.proofs.ListLaws.{map-map}
 use Rattle.lists.proofs.Tests.{and-left, and-right}
