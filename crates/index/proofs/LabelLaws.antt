@@ -1,24 +1,27 @@
 -- Labels in the workspace: sets of words, looking a label up, one more, and whether one is open. Assumes nothing.
-use Prim.Native.Nat.{_*_, _+_, _-_, _<_, _≤_, min, ℕ}
+use Prim.Native.Nat.{_*_, _+_, _-_, _<_, _≤_, min, suc, zero, ℕ}
 use borrow.Author.Tests.{eqb-false, eqb-true, lt-ltb, ltb-false, ltb-true}
 use lib.Dec.{eqb, ltb}
-use lib.ListN.{List·getD-append, drop, getD, getElem?, length, length-drop, length-map, length-take, set, take}
+use lib.ListN.{List·getD-append, List·getD-eq-default, drop, getD, getElem?, length, length-drop, length-map, length-take, set, take}
 use lib.Seq.{drop-paste, ext-getD, getD-append-add, getD-drop, getD-set-other, getD-set-same, getD-take, length-paste, length-take-le, paste, paste-suc, take-paste}
-use mathlib.Core.Bool.{_||_, cond, or-comm, or-false}
+use mathlib.Core.Bool.{Bool, _||_, cond, false, or-comm, or-false}
 use mathlib.Core.List.{List, [], _++_, _∷_, map}
 use mathlib.Core.Logic.{⊎-elim}
-use mathlib.Core.Option.{Option, Option·map, Option·none-ne-some, some}
+use mathlib.Core.Option.{Option, Option·map, Option·none-ne-some, bind, none, some}
 use mathlib.Core.Path.{_∙_, _≡_, ap, refl, subst, sym}
 use native.Mathlib.Numerals.{add-one}
 use native.Mathlib.Omega.{arith}
-use Rattle.document.specs.Policy.{Label}
+use Rattle.document.specs.Open.{labelOpen}
+use Rattle.document.specs.Policy.{Label, Policy, treeOf}
 use Rattle.index.proofs.Finding.{found-first}
 use Rattle.index.proofs.ListedLaws.{findIndex-map, length-listed, listed-pushed, listed-there}
-use Rattle.index.specs.Index.{Holds, Labels, SetStored, setIn}
+use Rattle.index.specs.Index.{Holds, Labels, Opened, SetStored, setIn}
 use Rattle.index.specs.Listed.{listed}
 use Rattle.lists.proofs.ListLaws.{getElem?-grown, getElem?-map, map-append, member-append}
 use Rattle.lists.proofs.Tests.{decide}
-use Rattle.lists.specs.Lists.{anyOf, findIndex, member}
+use Rattle.lists.specs.Lists.{anyOf, findIndex, holdsOf, member}
+use Rattle.purpose.specs.Meaning.{ClosureOf}
+use Rattle.purpose.specs.declared.Closure.{Closure}
 use Rattle.purpose.proofs.Compliance.{opens-same}
 use Rattle.purpose.specs.Compliance.{Same, opens}
 use Rattle.purpose.specs.Members.{including, limit, members, words}
@@ -218,3 +221,52 @@ module _ (text ws sets : List ℕ) (k : ℕ) (ls : List Label) (h : Labels text 
       opens-same tree (record { allowed = members allowed; denied = members denied }) (l .marks) p
       (λ x. ap (λ s. member x (members s)) a ∙ h .allowed i l g .same x)
       (λ x. ap (λ s. member x (members s)) b ∙ h .denied i l g .same x)
+
+-- ---- whether each one is open
+
+-- a place within a list has an element, one behind it has none
+element-there : {A : Type 0} (xs : List A) (i : ℕ) → i < length xs → (x : A) × (getElem? xs i ≡ some x)
+element-there [] i h = absurd (omega (arith, h))
+element-there (x ∷ xs) zero h = (x, refl)
+element-there (x ∷ xs) (suc i) h = element-there xs i (omega (arith, h))
+
+element-none : {A : Type 0} (xs : List A) (i : ℕ) → length xs ≤ i → getElem? xs i ≡ none
+element-none [] i h = refl
+element-none (x ∷ xs) zero h = absurd (omega (arith, h))
+element-none (x ∷ xs) (suc i) h = element-none xs i (omega (arith, h))
+
+module _ (text ws sets : List ℕ) (k : ℕ) (d : Policy) (h : Labels text ws sets k (d .labels)) (p : ℕ) where
+  -- a label that is there is open as its marks say
+  pub label-there : (i : ℕ) → i < k → (l : Label) × (getElem? (d .labels) i ≡ some l) × (labelOpen d p (some i) ≡ opens (treeOf (d .purposes)) (l .marks) p)
+  unfolding labelOpen holdsOf bind
+  label-there i m =
+      let got = element-there (d .labels) i (omega (arith, m, labels-long text ws sets k (d .labels) h)) in
+      (got .0, got .1, ap (holdsOf (λ x. opens (treeOf (d .purposes)) (x .marks) p)) (got .1))
+
+  -- one that is not there is closed
+  pub label-closed : (i : ℕ) → k ≤ i → labelOpen d p (some i) ≡ false
+  unfolding labelOpen holdsOf bind
+  label-closed i m = ap (holdsOf (λ x. opens (treeOf (d .purposes)) (x .marks) p)) (element-none (d .labels) i (omega (arith, m, labels-long text ws sets k (d .labels) h)))
+
+  -- where the truth of each place was stored, all are
+  pub labels-opened : (truths : List Bool) → 64 ≤ length truths → ((j : ℕ) → j < length truths → getD truths j false ≡ labelOpen d p (some j)) → Opened d p truths
+  labels-opened truths long each = record { is = λ l. ⊎-elim (λ e. each l (ltb-true l (length truths) e)) (λ e. behind l (ltb-false l (length truths) e)) (decide (ltb l (length truths))) }
+    where
+      behind : (l : ℕ) → length truths ≤ l → getD truths l false ≡ labelOpen d p (some l)
+      behind l m = List·getD-eq-default truths false m ∙ sym (label-closed l (omega (arith, m, long, h .few)))
+
+-- the truths of the first i labels are stored
+abbrev pub OpenBelow : List ℕ → ℕ → Closure → List Bool → ℕ → Type 0
+OpenBelow sets k closure truths i =
+    (text ws : List ℕ) (d : Policy) (p : ℕ) → Labels text ws sets k (d .labels) → ClosureOf (treeOf (d .purposes)) p closure → (j : ℕ) → j < i → getD truths j false ≡ labelOpen d p (some j)
+
+-- one more is stored
+pub open-more : (sets : List ℕ) (k : ℕ) (closure : Closure) (truths : List Bool) (i : ℕ) (b : Bool) → i < length truths → OpenBelow sets k closure truths i
+    → ((text ws : List ℕ) (d : Policy) (p : ℕ) → Labels text ws sets k (d .labels) → ClosureOf (treeOf (d .purposes)) p closure → b ≡ labelOpen d p (some i)) → OpenBelow sets k closure (set truths i b) (i + 1)
+open-more sets k closure truths i b m below new text ws d p h of j l = ⊎-elim (λ e. last (eqb-true j i e)) (λ e. old (eqb-false j i e)) (decide (eqb j i))
+  where
+    last : j ≡ i → getD (set truths i b) j false ≡ labelOpen d p (some j)
+    last e = ap (λ n. getD (set truths i b) n false) e ∙ getD-set-same truths i b false m ∙ new text ws d p h of ∙ ap (λ n. labelOpen d p (some n)) (sym e)
+
+    old : (j ≡ i → ⊥) → getD (set truths i b) j false ≡ labelOpen d p (some j)
+    old apart = getD-set-other truths i j b false apart ∙ below text ws d p h of j (omega (arith, l, apart))

@@ -12,6 +12,7 @@ use Rattle.condition.specs.CondForm.{Compared, conditionInForm}
 use Rattle.condition.specs.Kinds.{Kind, eq, names, numbers}
 use Rattle.document.specs.Lookup.{attributeOf}
 use Rattle.document.specs.Meaning.{attributeComparison, givenOf}
+use Rattle.document.specs.Open.{labelOpen}
 use Rattle.document.specs.Policy.{Attribute, Column, CondRole, Grant, Label, Node, Policy, Row, Table, User, clockAttributes}
 use Rattle.form.specs.Form.{Scheme, byCell, byColumn, byRow, byTable, unlabelled}
 use Rattle.form.specs.Walks.{givensAt}
@@ -147,6 +148,10 @@ pub record Labels (text ws sets : List ℕ) (k : ℕ) (ls : List Label) : Type 0
   pub named : listed (λ i. wordAt text (getD ws i 0)) k ≡ map (λ l. l .name) ls
   pub allowed : (i : ℕ) (l : Label) → getElem? ls i ≡ some l → Holds (setIn sets i) (l .marks .allowed)
   pub denied : (i : ℕ) (l : Label) → getElem? ls i ≡ some l → Holds (setIn sets (64 + i)) (l .marks .denied)
+
+-- the truths say of each label whether it is open to the purpose p; a label that is not there is closed
+pub record Opened (d : Policy) (p : ℕ) (truths : List Bool) : Type 0 where
+  pub is : (l : ℕ) → getD truths l false ≡ labelOpen d p (some l)
 
 -- ---- tables: names from 0, schemes from 8, the tables' labels from 16, the numbers of columns from 24; 16 places for each
 -- table: the columns' names from 32, types from 160, labels from 288

@@ -14,8 +14,9 @@ ghost use lib.Seq.{paste};
 ghost use mathlib.Core.List.{List, [], _++_, _∷_};
 ghost use mathlib.Core.Option.{some};
 ghost use mathlib.Core.Path.{_≡_};
-ghost use Rattle.document.specs.Policy.{Label};
-ghost use Rattle.index.specs.Index.{FoundBelow, Holds, Labels, SetStored, foundAs, setIn};
+ghost use Rattle.document.specs.Open.{labelOpen};
+ghost use Rattle.document.specs.Policy.{Label, Policy, treeOf};
+ghost use Rattle.index.specs.Index.{FoundBelow, Holds, Labels, Opened, SetStored, foundAs, setIn};
 ghost use Rattle.lists.specs.Lists.{findIndex};
 ghost use Rattle.purpose.specs.Compliance.{opens};
 ghost use Rattle.purpose.specs.Meaning.{ClosureOf};
@@ -111,4 +112,33 @@ pub fn label_open(closure: Closure, sets: &[u64; SET_WORDS], i: usize) -> bool
         );
     }
     false
+}
+
+// Whether label i is there, among the first k, and open to the purpose whose closure is given.
+fn is_open(closure: Closure, sets: &[u64; SET_WORDS], k: usize, i: usize) -> bool
+    ensures { λ r. ⌜ ((text ws : List ℕ) (d : Policy) (p : ℕ) → Labels text ws (now (sets .entry)) k (d .labels) → ClosureOf (treeOf (d .purposes)) p closure → r ≡ labelOpen d p (some i)) ⌝ }
+{
+    if i < k {
+        return label_open(closure, sets, i);
+    }
+    false
+}
+
+// Whether each label that there is a place for is open to the purpose whose closure is given.
+fn fill_open(closure: Closure, sets: &[u64; SET_WORDS], k: usize, opened: &mut [bool])
+    ensures { λ _. ⌜ ((text ws : List ℕ) (d : Policy) (p : ℕ) → Labels text ws (now (sets .entry)) k (d .labels) → ClosureOf (treeOf (d .purposes)) p closure → 64 ≤ length (now (opened .entry)) → Opened d p (now (opened .exit))) ⌝ }
+{
+    let mut i = 0;
+    while i < opened.len() {
+        let open = is_open(closure, sets, k, i);
+        opened[i] = open;
+        i += 1;
+    }
+}
+
+// Whether each label, of which there are k, is open to the purpose whose closure is given.
+pub fn open_labels(closure: Closure, sets: &[u64; SET_WORDS], k: usize, opened: &mut [bool; LABELS])
+    ensures { λ _. ⌜ ((text ws : List ℕ) (d : Policy) (p : ℕ) → Labels text ws (now (sets .entry)) k (d .labels) → ClosureOf (treeOf (d .purposes)) p closure → Opened d p (now (opened .exit))) ⌝ }
+{
+    fill_open(closure, sets, k, opened);
 }

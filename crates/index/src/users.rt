@@ -8,6 +8,7 @@ use crate::store::put;
 use text::words::same_name;
 ghost use Prim.Native.Nat.{_+_, _<_, ℕ};
 ghost use lib.Dec.{eqb};
+ghost use lib.ListN.{getD};
 ghost use mathlib.Core.Bool.{_&&_};
 ghost use mathlib.Core.List.{List, [], _++_, _∷_, map};
 ghost use mathlib.Core.Path.{_≡_};
@@ -78,4 +79,31 @@ pub fn add_user(
         put(ws, 3 * USERS + k, end);
         put(ws, 4 * USERS + k, place);
     }
+}
+
+// The role of user form i.
+pub fn user_role(ws: &[usize; USER_CELLS], i: usize) -> usize
+    ensures { λ x. ⌜ (i < 256 → x ≡ getD (now (ws .entry)) (256 + i) 0) ⌝ }
+{
+    if i < USERS { ws[USERS + i] } else { 0 }
+}
+
+// Where the line of user form i starts and ends.
+pub fn user_start(ws: &[usize; USER_CELLS], i: usize) -> usize
+    ensures { λ x. ⌜ (i < 256 → x ≡ getD (now (ws .entry)) (512 + i) 0) ⌝ }
+{
+    if i < USERS { ws[2 * USERS + i] } else { 0 }
+}
+
+pub fn user_end(ws: &[usize; USER_CELLS], i: usize) -> usize
+    ensures { λ x. ⌜ (i < 256 → x ≡ getD (now (ws .entry)) (768 + i) 0) ⌝ }
+{
+    if i < USERS { ws[3 * USERS + i] } else { 0 }
+}
+
+// Where its values stand in the line.
+pub fn user_place(ws: &[usize; USER_CELLS], i: usize) -> usize
+    ensures { λ x. ⌜ (i < 256 → x ≡ getD (now (ws .entry)) (1024 + i) 0) ⌝ }
+{
+    if i < USERS { ws[4 * USERS + i] } else { 0 }
 }
