@@ -25,7 +25,7 @@ use Rattle.purpose.specs.Members.{limit}
 use Rattle.text.proofs.RefusalLaws.{refuseIf-accepted, then-accepted}
 use Rattle.text.specs.Refusal.{accepted}
 use Rattle.text.specs.Words.{Word}
-use Rattle.checker.specs.declared.steps.Counts.{Counts}
+use Rattle.checker.specs.declared.counts.Counts.{Counts}
 
 -- an accepted form is no late attribute
 late-none : (d : Doc) (line : List ℕ) (f : Form) (e : Doc) → checkForm d line f ≡ accepted e → lateAttr (d .policy) f ≡ false

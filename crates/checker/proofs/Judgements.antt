@@ -14,7 +14,7 @@ use Rattle.form.specs.Form.{Form}
 use Rattle.form.specs.FormReader.{formOf}
 use Rattle.lists.proofs.Tests.{true-not-false}
 use Rattle.text.specs.Refusal.{Result, _>>=_, accepted, document, need, pointingAll, refused}
-use Rattle.checker.specs.declared.steps.Counts.{Counts}
+use Rattle.checker.specs.declared.counts.Counts.{Counts}
 use Rattle.checker.specs.declared.steps.Step.{Step}
 use Rattle.checker.specs.declared.steps.Step.the-variants.{Fails, Goes}
 use Rattle.faults.specs.declared.fault.Fault.{Fault}

@@ -6,13 +6,13 @@ use lib.ListN.{drop, drop-of-length-le, length, length-drop, take-append-drop}
 use lib.Seq.{drop-drop, length-take-le}
 use mathlib.Core.List.{List, [], _∷_}
 use mathlib.Core.Option.{Option·none-ne-some}
-use mathlib.Core.Path.{_∙_, _≡_, ap, ap₂, refl, sym}
+use mathlib.Core.Path.{_∙_, _≡_, ap, ap₂, refl, subst, sym}
 use native.Mathlib.Nat.{add-zero}
 use native.Mathlib.Omega.{arith}
-use Rattle.checker.specs.Outcome.{Answers, Reserved, checkedAs, linesOnly}
+use Rattle.checker.specs.Loading.{Holds, Loads}
 use Rattle.checker.specs.Workspace.{Grows, Indexed}
 use Rattle.document.proofs.UniqueNames.{UniqueNames, unique-empty, unique-line}
-use Rattle.document.specs.Check.{Accepted, check, checkFrom, checkLine}
+use Rattle.document.specs.Check.{check, checkFrom, checkLine}
 use Rattle.document.specs.Policy.{Doc, emptyDoc, emptyPolicy}
 use Rattle.index.proofs.IndexLaws.{attributes-start, conds-start, nodes-start, users-start}
 use Rattle.index.specs.Index.{lineIn}
@@ -23,10 +23,10 @@ use Rattle.text.proofs.Lefts.{drop-here}
 use Rattle.text.specs.Bytes.{isDigit, isLetter, isNameByte}
 use Rattle.text.specs.Lines.{LineEnd, cut}
 use Rattle.text.specs.Reasons.{refusalOf}
-use Rattle.text.specs.Refusal.{Refusal, Result, _>>=_, _>>_, accepted, document, moved, movedBy, pointingAll, pointingNowhere, refuseIf, refused}
+use Rattle.text.specs.Refusal.{Refusal, _>>=_, _>>_, accepted, document, moved, movedBy, pointingAll, pointingNowhere, refuseIf, refused}
 use Rattle.text.specs.Words.{nameBytes}
-use Rattle.checker.specs.declared.documents.Checked.the-variants as checked
-use Rattle.checker.specs.declared.steps.Counts.{Counts}
+use Rattle.checker.specs.declared.counts.Counts.{Counts}
+use Rattle.checker.specs.declared.loading.Loaded.the-variants as loaded
 use Rattle.text.specs.declared.refusals.Refusal as code
 
 -- the workspace holds the document of the n lines before the position, and the check of the text is the check from there on
@@ -146,13 +146,20 @@ pub open-moved : (text : List ℕ) (at e : ℕ) → LineEnd text at e → at ≤
 open-moved text at e l h =
     sym (whole-moved at 2 (lineIn text at e) ∙ ap {B = Refusal} (λ k. record { number = 2; source = document; start = at; len = k }) (line-length text at e l h))
 
-pub answers-refused : {o : Result Accepted} {x : Refusal} (r : code.Refusal) → o ≡ refused x → refusalOf r ≡ x → Answers o (checked.Refused r)
-unfolding checkedAs linesOnly Reserved
-answers-refused r p q = record { is = ap refused q ∙ sym (ap linesOnly p); reserve = tt }
+module _ {text ps rs bs us cs gs ls ms ts ws : List ℕ} where
+  pub loads-refused : {x : Refusal} (r : code.Refusal) → check text ≡ refused x → refusalOf r ≡ x → Loads text ps rs bs us cs gs ls ms ts ws (loaded.Refused r)
+  loads-refused r p q = record {
+    refuses = λ y e. p ∙ ap refused (sym q ∙ ap refusalOf (let s : r ≡ y = cc in s));
+    accepts = λ c n e. absurd (let z : _≡_ {A = ℕ} 0 1 = cc in omega arith);
+  }
 
-pub answers-accepted : {o : Result Accepted} (n : ℕ) (d : Doc) → o ≡ accepted (record { lines = n; doc = d }) → Answers o (checked.Accepted n 60021)
-unfolding checkedAs linesOnly Reserved
-answers-accepted n d p = record { is = sym (ap linesOnly p); reserve = refl }
+  pub loads-accepted : {c : Counts} {n : ℕ} → Holds text ps rs bs us cs gs ls ms ts ws c n → Loads text ps rs bs us cs gs ls ms ts ws (loaded.Accepted c n)
+  loads-accepted {c} {n} h = record {
+    refuses = λ y e. absurd (let z : _≡_ {A = ℕ} 0 1 = cc in omega arith);
+    accepts = λ k m e.
+        subst (λ (a : Counts). Holds text ps rs bs us cs gs ls ms ts ws a m) (let q : c ≡ k = cc in q)
+        (subst (Holds text ps rs bs us cs gs ls ms ts ws c) (let q : n ≡ m = cc in q) h);
+  }
 
 -- ---- the text
 

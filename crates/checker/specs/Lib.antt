@@ -1,3 +1,4 @@
 -- What the checker's answers stand for. Assumes nothing.
 pub mod Outcome
 pub mod Workspace
+pub mod Loading

@@ -12,7 +12,7 @@ use Rattle.text.specs.Refusal.{Refusal, Result, accepted, document, pointing, p
 use Rattle.text.specs.Words.{wordOf}
 use Rattle.faults.specs.declared.fault.Fault.{Fault}
 use Rattle.faults.specs.declared.fault.Fault.the-variants.{Fine, Item, Whole}
-use Rattle.checker.specs.declared.steps.Counts.{Counts}
+use Rattle.checker.specs.declared.counts.Counts.{Counts}
 use Rattle.checker.specs.declared.steps.Step.{Step}
 use Rattle.checker.specs.declared.steps.Step.the-variants.{Fails, Goes}
 use Rattle.form.specs.declared.lines.Scheme.{Scheme}

@@ -1,5 +1,6 @@
 // One line of a document: what it does to what was defined before. For each kind of line a function finds what is wrong with it
 // and stores it where nothing is.
+use crate::counts::Counts;
 use condition::kinds::Kind;
 use faults::attrs::attr_fault;
 use faults::conds::cond_role_fault;
@@ -58,19 +59,6 @@ ghost use Rattle.index.specs.Index.{kindSaid};
 ghost use Rattle.storing.specs.Stored.{LineAt};
 ghost use Rattle.text.specs.Reader.{from};
 ghost use Rattle.text.specs.Words.{wordOf};
-
-// How many of each kind there are.
-pub struct Counts {
-    pub purposes: usize,
-    pub roles: usize,
-    pub attributes: usize,
-    pub users: usize,
-    pub conds: usize,
-    pub grants: usize,
-    pub labels: usize,
-    pub tables: usize,
-    pub rows: usize,
-}
 
 // What a line does: it fails, or what it defines is stored and there are so many of each kind.
 pub enum Step {

@@ -1,24 +1,26 @@
 -- `checker::documents::check` meets its contract. Assumes nothing.
-use mathlib.Core.Path.{refl, subst, sym}
-use Rattle.checker.proofs.Turns.{answers-refused, text-fits, text-long}
-use Rattle.checker.specs.Outcome.{Answers}
-use Rattle.document.specs.Check.{Accepted}
-use Rattle.text.specs.Refusal.{Result, pointingNowhere}
+use borrow.Author.Needs.{needs}
+use mathlib.Core.Path.{ap, refl, sym}
+use Rattle.checker.specs.Outcome.{Reserved, checkedAs, linesOnly}
 use Rattle.checker.proofs.documents.check.Statement.{statement}
 use Rattle.checker.proofs.documents.check.Tie as tie
 
-returns : tie.Need-returns
-unfolding pointingNowhere
-returns c = answers-refused _ (text-long (c .before .before .args .doc .now) (c .if1 .taken)) refl
+load-requires : tie.Need-load-requires
+load-requires c κs = tt
 
-check-lines-requires : tie.Need-check-lines-requires
-check-lines-requires c κs = tt
+enum-known-r : tie.Need-enum-known-r
+enum-known-r c = search needs
+
+enum-known-r-2 : tie.Need-enum-known-r-2
+enum-known-r-2 c = search needs
+
+returns : tie.Need-returns
+unfolding checkedAs linesOnly Reserved
+returns c = record { is = sym (ap linesOnly (c .before .before .before .load .ensures .accepts _ _ (c .before .r .given .1) .is)); reserve = refl }
 
 returns-2 : tie.Need-returns-2
-returns-2 c =
-    subst (λ (o : Result Accepted). Answers o (c .check-lines .result))
-    (sym (text-fits (c .before .before .before .before .before .before .before .before .before .before .before .before .before .args .doc .now) (c .before .before .before .before .before .before .before .before .before .before .before .if1 .left)))
-    (c .check-lines .ensures)
+unfolding checkedAs linesOnly Reserved
+returns-2 c = record { is = sym (ap linesOnly (c .before .before .before .load .ensures .refuses _ (c .before .r2 .given .1))); reserve = tt }
 
 pub check-spec : {M : Type 1} → statement M
-check-spec = tie.close (tie.spec returns check-lines-requires returns-2)
+check-spec = tie.close (tie.spec load-requires enum-known-r enum-known-r-2 returns returns-2)

@@ -1,13 +1,13 @@
--- `checker::documents::check_lines` meets its contract. The loop's invariant: the workspace holds the document of the lines before the
+-- `checker::loading::load_lines` meets its contract. The loop's invariant: the workspace holds the document of the lines before the
 -- position, and the check of the text is the check from there on. Assumes nothing.
 use Prim.Native.Nat.{_-_, _<_}
 use borrow.Author.Needs.{needs}
 use lib.ListN.{length}
 use mathlib.Core.Path.{_∙_}
 use native.Mathlib.Omega.{arith}
-use Rattle.checker.proofs.Turns.{Going, answers-accepted, answers-refused, begins, goes-on, line-from, line-length, line-placed, open-moved, turn-fails, turn-none, turn-open}
-use Rattle.checker.proofs.documents.check_lines.Statement.{statement}
-use Rattle.checker.proofs.documents.check_lines.Tie as tie
+use Rattle.checker.proofs.Turns.{Going, begins, goes-on, line-from, line-length, line-placed, loads-accepted, loads-refused, open-moved, text-fits, turn-fails, turn-none, turn-open}
+use Rattle.checker.proofs.loading.load_lines.Statement.{statement}
+use Rattle.checker.proofs.loading.load_lines.Tie as tie
 
 abbrev Inv-loop : tie.InvT-loop
 Inv-loop text purposes₀ roles₀ attributes₀ users₀ conds₀ grants₀ labels₀ sets₀ tables₀ rows₀ c₀ at₀ n₀ purposes roles attributes users conds grants labels sets tables rows c at n =
@@ -27,10 +27,10 @@ sub-t24 : tie.Need-sub-t24 Inv-loop μ-loop
 sub-t24 c = omega (arith, c .before .before .loop-test .taken)
 
 returns : tie.Need-returns Inv-loop μ-loop
-returns c =
+returns c small =
     let I = c .before .before .before .loop .inv in
-    answers-refused _
-    (I .rest ∙ turn-open (c .before .before .before .before .before .args .text .now) (c .before .before .before .loop .at) (c .before .line-end .result) (c .before .line-end .ensures) (I .doc) (c .before .before .before .loop .n) (c .before .before .loop-test .taken) (omega (arith, c .if1 .taken)))
+    loads-refused _
+    (text-fits _ small ∙ I .rest ∙ turn-open (c .before .before .before .before .before .args .text .now) (c .before .before .before .loop .at) (c .before .line-end .result) (c .before .line-end .ensures) (I .doc) (c .before .before .before .loop .n) (c .before .before .loop-test .taken) (omega (arith, c .if1 .taken)))
     (open-moved (c .before .before .before .before .before .args .text .now) (c .before .before .before .loop .at) (c .before .line-end .result) (c .before .line-end .ensures) (I .within))
 
 sub-line : tie.Need-sub-line Inv-loop μ-loop
@@ -59,11 +59,11 @@ refusal-of-requires c κs =
     (omega (arith, line-length (c .before .before .before .before .before .before .before .before .before .before .before .before .before .before .before .before .before .before .before .before .args .text .now) (c .before .before .before .before .before .before .before .before .before .before .before .before .before .before .before .before .before .before .loop .at) (c .before .before .before .before .before .before .before .before .before .before .before .before .before .before .before .before .line-end .result) (c .before .before .before .before .before .before .before .before .before .before .before .before .before .before .before .before .line-end .ensures) (I .within), line-from (c .before .before .before .before .before .before .before .before .before .before .before .before .before .before .before .before .before .before .before .before .args .text .now) (c .before .before .before .before .before .before .before .before .before .before .before .before .before .before .before .before .before .before .loop .at) (c .before .before .before .before .before .before .before .before .before .before .before .before .before .before .before .before .line-end .result) (c .before .before .before .before .before .before .before .before .before .before .before .before .before .before .before .before .line-end .ensures), fed (c .before .before .before), c .before .before .before .before .before .before .before .before .before .before .before .before .before .before .before .before .before .before .before .before .good .0 .0), F .fails _ (c .before .s .given .1) .reaches)
 
 returns-2 : tie.Need-returns-2 Inv-loop μ-loop
-returns-2 c =
+returns-2 c small =
     let I = c .before .before .before .before .before .before .before .before .before .before .before .before .before .before .before .before .before .before .before .loop .inv in
     let F = c .before .before .before .before .step-line .ensures (I .doc) (line-placed (c .before .before .before .before .before .before .before .before .before .before .before .before .before .before .before .before .before .before .before .before .before .args .text .now) (c .before .before .before .before .before .before .before .before .before .before .before .before .before .before .before .before .before .before .before .loop .at) (c .before .before .before .before .before .before .before .before .before .before .before .before .before .before .before .before .before .line-end .result) (c .before .before .before .before .before .before .before .before .before .before .before .before .before .before .before .before .before .line-end .ensures) (fed (c .before .before .before .before))) (I .held) (I .unique) in
-    answers-refused (c .refusal-of .result)
-    (I .rest ∙ turn-fails (c .before .before .before .before .before .before .before .before .before .before .before .before .before .before .before .before .before .before .before .before .before .args .text .now) (c .before .before .before .before .before .before .before .before .before .before .before .before .before .before .before .before .before .before .before .loop .at) (c .before .before .before .before .before .before .before .before .before .before .before .before .before .before .before .before .before .line-end .result) (c .before .before .before .before .before .before .before .before .before .before .before .before .before .before .before .before .before .line-end .ensures) (I .doc) (c .before .before .before .before .before .before .before .before .before .before .before .before .before .before .before .before .before .before .before .loop .n) (fed (c .before .before .before .before)) _ (F .fails _ (c .before .before .s .given .1) .is))
+    loads-refused (c .refusal-of .result)
+    (text-fits _ small ∙ I .rest ∙ turn-fails (c .before .before .before .before .before .before .before .before .before .before .before .before .before .before .before .before .before .before .before .before .before .args .text .now) (c .before .before .before .before .before .before .before .before .before .before .before .before .before .before .before .before .before .before .before .loop .at) (c .before .before .before .before .before .before .before .before .before .before .before .before .before .before .before .before .before .line-end .result) (c .before .before .before .before .before .before .before .before .before .before .before .before .before .before .before .before .before .line-end .ensures) (I .doc) (c .before .before .before .before .before .before .before .before .before .before .before .before .before .before .before .before .before .before .before .loop .n) (fed (c .before .before .before .before)) _ (F .fails _ (c .before .before .s .given .1) .is))
     (c .refusal-of .ensures)
 
 enum-known-s-2 : tie.Need-enum-known-s-2 Inv-loop μ-loop
@@ -85,11 +85,11 @@ loop-again c =
     goes-on (c .before .before .before .before .before .before .before .before .before .before .before .before .before .before .before .before .line-end .result) I (c .before .before .before .before .before .before .before .before .before .before .before .before .before .before .before .before .line-end .ensures) (fed (c .before .before .before)) (F .goes _ (c .before .s2 .given .1))
 
 returns-3 : tie.Need-returns-3 Inv-loop μ-loop
-returns-3 c =
-    let I = c .before .loop .inv in answers-accepted (c .before .loop .n) (I .doc) (I .rest ∙ turn-none (c .before .before .before .args .text .now) (c .before .loop .at) (c .loop-test .left) (I .doc) (c .before .loop .n))
+returns-3 c small =
+    let I = c .before .loop .inv in loads-accepted (record { what = I .doc; is = text-fits _ small ∙ I .rest ∙ turn-none (c .before .before .before .args .text .now) (c .before .loop .at) (c .loop-test .left) (I .doc) (c .before .loop .n); held = I .held; small = small })
 
-pub check-lines-spec : {M : Type 1} → statement M
-check-lines-spec =
+pub load-lines-spec : {M : Type 1} → statement M
+load-lines-spec =
     tie.close
     (tie.spec
     Inv-loop

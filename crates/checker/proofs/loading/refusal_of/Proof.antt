@@ -1,4 +1,4 @@
--- `checker::documents::refusal_of` meets its contract. Assumes nothing.
+-- `checker::loading::refusal_of` meets its contract. Assumes nothing.
 use Prim.Native.Nat.{_+_, _-_, _≤_}
 use borrow.Author.Needs.{needs}
 use lib.ListN.{length}
@@ -11,8 +11,8 @@ use Rattle.text.specs.Reasons.{numberOf}
 use Rattle.text.specs.Refusal.{Refusal, document, moved, pointing}
 use Rattle.text.specs.Words.{wordAt}
 use Rattle.faults.specs.declared.fault.Fault.{Fault}
-use Rattle.checker.proofs.documents.refusal_of.Statement.{statement}
-use Rattle.checker.proofs.documents.refusal_of.Tie as tie
+use Rattle.checker.proofs.loading.refusal_of.Statement.{statement}
+use Rattle.checker.proofs.loading.refusal_of.Tie as tie
 
 enum-told : tie.Need-enum-told
 enum-told c = search needs
