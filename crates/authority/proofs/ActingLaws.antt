@@ -1,0 +1,40 @@
+-- The user form that a user acts in, as the array holds it. Assumes nothing.
+use Prim.Native.Nat.{_+_, _<_, ℕ}
+use lib.ListN.{getD, getElem?}
+use mathlib.Core.List.{List, map}
+use mathlib.Core.Option.{bind, some}
+use mathlib.Core.Path.{_∙_, _≡_, ap, subst, sym}
+use native.Mathlib.Omega.{arith}
+use Rattle.authority.specs.Values.{Values}
+use Rattle.document.specs.Meaning.{givenOf}
+use Rattle.document.specs.Policy.{Given, Policy, User}
+use Rattle.form.specs.Walks.{givensAt}
+use Rattle.index.proofs.ListedLaws.{listed-at}
+use Rattle.index.specs.Index.{Users, lineIn, userIn}
+use Rattle.lists.specs.Lists.{findIndex}
+use Rattle.query.specs.Authority.{Clock, authorises, firstGrant}
+
+-- the first grant for a user form that is there
+pub first-for : (d : Policy) (c : Clock) (i p : ℕ) (u : User) → getElem? (d .users) i ≡ some u → findIndex (authorises d c u p) (d .grants) ≡ firstGrant d c i p
+unfolding firstGrant bind
+first-for d c i p u e = ap (λ o. bind o (λ x. findIndex (authorises d c x p) (d .grants))) (sym e)
+
+module _ {d : Policy} {text ws : List ℕ} {k : ℕ} {us : List User} (h : Users d text ws k us) (i : ℕ) (l : i < k) where
+  small : i < 256
+  small = omega (arith, l, h .few)
+
+  pub user-at : getElem? us i ≡ some (userIn d text ws i)
+  user-at = ap (λ xs. getElem? xs i) (sym (h .are)) ∙ listed-at (userIn d text ws) k i l
+
+  pub role-of : (r : ℕ) → (i < 256 → r ≡ getD ws (256 + i) 0) → r ≡ userIn d text ws i .role
+  unfolding userIn
+  role-of r e = e small
+
+  -- the values are those given at the place in its line
+  pub values-of : (start end place : ℕ) (line : List ℕ) (values : List ℕ) → (i < 256 → start ≡ getD ws (512 + i) 0) → (i < 256 → end ≡ getD ws (768 + i) 0)
+      → (i < 256 → place ≡ getD ws (1024 + i) 0) → line ≡ lineIn text start end → Values line (map (givenOf d) (givensAt line place)) values
+      → Values line (userIn d text ws i .values) values
+  unfolding userIn
+  values-of start end place line values s e p is v =
+      let here : line ≡ lineIn text (getD ws (512 + i) 0) (getD ws (768 + i) 0) = is ∙ (λ j. lineIn text (s small j) (e small j)) in
+      subst (λ (gs : List Given). Values line gs values) (λ j. map (givenOf d) (givensAt (here j) (p small j))) v

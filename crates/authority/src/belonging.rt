@@ -1,0 +1,340 @@
+// Who belongs to a conditional role: whether a condition over attributes and the clock holds.
+use crate::values::VALUES;
+use crate::values::attribute_number;
+use condition::comparisons::known_rank;
+use condition::comparisons::ranks_meet;
+use condition::comparisons::values_meet;
+use condition::conditions::Read;
+use condition::conditions::holds_condition;
+use condition::conditions::read_places;
+use condition::kinds::Kind;
+use condition::kinds::Op;
+use condition::kinds::op_at;
+use index::attributes::attribute_kind;
+use index::conds::cond_role_end;
+use index::conds::cond_role_place;
+use index::conds::cond_role_start;
+use index::layout::ATTRIBUTE_CELLS;
+use index::layout::COND_ROLE_CELLS;
+use index::layout::COND_ROLES;
+use query::clock::Clock;
+use text::walking::next_word;
+ghost use Prim.Native.Nat.{_<_, _^_, _≤_, min, ℕ};
+ghost use lib.ListN.{getD, getElem?, length, take};
+ghost use mathlib.Core.Bool.{false, true};
+ghost use mathlib.Core.List.{List, map};
+ghost use mathlib.Core.Option.{some};
+ghost use mathlib.Core.Path.{_≡_};
+ghost use Rattle.authority.specs.Held.{Held, Told, comparisonHolds, conditionHolds, wordsMeet};
+ghost use Rattle.authority.specs.Values.{Values};
+ghost use Rattle.condition.specs.Answers.{comparedAt, opOf};
+ghost use Rattle.condition.specs.Comparison.{valuesMeet};
+ghost use Rattle.condition.specs.Cond.{comparisons, holds};
+ghost use Rattle.condition.specs.CondForm.{conditionInForm};
+ghost use Rattle.document.specs.Lookup.{attributeOf};
+ghost use Rattle.document.specs.Policy.{Attribute, CondRole, Policy, User};
+ghost use Rattle.index.specs.Index.{Attributes, CondRoles, attributesKnown, condRoleIn, conditionRead};
+ghost use Rattle.lists.specs.Lists.{allOf, holdsOf, there};
+ghost use Rattle.query.specs.Asked.{clockOf};
+ghost use Rattle.query.specs.Authority.{clockNumber, inRange, userValue};
+ghost use Rattle.text.specs.Numbers.{rankOf};
+ghost use Rattle.text.specs.Reader.{from};
+ghost use Rattle.text.specs.Words.{wordAt, wordOf};
+
+// The number that the clock gives for its attribute n.
+fn clock_number(clock: Clock, n: usize) -> u64
+    ensures { λ r. ⌜ ((m : ℕ) → clockNumber (clockOf clock) n ≡ some m → r ≡ m) ⌝ }
+{
+    if n == 0 {
+        return clock.year;
+    }
+    if n == 1 {
+        return clock.day;
+    }
+    clock.hour
+}
+
+// The rank of a number of the clock.
+fn clock_rank(m: u64) -> u64
+    ensures { λ r. ⌜ (m < 2 ^ 63 → r ≡ rankOf m) ⌝ }
+{
+    if m < 9223372036854775808 {
+        return 9223372036854775808 + m;
+    }
+    0
+}
+
+// Whether the user's value for attribute n, which is none of the clock's, and the value at v stand as the operator says.
+fn value_meets(
+    attributes: &[usize; ATTRIBUTE_CELLS],
+    acount: usize,
+    user: &[u8],
+    values: &[usize; VALUES],
+    op: Op,
+    n: usize,
+    line: &[u8],
+    v: usize,
+) -> bool
+    ensures { λ r. ⌜ ((text : List ℕ) (d : Policy) (u : User) (a : Attribute) → Attributes text (now (attributes .entry)) acount (d .attributes) → Values (now (user .entry)) (u .values) (now (values .entry)) → getElem? (d .attributes) n ≡ some a → r ≡ holdsOf (λ w. valuesMeet (a .kind) (opOf op) w (wordAt (now (line .entry)) v)) (userValue u n)) ⌝ }
+{
+    if n < VALUES {
+        let p = values[n];
+        if p == 0 {
+            return false;
+        }
+        if attribute_kind(attributes, acount, n) {
+            return values_meet(Kind::Name, op, user, p - 1, line, v);
+        }
+        return values_meet(Kind::Num, op, user, p - 1, line, v);
+    }
+    false
+}
+
+// Whether the attribute of the name at a place and the value at v stand as the operator says.
+fn words_meet(
+    text: &[u8],
+    attributes: &[usize; ATTRIBUTE_CELLS],
+    acount: usize,
+    clock: Clock,
+    user: &[u8],
+    values: &[usize; VALUES],
+    op: Op,
+    line: &[u8],
+    name: usize,
+    v: usize,
+) -> bool
+    ensures { λ r. ⌜ ((d : Policy) (u : User) → Told (now (text .entry)) (now (attributes .entry)) acount (clockOf clock) (now (user .entry)) (now (values .entry)) d u → there (attributeOf d (wordOf (now (line .entry)) name)) ≡ true → r ≡ wordsMeet d (clockOf clock) u (opOf op) (wordOf (now (line .entry)) name) (wordAt (now (line .entry)) v)) ⌝ }
+{
+    let n = attribute_number(text, attributes, acount, line, name);
+    if n < 3 {
+        let m = clock_rank(clock_number(clock, n));
+        return ranks_meet(op, m, known_rank(line, v));
+    }
+    value_meets(attributes, acount, user, values, op, n, line, v)
+}
+
+// Whether the comparison whose operator stands at a place holds.
+fn comparison_holds(
+    text: &[u8],
+    attributes: &[usize; ATTRIBUTE_CELLS],
+    acount: usize,
+    clock: Clock,
+    user: &[u8],
+    values: &[usize; VALUES],
+    line: &[u8],
+    at: usize,
+) -> bool
+    ensures { λ r. ⌜ ((d : Policy) (u : User) → Told (now (text .entry)) (now (attributes .entry)) acount (clockOf clock) (now (user .entry)) (now (values .entry)) d u → there (attributeOf d (comparedAt (now (line .entry)) at .of)) ≡ true → r ≡ comparisonHolds d (clockOf clock) u (comparedAt (now (line .entry)) at)) ⌝ }
+{
+    let name = next_word(line, at);
+    let v = next_word(line, name);
+    let op = op_at(line, at);
+    words_meet(
+        text,
+        attributes,
+        acount,
+        clock,
+        user,
+        values,
+        op,
+        line,
+        name,
+        v,
+    )
+}
+
+// Stores of the first n comparisons, by the places of their operators, whether they hold.
+fn fill_truths(
+    text: &[u8],
+    attributes: &[usize; ATTRIBUTE_CELLS],
+    acount: usize,
+    clock: Clock,
+    user: &[u8],
+    values: &[usize; VALUES],
+    line: &[u8],
+    ops: &[usize],
+    n: usize,
+    truths: &mut [bool],
+)
+    requires { ⌜ (n ≤ length (now ops)) × (n ≤ length (now truths)) ⌝ }
+    ensures { λ _. ⌜ ((d : Policy) (u : User) → Told (now (text .entry)) (now (attributes .entry)) acount (clockOf clock) (now (user .entry)) (now (values .entry)) d u → ((j : ℕ) → j < n → there (attributeOf d (comparedAt (now (line .entry)) (getD (now (ops .entry)) j 0) .of)) ≡ true) → (j : ℕ) → j < n → getD (now (truths .exit)) j false ≡ comparisonHolds d (clockOf clock) u (comparedAt (now (line .entry)) (getD (now (ops .entry)) j 0))) ⌝ }
+{
+    let mut i = 0;
+    while i < n {
+        let b = comparison_holds(text, attributes, acount, clock, user, values, line, ops[i]);
+        truths[i] = b;
+        i += 1;
+    }
+}
+
+// The same by an array of places and an array of truths.
+fn store_truths(
+    text: &[u8],
+    attributes: &[usize; ATTRIBUTE_CELLS],
+    acount: usize,
+    clock: Clock,
+    user: &[u8],
+    values: &[usize; VALUES],
+    line: &[u8],
+    ops: &[usize; 64],
+    n: usize,
+    truths: &mut [bool; 64],
+)
+    ensures { λ _. ⌜ (n ≤ 64 → (d : Policy) (u : User) → Told (now (text .entry)) (now (attributes .entry)) acount (clockOf clock) (now (user .entry)) (now (values .entry)) d u → allOf (λ x. there (attributeOf d (x .of))) (map (comparedAt (now (line .entry))) (take n (now (ops .entry)))) ≡ true → map (comparisonHolds d (clockOf clock) u) (map (comparedAt (now (line .entry))) (take n (now (ops .entry)))) ≡ take n (now (truths .exit))) ⌝ }
+{
+    if n <= 64 {
+        fill_truths(
+            text,
+            attributes,
+            acount,
+            clock,
+            user,
+            values,
+            line,
+            ops,
+            n,
+            truths,
+        );
+    }
+}
+
+// Whether the condition at a place of a line holds. One that cannot be read is `noCondition`.
+fn condition_holds(
+    text: &[u8],
+    attributes: &[usize; ATTRIBUTE_CELLS],
+    acount: usize,
+    clock: Clock,
+    user: &[u8],
+    values: &[usize; VALUES],
+    line: &[u8],
+    place: usize,
+) -> bool
+    ensures { λ r. ⌜ ((d : Policy) (u : User) → Told (now (text .entry)) (now (attributes .entry)) acount (clockOf clock) (now (user .entry)) (now (values .entry)) d u → attributesKnown d (conditionRead (conditionInForm (from (now (line .entry)) place))) ≡ true → length (comparisons (conditionRead (conditionInForm (from (now (line .entry)) place)))) ≤ 64 → r ≡ holds (comparisonHolds d (clockOf clock) u) (conditionRead (conditionInForm (from (now (line .entry)) place)))) ⌝ }
+{
+    let mut ops = [0; 64];
+    let mut truths = [false; 64];
+    let c = read_places(line, place, &mut ops);
+    match c {
+        Read::At(_, n) => {
+            if 64 < n {
+                return false;
+            }
+            store_truths(
+                text,
+                attributes,
+                acount,
+                clock,
+                user,
+                values,
+                line,
+                &ops,
+                n,
+                &mut truths,
+            );
+            holds_condition(line, place, &truths)
+        }
+        Read::Refused => words_meet(
+            text,
+            attributes,
+            acount,
+            clock,
+            user,
+            values,
+            Op::Eq,
+            line,
+            line.len(),
+            line.len(),
+        ),
+    }
+}
+
+// The number n, or the bound where n is more.
+fn at_most(n: usize, bound: usize) -> usize
+    ensures { λ r. ⌜ r ≡ min n bound ⌝ }
+{
+    if n < bound {
+        return n;
+    }
+    bound
+}
+
+// Whether the condition of conditional role i holds. Its line is cut to lie in the text.
+fn role_holds(
+    text: &[u8],
+    attributes: &[usize; ATTRIBUTE_CELLS],
+    acount: usize,
+    conds: &[usize; COND_ROLE_CELLS],
+    clock: Clock,
+    user: &[u8],
+    values: &[usize; VALUES],
+    i: usize,
+) -> bool
+    ensures { λ r. ⌜ ((d : Policy) (u : User) (k : ℕ) (rs : List CondRole) → Told (now (text .entry)) (now (attributes .entry)) acount (clockOf clock) (now (user .entry)) (now (values .entry)) d u → CondRoles d (now (text .entry)) (now (conds .entry)) k rs → i < k → length (comparisons (condRoleIn d (now (text .entry)) (now (conds .entry)) i .condition)) ≤ 64 → r ≡ conditionHolds (clockOf clock) u (condRoleIn d (now (text .entry)) (now (conds .entry)) i)) ⌝ }
+{
+    let end = at_most(cond_role_end(conds, i), text.len());
+    let start = at_most(cond_role_start(conds, i), end);
+    let place = cond_role_place(conds, i);
+    condition_holds(
+        text,
+        attributes,
+        acount,
+        clock,
+        user,
+        values,
+        &text[start..end],
+        place,
+    )
+}
+
+// Stores of the first n conditional roles whether their conditions hold.
+fn fill_held(
+    text: &[u8],
+    attributes: &[usize; ATTRIBUTE_CELLS],
+    acount: usize,
+    conds: &[usize; COND_ROLE_CELLS],
+    n: usize,
+    clock: Clock,
+    user: &[u8],
+    values: &[usize; VALUES],
+    held: &mut [bool],
+)
+    requires { ⌜ n ≤ length (now held) ⌝ }
+    ensures { λ _. ⌜ ((d : Policy) (u : User) (rs : List CondRole) → Told (now (text .entry)) (now (attributes .entry)) acount (clockOf clock) (now (user .entry)) (now (values .entry)) d u → CondRoles d (now (text .entry)) (now (conds .entry)) n rs → ((i : ℕ) (r : CondRole) → getElem? rs i ≡ some r → length (comparisons (r .condition)) ≤ 64) → Held (clockOf clock) u rs (now (held .exit))) ⌝ }
+{
+    let mut i = 0;
+    while i < n {
+        let b = role_holds(text, attributes, acount, conds, clock, user, values, i);
+        held[i] = b;
+        i += 1;
+    }
+}
+
+// Stores of each conditional role, of which there are ccount, whether its condition holds for the clock and for the user whose
+// values stand in the line at the places stored.
+pub fn store_held(
+    text: &[u8],
+    attributes: &[usize; ATTRIBUTE_CELLS],
+    acount: usize,
+    conds: &[usize; COND_ROLE_CELLS],
+    ccount: usize,
+    clock: Clock,
+    line: &[u8],
+    values: &[usize; VALUES],
+    held: &mut [bool; COND_ROLES],
+)
+    ensures { λ _. ⌜ ((d : Policy) (u : User) → Attributes (now (text .entry)) (now (attributes .entry)) acount (d .attributes) → CondRoles d (now (text .entry)) (now (conds .entry)) ccount (d .condRoles) → ((i : ℕ) (r : CondRole) → getElem? (d .condRoles) i ≡ some r → length (comparisons (r .condition)) ≤ 64) → inRange (clockOf clock) ≡ true → Values (now (line .entry)) (u .values) (now (values .entry)) → Held (clockOf clock) u (d .condRoles) (now (held .exit))) ⌝ }
+{
+    if ccount <= COND_ROLES {
+        fill_held(
+            text,
+            attributes,
+            acount,
+            conds,
+            ccount,
+            clock,
+            line,
+            values,
+            held,
+        );
+    }
+}

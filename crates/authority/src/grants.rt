@@ -1,0 +1,164 @@
+// The first grant that authorises a purpose.
+use crate::belonging::store_held;
+use crate::values::VALUES;
+use crate::values::store_values;
+use index::conds::cond_role_role;
+use index::found::Found;
+use index::grants::grant_cond_role;
+use index::grants::grant_purpose;
+use index::layout::ATTRIBUTE_CELLS;
+use index::layout::COND_ROLE_CELLS;
+use index::layout::COND_ROLES;
+use index::layout::GRANT_CELLS;
+use index::layout::ROLE_CELLS;
+use index::layout::ROLES;
+use index::layout::USER_CELLS;
+use index::users::user_end;
+use index::users::user_place;
+use index::users::user_role;
+use index::users::user_start;
+use purpose::Closure;
+use purpose::contains;
+use query::clock::Clock;
+ghost use Prim.Native.Nat.{_<_, _≤_, ℕ};
+ghost use lib.ListN.{getElem?, length};
+ghost use mathlib.Core.Bool.{true};
+ghost use mathlib.Core.List.{List};
+ghost use mathlib.Core.Path.{_≡_};
+ghost use Rattle.authority.specs.Held.{Held, conditionHolds};
+ghost use Rattle.document.proofs.Formed.{Formed};
+ghost use Rattle.document.specs.Policy.{CondRole, Node, Policy, User, treeOf};
+ghost use Rattle.index.specs.Index.{Attributes, CondRoles, Grants, Nodes, Users, foundAs, lineIn};
+ghost use Rattle.lists.specs.Lists.{findIndex, holdsOf};
+ghost use Rattle.purpose.specs.Compliance.{inTree, parent};
+ghost use Rattle.purpose.specs.Meaning.{ClosureOf};
+ghost use Rattle.query.specs.Asked.{clockOf};
+ghost use Rattle.query.specs.Authority as authority;
+
+// The parent of role r, among the first k; a role that is not there is its own.
+fn role_parent(ws: &[usize; ROLE_CELLS], k: usize, r: usize) -> usize
+    ensures { λ x. ⌜ ((text : List ℕ) (ns : List Node) → Nodes 64 text (now (ws .entry)) k ns → x ≡ parent (treeOf ns) r) ⌝ }
+{
+    if k <= r {
+        return r;
+    }
+    if r < ROLES { ws[ROLES + r] } else { r }
+}
+
+// Whether conditional role c is there, among the first k, and its condition holds.
+fn holds_at(held: &[bool; COND_ROLES], k: usize, c: usize) -> bool
+    ensures { λ x. ⌜ ((t : authority.Clock) (u : User) (rs : List CondRole) → length rs ≡ k → k ≤ 64 → Held t u rs (now (held .entry)) → x ≡ holdsOf (conditionHolds t u) (getElem? rs c)) ⌝ }
+{
+    if k <= c {
+        return false;
+    }
+    if c < COND_ROLES { held[c] } else { false }
+}
+
+// The line from a to e of the text, as far as the text goes.
+fn line_of(text: &[u8], a: usize, e: usize) -> &[u8]
+    ensures { λ r. ⌜ now r ≡ lineIn (now (text .entry)) a e ⌝ }
+{
+    if e <= a {
+        return &text[0..0];
+    }
+    if e <= text.len() {
+        return &text[a..e];
+    }
+    if a <= text.len() {
+        return &text[a..];
+    }
+    &text[0..0]
+}
+
+// The first of the grants whose purpose is above the one with this closure, and whose conditional role is over a role above
+// `role` and has a condition that holds.
+fn first_grant(
+    closure: Closure,
+    roles: &[usize; ROLE_CELLS],
+    rcount: usize,
+    conds: &[usize; COND_ROLE_CELLS],
+    ccount: usize,
+    grants: &[usize; GRANT_CELLS],
+    gcount: usize,
+    held: &[bool; COND_ROLES],
+    role: usize,
+) -> Found
+    ensures { λ x. ⌜ ((d : Policy) (text : List ℕ) (c : authority.Clock) (u : User) (p : ℕ) → Nodes 64 text (now (roles .entry)) rcount (d .roles) → CondRoles d text (now (conds .entry)) ccount (d .condRoles) → Grants (now (grants .entry)) gcount (d .grants) → ClosureOf (treeOf (d .purposes)) p closure → inTree (treeOf (d .purposes)) p ≡ true → Held c u (d .condRoles) (now (held .entry)) → role ≡ u .role → foundAs x ≡ findIndex (authority.authorises d c u p) (d .grants)) ⌝ }
+{
+    let ancestors = closure.ancestors;
+    let mut found = Found::Nothing;
+    let mut i = 0;
+    'grants: while i < gcount {
+        if contains(ancestors, grant_purpose(grants, i)) {
+            let c = grant_cond_role(grants, i);
+            if holds_at(held, ccount, c) {
+                let target = cond_role_role(conds, c);
+                let mut r = role;
+                'roles: loop {
+                    if r == target {
+                        found = Found::At(i);
+                        break 'grants;
+                    }
+                    let above = role_parent(roles, rcount, r);
+                    if r <= above {
+                        break 'roles;
+                    }
+                    r = above;
+                }
+            }
+        }
+        i += 1;
+    }
+    found
+}
+
+// The first grant that authorises the purpose with this closure for user form `user`.
+pub fn authorising_grant(
+    text: &[u8],
+    closure: Closure,
+    roles: &[usize; ROLE_CELLS],
+    rcount: usize,
+    attributes: &[usize; ATTRIBUTE_CELLS],
+    acount: usize,
+    users: &[usize; USER_CELLS],
+    conds: &[usize; COND_ROLE_CELLS],
+    ccount: usize,
+    grants: &[usize; GRANT_CELLS],
+    gcount: usize,
+    clock: Clock,
+    user: usize,
+) -> Found
+    ensures { λ x. ⌜ ((d : Policy) (ucount p : ℕ) → Formed d → Nodes 64 (now (text .entry)) (now (roles .entry)) rcount (d .roles) → Attributes (now (text .entry)) (now (attributes .entry)) acount (d .attributes) → Users d (now (text .entry)) (now (users .entry)) ucount (d .users) → user < ucount → CondRoles d (now (text .entry)) (now (conds .entry)) ccount (d .condRoles) → Grants (now (grants .entry)) gcount (d .grants) → ClosureOf (treeOf (d .purposes)) p closure → inTree (treeOf (d .purposes)) p ≡ true → authority.inRange (clockOf clock) ≡ true → foundAs x ≡ authority.firstGrant d (clockOf clock) user p) ⌝ }
+{
+    let start = user_start(users, user);
+    let end = user_end(users, user);
+    let line = line_of(text, start, end);
+    let mut values = [0usize; VALUES];
+    let place = user_place(users, user);
+    store_values(text, attributes, acount, line, place, &mut values);
+    let mut held = [false; COND_ROLES];
+    store_held(
+        text,
+        attributes,
+        acount,
+        conds,
+        ccount,
+        clock,
+        line,
+        &values,
+        &mut held,
+    );
+    let role = user_role(users, user);
+    first_grant(
+        closure,
+        roles,
+        rcount,
+        conds,
+        ccount,
+        grants,
+        gcount,
+        &held,
+        role,
+    )
+}
