@@ -1,0 +1,95 @@
+-- What of a table is closed to a purpose, by the labels and the numbers of the columns that the code reads. Assumes nothing.
+use Prim.Native.Nat.{_*_, _+_, _<_, _≤_, suc, zero, ℕ}
+use lib.ListN.{getD, getElem?, length, take}
+use mathlib.Core.Bool.{Bool, false, true}
+use mathlib.Core.List.{List, [], _∷_, map}
+use mathlib.Core.Option.{bind, none, some}
+use mathlib.Core.Path.{_∙_, _≡_, ap, refl, sym}
+use native.Mathlib.Omega.{arith}
+use Rattle.document.specs.Lookup.{columnOf, columnsAt, schemeAt}
+use Rattle.document.specs.Open.{columnOpen, labelOpen, tableOpen}
+use Rattle.document.specs.Policy.{Policy}
+use Rattle.index.proofs.ListedLaws.{length-listed}
+use Rattle.index.proofs.TableLaws.{column-label-read, scheme-read, width-read}
+use Rattle.index.specs.Index.{Cut, Opened, Tables, columnLabelIn, schemeBy, schemeIn}
+use Rattle.index.specs.Listed.{listed}
+use Rattle.index.specs.declared.tables.SchemeCode.{SchemeCode}
+use Rattle.lists.specs.Lists.{holdsOf, known}
+use Rattle.query.specs.Naming.{wordsAt}
+use Rattle.resolving.proofs.FirstOffending.{first-missing, mapped-at, none-missing}
+use Rattle.text.specs.Offending.{missing}
+use Rattle.text.specs.Words.{Word, wordOf}
+
+-- nothing stands past the end
+past-end : {A : Type 0} (xs : List A) (i : ℕ) → length xs ≤ i → getElem? xs i ≡ none
+past-end [] i h = refl
+past-end (x ∷ xs) zero h = absurd (omega (arith, h))
+past-end (x ∷ xs) (suc i) h = past-end xs i (omega (arith, h))
+
+-- a label that is not there is closed
+no-label : (d : Policy) (p : ℕ) → labelOpen d p none ≡ false
+unfolding labelOpen holdsOf bind
+no-label d p = refl
+
+-- the labels of the columns of table t, as the array holds them
+abbrev pub labelsIn : List ℕ → ℕ → Policy → List ℕ
+labelsIn ws t d = listed (columnLabelIn ws t) (length (columnsAt d t))
+
+-- the label of the column of this name is open
+abbrev pub openAt : List ℕ → ℕ → Policy → ℕ → Word → Bool
+openAt ws t d p w = labelOpen d p (getElem? (labelsIn ws t d) (known (columnOf (columnsAt d t) w)))
+
+module _ (text ws : List ℕ) (k t : ℕ) (d : Policy) (p : ℕ) (h : Tables text ws k (d .tables)) (l : t < k) where
+  -- a column's label, if the table has the column
+  module _ (c n : ℕ) (cut : Cut t 8 (getD ws (24 + t) 0) n) where
+    pub column-there : c < n → (truths : List Bool) → Opened d p truths → (x : ℕ) → (t < 8 → c < 16 → x ≡ getD ws (288 + 16 * t + c) 0)
+        → (b : Bool) → b ≡ getD truths x false → b ≡ labelOpen d p (getElem? (labelsIn ws t d) c)
+    column-there less truths o x is b e =
+        e ∙ o .is x ∙ ap (labelOpen d p) (sym (column-label-read text ws k t d h l c (omega (arith, less, width-read text ws k t d h l n cut)) x is))
+
+    pub column-lacking : n ≤ c → false ≡ labelOpen d p (getElem? (labelsIn ws t d) c)
+    column-lacking over =
+        sym (ap (labelOpen d p) (past-end (labelsIn ws t d) c (omega (arith, over, width-read text ws k t d h l n cut, length-listed (columnLabelIn ws t) (length (columnsAt d t))))) ∙ no-label d p)
+
+  -- what the scheme that the code reads leaves open
+  module _ (s scheme : SchemeCode) (is : t < 8 → schemeIn ws t ≡ schemeBy s (getD ws (16 + t) 0) (listed (columnLabelIn ws t) (getD ws (24 + t) 0))) (e : s ≡ scheme) where
+    scheme-is : schemeAt d t ≡ schemeBy scheme (getD ws (16 + t) 0) (labelsIn ws t d)
+    scheme-is = scheme-read text ws k t d h l s is ∙ ap (λ z. schemeBy z (getD ws (16 + t) 0) (labelsIn ws t d)) e
+
+    pub table-by : tableOpen (labelOpen d p) (schemeAt d t) ≡ tableOpen (labelOpen d p) (schemeBy scheme (getD ws (16 + t) 0) (labelsIn ws t d))
+    table-by = ap (tableOpen (labelOpen d p)) scheme-is
+
+    pub columns-by : (words : List Word)
+        → missing (λ w. columnOpen (labelOpen d p) (schemeAt d t) (known (columnOf (columnsAt d t) w))) words
+        ≡ missing (λ w. columnOpen (labelOpen d p) (schemeBy scheme (getD ws (16 + t) 0) (labelsIn ws t d)) (known (columnOf (columnsAt d t) w))) words
+    columns-by words = ap (λ z. missing (λ w. columnOpen (labelOpen d p) z (known (columnOf (columnsAt d t) w))) words) scheme-is
+
+-- ---- the first closed column
+
+-- what the loop is given of a document and a query: the table, which labels are open, and the numbers of the named columns
+pub record Named (tables : List ℕ) (t : ℕ) (opened : List Bool) (places : List ℕ) (n : ℕ) (columns : List ℕ) (d : Policy) (p : ℕ) (s : List ℕ) : Type 0 where
+  pub text : List ℕ
+  pub k : ℕ
+  pub held : Tables text tables k (d .tables)
+  pub inside : t < k
+  pub longPlaces : n ≤ length places
+  pub longColumns : n ≤ length columns
+  pub labels : Opened d p opened
+  pub are : take n columns ≡ map (λ w. known (columnOf (columnsAt d t) w)) (wordsAt s n places)
+
+module _ {tables : List ℕ} {t : ℕ} {opened : List Bool} {places : List ℕ} {n : ℕ} {columns : List ℕ} {d : Policy} {p : ℕ} {s : List ℕ} (g : Named tables t opened places n columns d p s) where
+  -- what the code finds at a column's number
+  pub open-found : (i : ℕ) → i < n → (b : Bool)
+      → ((d : Policy) (text : List ℕ) (k p : ℕ) → Tables text tables k (d .tables) → t < k → Opened d p opened → b ≡ labelOpen d p (getElem? (labelsIn tables t d) (getD columns i 0)))
+      → b ≡ openAt tables t d p (wordOf s (getD places i 0))
+  open-found i l b is =
+      is d (g .text) (g .k) p (g .held) (g .inside) (g .labels)
+      ∙ ap (λ c. labelOpen d p (getElem? (labelsIn tables t d) c))
+      (mapped-at (λ (w : Word). known (columnOf (columnsAt d t) w)) (wordOf s) columns places n i l (omega (arith, l, g .longColumns)) (omega (arith, l, g .longPlaces)) (g .are))
+
+  pub first-closed : (i : ℕ) → i < n → ((j : ℕ) → j < i → openAt tables t d p (wordOf s (getD places j 0)) ≡ true) → openAt tables t d p (wordOf s (getD places i 0)) ≡ false
+      → some (wordOf s (getD places i 0)) ≡ missing (openAt tables t d p) (wordsAt s n places)
+  first-closed i l h e = sym (first-missing (openAt tables t d p) (wordOf s) places n i (g .longPlaces) l h e)
+
+  pub none-closed : ((j : ℕ) → j < n → openAt tables t d p (wordOf s (getD places j 0)) ≡ true) → none ≡ missing (openAt tables t d p) (wordsAt s n places)
+  none-closed h = sym (none-missing (openAt tables t d p) (wordOf s) places n (g .longPlaces) h)

@@ -1,0 +1,73 @@
+-- `resolving::openness::table_open` meets its contract. Assumes nothing.
+use mathlib.Core.Option.{some}
+use mathlib.Core.Path.{_∙_, ap, sym}
+use Rattle.document.specs.Open.{labelOpen, tableOpen}
+use Rattle.index.proofs.TableLaws.{table-inside}
+use Rattle.index.specs.Index.{schemeBy}
+use Rattle.index.specs.declared.tables.SchemeCode.the-variants as code
+use Rattle.resolving.proofs.OpennessLaws.{table-by}
+use borrow.Author.Needs.{needs}
+use Rattle.resolving.proofs.openness.table_open.Statement.{statement}
+use Rattle.resolving.proofs.openness.table_open.Tie as tie
+
+table-scheme-requires : tie.Need-table-scheme-requires
+table-scheme-requires c κs = search needs
+
+enum-told : tie.Need-enum-told
+enum-told c = search needs
+
+enum-told-2 : tie.Need-enum-told-2
+enum-told-2 c = search needs
+
+table-label-requires : tie.Need-table-label-requires
+table-label-requires c κs = search needs
+
+label-is-open-requires : tie.Need-label-is-open-requires
+label-is-open-requires c κs = search needs
+
+enum-told-3 : tie.Need-enum-told-3
+enum-told-3 c = search needs
+
+enum-told-4 : tie.Need-enum-told-4
+enum-told-4 c = search needs
+
+enum-told-5 : tie.Need-enum-told-5
+enum-told-5 c = search needs
+
+returns : tie.Need-returns
+unfolding tableOpen schemeBy
+returns c d text k p h l o = sym (table-by text (c .before .before .before .before .args .tables .now) k (c .before .before .before .before .args .t) d p h l (c .before .before .table-scheme .result) code.Unlabelled (c .before .before .table-scheme .ensures) (c .enum-told .given .1))
+
+returns-2 : tie.Need-returns-2
+unfolding tableOpen schemeBy
+returns-2 c d text k p h l o = c .label-is-open .ensures ∙ o .is (c .before .table-label .result) ∙ ap (λ x. labelOpen d p (some x)) (c .before .table-label .ensures (table-inside text (c .before .before .before .before .before .before .args .tables .now) k (c .before .before .before .before .before .before .args .t) d h l)) ∙ sym (table-by text (c .before .before .before .before .before .before .args .tables .now) k (c .before .before .before .before .before .before .args .t) d p h l (c .before .before .before .before .table-scheme .result) code.ByTable (c .before .before .before .before .table-scheme .ensures) (c .before .before .enum-told2 .given .1))
+
+returns-3 : tie.Need-returns-3
+unfolding tableOpen schemeBy
+returns-3 c d text k p h l o = sym (table-by text (c .before .before .before .before .args .tables .now) k (c .before .before .before .before .args .t) d p h l (c .before .before .table-scheme .result) code.ByColumn (c .before .before .table-scheme .ensures) (c .enum-told3 .given .1))
+
+returns-4 : tie.Need-returns-4
+unfolding tableOpen schemeBy
+returns-4 c d text k p h l o = sym (table-by text (c .before .before .before .before .args .tables .now) k (c .before .before .before .before .args .t) d p h l (c .before .before .table-scheme .result) code.ByRow (c .before .before .table-scheme .ensures) (c .enum-told4 .given .1))
+
+returns-5 : tie.Need-returns-5
+unfolding tableOpen schemeBy
+returns-5 c d text k p h l o = sym (table-by text (c .before .before .before .before .args .tables .now) k (c .before .before .before .before .args .t) d p h l (c .before .before .table-scheme .result) code.ByCell (c .before .before .table-scheme .ensures) (c .enum-told5 .given .1))
+
+pub table-open-spec : {M : Type 1} → statement M
+table-open-spec =
+    tie.close
+    (tie.spec
+    table-scheme-requires
+    enum-told
+    enum-told-2
+    table-label-requires
+    label-is-open-requires
+    enum-told-3
+    enum-told-4
+    enum-told-5
+    returns
+    returns-2
+    returns-3
+    returns-4
+    returns-5)

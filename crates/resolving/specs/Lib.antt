@@ -1,0 +1,2 @@
+-- What resolving a query answers. Assumes nothing.
+pub mod Resolved

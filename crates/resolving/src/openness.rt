@@ -1,0 +1,126 @@
+// What of a table is closed to a purpose (17).
+use crate::columns::NAMED;
+use crate::offending::Offending;
+use index::layout::LABELS;
+use index::layout::TABLE_CELLS;
+use index::tables::SchemeCode;
+use index::tables::column_label;
+use index::tables::table_label;
+use index::tables::table_scheme;
+use index::tables::table_width;
+ghost use Prim.Native.Nat.{_<_, _≤_, ℕ};
+ghost use lib.ListN.{getD, getElem?, length, take};
+ghost use mathlib.Core.Bool.{false};
+ghost use mathlib.Core.List.{List, [], _∷_, map};
+ghost use mathlib.Core.Path.{_≡_};
+ghost use Rattle.document.specs.Lookup.{columnOf, columnsAt, schemeAt};
+ghost use Rattle.document.specs.Open.{columnOpen, labelOpen, tableOpen};
+ghost use Rattle.document.specs.Policy.{Policy};
+ghost use Rattle.index.specs.Index.{Opened, Tables, columnLabelIn};
+ghost use Rattle.index.specs.Listed.{listed};
+ghost use Rattle.lists.specs.Lists.{known};
+ghost use Rattle.query.specs.Naming.{wordsAt};
+ghost use Rattle.resolving.specs.Resolved.{offendingIn};
+ghost use Rattle.text.specs.Offending.{leftmost, missing, unless};
+ghost use Rattle.text.specs.Words.{wordOf};
+
+// Whether the label of this number is open; one that is not there is closed.
+fn label_is_open(opened: &[bool], l: usize) -> bool
+    ensures { λ r. ⌜ r ≡ getD (now (opened .entry)) l false ⌝ }
+{
+    if l < opened.len() {
+        return opened[l];
+    }
+    false
+}
+
+// Whether the table is open, as a whole.
+fn table_open(tables: &[usize; TABLE_CELLS], t: usize, opened: &[bool]) -> bool
+    ensures { λ r. ⌜ ((d : Policy) (text : List ℕ) (k p : ℕ) → Tables text (now (tables .entry)) k (d .tables) → t < k → Opened d p (now (opened .entry)) → r ≡ tableOpen (labelOpen d p) (schemeAt d t)) ⌝ }
+{
+    let scheme = table_scheme(tables, t);
+    match scheme {
+        SchemeCode::Unlabelled => true,
+        SchemeCode::ByTable => label_is_open(opened, table_label(tables, t)),
+        SchemeCode::ByColumn => true,
+        SchemeCode::ByRow => true,
+        SchemeCode::ByCell => true,
+    }
+}
+
+// Whether the label of column c is open; a column that the table lacks has none.
+fn column_open(tables: &[usize; TABLE_CELLS], t: usize, opened: &[bool], c: usize) -> bool
+    ensures { λ r. ⌜ ((d : Policy) (text : List ℕ) (k p : ℕ) → Tables text (now (tables .entry)) k (d .tables) → t < k → Opened d p (now (opened .entry)) → r ≡ labelOpen d p (getElem? (listed (columnLabelIn (now (tables .entry)) t) (length (columnsAt d t))) c)) ⌝ }
+{
+    if c < table_width(tables, t) {
+        return label_is_open(opened, column_label(tables, t, c));
+    }
+    false
+}
+
+// The first of the n named columns whose label is closed.
+fn first_closed(
+    tables: &[usize; TABLE_CELLS],
+    t: usize,
+    opened: &[bool],
+    places: &[usize],
+    n: usize,
+    columns: &[usize],
+) -> Offending
+    ensures { λ x. ⌜ ((d : Policy) (text s : List ℕ) (k p : ℕ) → Tables text (now (tables .entry)) k (d .tables) → t < k → n ≤ length (now (places .entry)) → n ≤ length (now (columns .entry)) → Opened d p (now (opened .entry)) → take n (now (columns .entry)) ≡ map (λ w. known (columnOf (columnsAt d t) w)) (wordsAt s n (now (places .entry))) → offendingIn s x ≡ missing (λ w. labelOpen d p (getElem? (listed (columnLabelIn (now (tables .entry)) t) (length (columnsAt d t))) (known (columnOf (columnsAt d t) w)))) (wordsAt s n (now (places .entry)))) ⌝ }
+{
+    let mut i = 0;
+    while i < n {
+        if i >= places.len() {
+            return Offending::Nothing;
+        }
+        if i >= columns.len() {
+            return Offending::Nothing;
+        }
+        if !column_open(tables, t, opened, columns[i]) {
+            return Offending::At(places[i]);
+        }
+        i += 1;
+    }
+    Offending::Nothing
+}
+
+// The first of the n named columns that is closed: only labels by column close one.
+fn closed_column(
+    tables: &[usize; TABLE_CELLS],
+    t: usize,
+    opened: &[bool],
+    places: &[usize],
+    n: usize,
+    columns: &[usize],
+) -> Offending
+    ensures { λ x. ⌜ ((d : Policy) (text s : List ℕ) (k p : ℕ) → Tables text (now (tables .entry)) k (d .tables) → t < k → n ≤ length (now (places .entry)) → n ≤ length (now (columns .entry)) → Opened d p (now (opened .entry)) → take n (now (columns .entry)) ≡ map (λ w. known (columnOf (columnsAt d t) w)) (wordsAt s n (now (places .entry))) → offendingIn s x ≡ missing (λ w. columnOpen (labelOpen d p) (schemeAt d t) (known (columnOf (columnsAt d t) w))) (wordsAt s n (now (places .entry)))) ⌝ }
+{
+    let scheme = table_scheme(tables, t);
+    match scheme {
+        SchemeCode::Unlabelled => Offending::Nothing,
+        SchemeCode::ByTable => Offending::Nothing,
+        SchemeCode::ByColumn => first_closed(tables, t, opened, places, n, columns),
+        SchemeCode::ByRow => Offending::Nothing,
+        SchemeCode::ByCell => Offending::Nothing,
+    }
+}
+
+// The table, whose name stands at `at`, or else the first of the n named columns, where it is closed.
+pub fn closed_part(
+    tables: &[usize; TABLE_CELLS],
+    t: usize,
+    opened: &[bool; LABELS],
+    query: &[u8],
+    at: usize,
+    places: &[usize; NAMED],
+    n: usize,
+    columns: &[usize; NAMED],
+) -> Offending
+    ensures { λ x. ⌜ ((d : Policy) (text : List ℕ) (k p : ℕ) → Tables text (now (tables .entry)) k (d .tables) → t < k → n ≤ 80 → Opened d p (now (opened .entry)) → take n (now (columns .entry)) ≡ map (λ w. known (columnOf (columnsAt d t) w)) (wordsAt (now (query .entry)) n (now (places .entry))) → offendingIn (now (query .entry)) x ≡ leftmost (unless (tableOpen (labelOpen d p) (schemeAt d t)) (wordOf (now (query .entry)) at) ∷ missing (λ w. columnOpen (labelOpen d p) (schemeAt d t) (known (columnOf (columnsAt d t) w))) (wordsAt (now (query .entry)) n (now (places .entry))) ∷ [])) ⌝ }
+{
+    if !table_open(tables, t, opened) {
+        return Offending::At(at);
+    }
+    closed_column(tables, t, opened, places, n, columns)
+}
