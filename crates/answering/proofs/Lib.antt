@@ -1,0 +1,11 @@
+-- Laws of answering. Assumes nothing.
+pub mod ValueLaws
+pub mod OpenCells
+pub mod TruthLaws
+pub mod MatchLaws
+pub mod FateLaws
+pub mod Writing
+pub mod Digits
+pub mod LineLaws
+pub mod Ending
+pub mod Bridge

@@ -1,0 +1,148 @@
+-- The lines of rows: how long they are, and how they grow. Assumes nothing.
+use Prim.Native.Nat.{_*_, _+_, _<_, _≤_, suc, zero, ℕ}
+use borrow.Author.Tests.{ltb-false, ltb-true}
+use lib.Dec.{ltb}
+use lib.ListN.{List·getD-eq-default, drop, drop-of-length-le, getD, length, length-append, length-drop, take}
+use mathlib.Core.Bool.{Bool, false, true}
+use mathlib.Core.List.{List, [], _++_, _∷_, append-assoc, append-nil, flatten}
+use mathlib.Core.Path.{_∙_, _≡_, ap, refl, subst, sym}
+use native.Mathlib.Omega.{arith}
+use Rattle.answer.specs.Answer.{rowLine}
+use Rattle.answering.proofs.Writing.{both, wrote-nothing}
+use Rattle.answering.specs.Write.{LineWritten, LinesWritten, Wrote, lineMarked, linesMarked, spaced}
+use Rattle.document.specs.Policy.{Row}
+use Rattle.index.proofs.ListedLaws.{length-listed, listed-getD, listed-more}
+use Rattle.index.specs.Index.{Cut, Rows, rowIn, valueIn}
+use Rattle.index.specs.Listed.{listed}
+use Rattle.text.proofs.Lefts.{drop-here}
+use Rattle.text.specs.Bytes.{ascii, isNameByte}
+use Rattle.text.specs.Numbers.{Value}
+use Rattle.text.specs.Words.{nameBytes, wordAt}
+
+-- ---- words
+
+run-short : (bs : List ℕ) → length (nameBytes bs) ≤ length bs
+unfolding nameBytes
+run-short [] = omega arith
+run-short (b ∷ bs) = go (isNameByte b) refl (run-short bs)
+  where
+    go : (t : Bool) → isNameByte b ≡ t → length (nameBytes bs) ≤ length bs → length (nameBytes (b ∷ bs)) ≤ suc (length bs)
+    go true k ih = rw (k, nameBytes) (omega arith)
+    go false k ih = rw (k, nameBytes) (omega arith)
+
+-- a word is no longer than the text
+pub word-short : (s : List ℕ) (at : ℕ) → length (wordAt s at) ≤ length s
+word-short s at = omega (arith, run-short (drop at s), length-drop at s)
+
+-- at the end stands the empty word
+pub word-end : (s : List ℕ) → wordAt s (length s) ≡ []
+unfolding nameBytes
+word-end s = let l : length s ≤ length s = omega arith in rw (drop-of-length-le s l)
+
+-- ---- the values of a row
+
+-- the value of a column is a word of the text
+pub value-place : (text ws : List ℕ) (r width c p : ℕ) → c < width → p ≡ getD ws (3072 + 16 * r + c) 0 → wordAt text p ≡ getD (listed (valueIn text ws r) width) c []
+value-place text ws r width c p l e = ap (wordAt text) e ∙ sym (listed-getD (valueIn text ws r) width c [] l)
+
+-- past the last column stands none
+no-value : (text ws : List ℕ) (r width c : ℕ) → width ≤ c → getD (listed (valueIn text ws r) width) c [] ≡ []
+no-value text ws r width c l =
+    let h : length (listed (valueIn text ws r) width) ≤ c = omega (arith, l, length-listed (valueIn text ws r) width) in
+    List·getD-eq-default (listed (valueIn text ws r) width) [] h
+
+-- past the last column it is the empty one
+pub value-past : (text ws : List ℕ) (r width c : ℕ) → width ≤ c → wordAt text (length text) ≡ getD (listed (valueIn text ws r) width) c []
+value-past text ws r width c l = word-end text ∙ sym (no-value text ws r width c l)
+
+module _ (text ws : List ℕ) (r : ℕ) where
+  -- a value is no longer than the text
+  values-fit : (k c : ℕ) → length (getD (listed (valueIn text ws r) k) c []) ≤ length text
+  values-fit k c = go (ltb c k) refl
+    where
+      go : (b : Bool) → ltb c k ≡ b → length (getD (listed (valueIn text ws r) k) c []) ≤ length text
+      go true e = omega (arith, ap length (listed-getD (valueIn text ws r) k c [] (ltb-true c k e)), word-short text (getD ws (3072 + 16 * r + c) 0))
+      go false e = omega (arith, ap length (no-value text ws r k c (ltb-false c k e)))
+
+module _ (vs : List Value) where
+  -- the values in some columns are the first and the others
+  pub spaced-more : (cs : List ℕ) (i : ℕ) → i < length cs → spaced (drop i cs) vs ≡ (32 ∷ getD vs (getD cs i 0) []) ++ spaced (drop (i + 1) cs) vs
+  unfolding spaced flatten
+  spaced-more cs i h = rw (drop-here cs i h)
+
+  pub spaced-none : (cs : List ℕ) (i : ℕ) → length cs ≤ i → spaced (drop i cs) vs ≡ []
+  unfolding spaced flatten
+  spaced-none cs i h = rw (drop-of-length-le cs h)
+
+  -- how long they are at most
+  spaced-short : (cs : List ℕ) → ((c : ℕ) → length (getD vs c []) ≤ 60000) → length (spaced cs vs) ≤ length cs * 60001
+  unfolding spaced flatten
+  spaced-short [] h = omega arith
+  spaced-short (c ∷ cs) h = omega (arith, length-append (32 ∷ getD vs c []) (spaced cs vs), h c, spaced-short cs h)
+
+module _ (text ws : List ℕ) (r width : ℕ) (cs : List ℕ) (small : length text ≤ 60000) (few : length cs ≤ 16) where
+  pub values-short : length (spaced cs (listed (valueIn text ws r) width)) ≤ 960016
+  values-short = omega (arith, small, few, spaced-short (listed (valueIn text ws r) width) cs (λ c. omega (arith, small, values-fit text ws r width c)))
+
+  pub row-short : length (rowLine cs (listed (valueIn text ws r) width)) ≤ 960022
+  unfolding rowLine spaced
+  row-short = omega (arith, values-short, length-append (ascii "(row" ++ spaced cs (listed (valueIn text ws r) width)) (ascii ")\n"))
+
+-- ---- lines
+
+module _ (text ws cs : List ℕ) (r : ℕ) {marked : Bool} where
+  -- the line of a marked row
+  pub line-written : {d e : List ℕ} {at next width : ℕ} → length text ≤ 60000 → length cs ≤ 16 → r < 1024 → marked ≡ true → Cut r 1024 (getD ws (1024 + r) 0) width
+      → Wrote d at (rowLine cs (listed (valueIn text ws r) width)) e next → LineWritten text ws cs r marked d at e next
+  unfolding lineMarked rowIn
+  line-written {d} {e} {at} {next} {width} small few inside is cut w = record {
+    short = omega (arith, w .behind, row-short text ws r width cs small few);
+    line = λ n. subst (λ b. Wrote d at (lineMarked text ws cs r b) e next) (sym is) (subst (λ k. Wrote d at (rowLine cs (listed (valueIn text ws r) k)) e next) (cut .is inside n) w);
+  }
+
+  -- another row has none
+  pub line-none : (d : List ℕ) (at : ℕ) → marked ≡ false → LineWritten text ws cs r marked d at d at
+  unfolding lineMarked
+  line-none d at is = record {
+    short = omega arith;
+    line = λ n. subst (λ b. Wrote d at (lineMarked text ws cs r b) d at) (sym is) (wrote-nothing d at);
+  }
+
+flatten-last : (ls : List (List ℕ)) (l : List ℕ) → flatten (ls ++ (l ∷ [])) ≡ flatten ls ++ l
+unfolding flatten
+flatten-last [] l = append-nil l
+flatten-last (x ∷ ls) l = ap (λ y. x ++ y) (flatten-last ls l) ∙ sym (append-assoc x (flatten ls) l)
+
+-- the array holds the rows before the last
+fewer-rows : (text ws : List ℕ) (k : ℕ) (rs : List Row) → Rows text ws (k + 1) rs → Rows text ws k (listed (rowIn text ws) k)
+fewer-rows text ws k rs h = record {
+  few = omega (arith, h .few);
+  narrow = λ r l. h .narrow r (omega (arith, l));
+  marked = λ r l. h .marked r (omega (arith, l));
+  are = refl;
+}
+
+module _ (text ws cs : List ℕ) (marks : List Bool) where
+  -- the lines of one row more
+  marked-more : (k : ℕ) → linesMarked text ws cs marks (k + 1) ≡ linesMarked text ws cs marks k ++ lineMarked text ws cs k (getD marks k false)
+  unfolding linesMarked
+  marked-more k = ap flatten (listed-more line k) ∙ flatten-last (listed line k) (line k)
+    where
+      line : ℕ → List ℕ
+      line r = lineMarked text ws cs r (getD marks r false)
+
+  pub lines-start : (d : List ℕ) → LinesWritten text ws cs marks 0 d d 0
+  unfolding linesMarked listed flatten
+  lines-start d = record { short = omega arith; lines = λ rs h. wrote-nothing d 0 }
+
+  pub lines-more : {d e f : List ℕ} {k m n : ℕ} {b : Bool} → LinesWritten text ws cs marks k d e m → b ≡ getD marks k false → LineWritten text ws cs k b e m f n → LinesWritten text ws cs marks (k + 1) d f n
+  lines-more {d} {e} {f} {k} {m} {n} g is w = record {
+    short = omega (arith, g .short, w .short);
+    lines = λ rs h. subst (λ l. Wrote d 0 l f n) (ap (λ b. linesMarked text ws cs marks k ++ lineMarked text ws cs k b) is ∙ sym (marked-more k)) (both (g .lines _ (fewer-rows text ws k rs h)) (w .line (h .narrow k (omega arith))));
+  }
+
+-- the first k of a list that has as many
+pub take-long : (k : ℕ) (xs : List ℕ) → k ≤ length xs → length (take k xs) ≡ k
+take-long zero xs h = refl
+take-long (suc k) [] h = absurd (omega (arith, h))
+take-long (suc k) (x ∷ xs) h = omega (arith, take-long k xs (omega (arith, h)))

@@ -1,0 +1,43 @@
+-- `answering::answers::answer_rows` meets its contract. Assumes nothing.
+use borrow.Author.Needs.{needs}
+use mathlib.Core.Path.{subst, sym}
+use native.Mathlib.Omega.{arith}
+use Rattle.answering.proofs.Bridge.{answer-is}
+use Rattle.answering.specs.Answering.{Writes}
+use Rattle.answering.proofs.answers.answer_rows.Statement.{statement}
+use Rattle.answering.proofs.answers.answer_rows.Tie as tie
+
+returns : tie.Need-returns
+returns c = λ d q h. absurd (omega (arith, h .small, c .if1 .taken))
+
+returns-2 : tie.Need-returns-2
+returns-2 c = λ d q h. absurd (omega (arith, h .fewChosen, c .if2 .taken))
+
+returns-3 : tie.Need-returns-3
+returns-3 c = λ d q h. absurd (omega (arith, h .rows .few, c .if3 .taken))
+
+judge-rows-requires : tie.Need-judge-rows-requires
+judge-rows-requires c κs = search needs
+
+put-measured-requires : tie.Need-put-measured-requires
+put-measured-requires c κs = search needs
+
+same-length : tie.Need-same-length
+same-length c = search needs
+
+returns-4 : tie.Need-returns-4
+returns-4 c = λ d q h.
+    subst (λ a. Writes a (c .before .before .before .before .before .before .before .before .before .before .before .before .before .args .out .now) (c .before .before .put-measured .last .0) (c .before .before .put-measured .result)) (sym (answer-is h (c .before .before .before .before .before .judge-rows .ensures d q (c .before .before .before .before .before .before .before .before .before .before .before .before .before .args .select) h)))
+    (c .before .before .put-measured .ensures (d .rows) (h .rows))
+
+pub answer-rows-spec : {M : Type 1} → statement M
+answer-rows-spec =
+    tie.close
+    (tie.spec
+    returns
+    returns-2
+    returns-3
+    judge-rows-requires
+    put-measured-requires
+    same-length
+    returns-4)

@@ -1,0 +1,5 @@
+-- What answering over the rows gives. Assumes nothing.
+pub mod Write
+pub mod Prepared
+pub mod Answering
+pub mod Judging

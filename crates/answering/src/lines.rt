@@ -1,0 +1,129 @@
+// The lines of the rows that are given.
+use crate::write::put_byte;
+use crate::write::put_bytes;
+use crate::write::put_word;
+use index::layout::ROW_CELLS;
+use index::layout::ROWS;
+use index::rows::row_value;
+use index::rows::row_values;
+ghost use Prim.Native.Nat.{_<_, _^_, _≤_};
+ghost use lib.ListN.{getD, length, take};
+ghost use mathlib.Core.List.{[]};
+ghost use mathlib.Core.Path.{_≡_};
+ghost use Rattle.answer.specs.Answer.{rowLine};
+ghost use Rattle.answering.specs.Write.{LineWritten, LinesWritten, Wrote, spaced};
+ghost use Rattle.index.specs.Index.{valueIn};
+ghost use Rattle.index.specs.Listed.{listed};
+ghost use Rattle.text.specs.Words.{wordAt};
+
+// The place of the value in column c of row r, of which there are `width`; the text's end where there is none.
+fn value_place(text: &[u8], rows: &[usize; ROW_CELLS], r: usize, width: usize, c: usize) -> usize
+    requires { ⌜ (r < 1024) × (width ≤ 16) ⌝ }
+    ensures { λ x. ⌜ wordAt (now (text .entry)) x ≡ getD (listed (valueIn (now (text .entry)) (now (rows .entry)) r) width) c [] ⌝ }
+{
+    if c < width {
+        return row_value(rows, r, c);
+    }
+    text.len()
+}
+
+// Writes the values of row r in some columns, each after a space.
+fn put_values(
+    out: &mut [u8],
+    at: usize,
+    text: &[u8],
+    rows: &[usize; ROW_CELLS],
+    r: usize,
+    width: usize,
+    columns: &[usize],
+) -> usize
+    requires { ⌜ (at < 2 ^ 60) × (length (now text) ≤ 60000) × (length (now columns) ≤ 16) × (r < 1024) × (width ≤ 16) ⌝ }
+    ensures { λ x. ⌜ Wrote (now (out .entry)) at (spaced (now (columns .entry)) (listed (valueIn (now (text .entry)) (now (rows .entry)) r) width)) (now (out .exit)) x ⌝ }
+{
+    let mut to = at;
+    let mut i = 0;
+    while i < columns.len() {
+        let place = value_place(text, rows, r, width, columns[i]);
+        let next = put_byte(out, to, b' ');
+        to = put_word(out, next, text, place);
+        i += 1;
+    }
+    to
+}
+
+// Writes the line of row r.
+fn put_row(
+    out: &mut [u8],
+    at: usize,
+    text: &[u8],
+    rows: &[usize; ROW_CELLS],
+    r: usize,
+    width: usize,
+    columns: &[usize],
+) -> usize
+    requires { ⌜ (at < 2 ^ 59) × (length (now text) ≤ 60000) × (length (now columns) ≤ 16) × (r < 1024) × (width ≤ 16) ⌝ }
+    ensures { λ x. ⌜ Wrote (now (out .entry)) at (rowLine (now (columns .entry)) (listed (valueIn (now (text .entry)) (now (rows .entry)) r) width)) (now (out .exit)) x ⌝ }
+{
+    let a = put_bytes(out, at, b"(row");
+    let b = put_values(out, a, text, rows, r, width, columns);
+    put_bytes(out, b, b")\n")
+}
+
+// Writes the line of row r where it is marked.
+fn put_line(
+    out: &mut [u8],
+    at: usize,
+    text: &[u8],
+    rows: &[usize; ROW_CELLS],
+    r: usize,
+    marked: bool,
+    columns: &[usize],
+) -> usize
+    requires { ⌜ (at < 2 ^ 59) × (length (now text) ≤ 60000) × (length (now columns) ≤ 16) × (r < 1024) ⌝ }
+    ensures { λ x. ⌜ LineWritten (now (text .entry)) (now (rows .entry)) (now (columns .entry)) r marked (now (out .entry)) at (now (out .exit)) x ⌝ }
+{
+    if marked {
+        let width = row_values(rows, r);
+        return put_row(out, at, text, rows, r, width, columns);
+    }
+    at
+}
+
+// Writes the lines of the marked rows.
+fn put_marked(
+    out: &mut [u8],
+    text: &[u8],
+    rows: &[usize; ROW_CELLS],
+    count: usize,
+    marks: &[bool],
+    columns: &[usize],
+) -> usize
+    requires { ⌜ (length (now text) ≤ 60000) × (length (now columns) ≤ 16) × (count ≤ 1024) × (length (now marks) ≡ 1024) ⌝ }
+    ensures { λ x. ⌜ LinesWritten (now (text .entry)) (now (rows .entry)) (now (columns .entry)) (now (marks .entry)) count (now (out .entry)) (now (out .exit)) x ⌝ }
+{
+    let mut to = 0;
+    let mut r = 0;
+    while r < count {
+        to = put_line(out, to, text, rows, r, marks[r], columns);
+        r += 1;
+    }
+    to
+}
+
+// Writes the lines of the marked rows, of which there are count, with their values in the first `chosen` columns.
+pub(crate) fn put_lines(
+    out: &mut [u8],
+    text: &[u8],
+    rows: &[usize; ROW_CELLS],
+    count: usize,
+    marks: &[bool; ROWS],
+    columns: &[usize; 80],
+    chosen: usize,
+) -> usize
+    requires { ⌜ (length (now text) ≤ 60000) × (chosen ≤ 16) × (count ≤ 1024) ⌝ }
+    ensures { λ x. ⌜ LinesWritten (now (text .entry)) (now (rows .entry)) (take chosen (now (columns .entry))) (now (marks .entry)) count (now (out .entry)) (now (out .exit)) x ⌝ }
+{
+    let marked: &[bool] = marks;
+    let numbers: &[usize] = columns;
+    put_marked(out, text, rows, count, marked, &numbers[..chosen])
+}
