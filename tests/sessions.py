@@ -1,0 +1,277 @@
+"""Sessions of the asking program with what it must print, derived by hand from the request.
+
+A session is (name, policy, input, expected). A policy is a list of lines or bytes, the input a clock line and query lines.
+Expected is a list, for each query: the answer's lines, or (number, item) for a refusal, the item being the text of the offending
+word or (text, occurrence counted from 0), None for an empty part at the query's start, and WHOLE for the whole query.
+"""
+
+WHOLE = object()
+
+SAMPLE = [
+    "(purpose all)",
+    "(purpose bill all)",
+    "(purpose ads all)",
+    "(purpose post ads)",
+    "(role desk)",
+    "(attr desk level num)",
+    "(user ana desk (level 5))",
+    "(cond-role senior desk (and (ge level 5) (lt hour 17)))",
+    "(grant ads senior)",
+    "(label free (allow all) (deny))",
+    "(label noads (allow all) (deny ads))",
+    "(table sub cell (who name) (due num))",
+    "(row sub (Ida free) (40 free))",
+    "(row sub (Bo free) (75 noads))",
+    "(row sub (Cy free) (60 free))",
+]
+
+RICH = [
+    "(purpose all)",
+    "(purpose bill all)",
+    "(purpose ads all)",
+    "(purpose post ads)",
+    "(purpose mail post)",
+    "(role staff)",
+    "(role desk staff)",
+    "(role night desk)",
+    "(role lab)",
+    "(attr staff level num)",
+    "(attr desk team name)",
+    "(attr lab score num)",
+    "(user ana desk (level 5) (team red))",
+    "(user ana lab (score -3))",
+    "(user bob night (team blue) (level 2))",
+    "(user cyd staff (level 9))",
+    "(cond-role senior staff (and (ge level 5) (lt hour 17)))",
+    "(cond-role reds desk (eq team red))",
+    "(cond-role late staff (or (gt hour 20) (eq day 366)))",
+    "(cond-role labs lab (lt score 0))",
+    "(grant ads senior)",
+    "(grant bill reds)",
+    "(grant all late)",
+    "(grant bill labs)",
+    "(label free (allow all) (deny))",
+    "(label noads (allow all) (deny ads))",
+    "(label billing (allow bill) (deny))",
+    "(label shut (allow) (deny))",
+    "(label rootless (allow all) (deny all))",
+    "(label nopost (allow all) (deny post))",
+    "(table plain none (who name) (due num))",
+    "(table led table noads (who name) (due num))",
+    "(table cols column (who name free) (due num billing) (tag name nopost))",
+    "(table recs row (who name) (due num))",
+    "(table sub cell (who name) (due num))",
+    "(table nums none (n num))",
+    "(table dark table rootless (n num))",
+    "(row plain Ida 40)",
+    "(row plain Bo -75)",
+    "(row led Cy 1)",
+    "(row cols Dee 7 x)",
+    "(row recs free Fay 10)",
+    "(row recs noads Gus 20)",
+    "(row cols Eve 8 y)",
+    "(row recs billing Hal 30)",
+    "(row recs shut Ivy 40)",
+    "(row sub (Ida free) (40 free))",
+    "(row sub (Bo free) (75 noads))",
+    "(row nums -9223372036854775808)",
+    "(row nums 0)",
+    "(row nums 9223372036854775807)",
+    "(row sub (Cy noads) (60 free))",
+    "(row sub (Dot free) (50 shut))",
+]
+
+DAY = "(clock 2026 100 10)"
+NIGHT = "(clock 2026 100 21)"
+LEAP = "(clock 2028 366 10)"
+
+
+def one(name, query, expected, clock=DAY, policy=RICH):
+    return (name, policy, [clock, query], [expected])
+
+
+def end(passed, withheld, unmatched):
+    return f"(end {passed} {withheld} {unmatched})"
+
+
+def nested(depth):
+    """A condition on due of so many brackets, true of every value where the number of `not` is even."""
+    return "(not " * (depth - 1) + "(ge due 0)" + ")" * (depth - 1)
+
+
+def wide(n):
+    """A policy with n rows of a name of 24 bytes."""
+    return SAMPLE[:11] + ["(table long none (who name))"] + ["(row long " + "a" * 24 + ")"] * n
+
+
+SIXTEEN = " ".join(["who"] * 16)
+LONG_ROW = "(row" + (" " + "a" * 24) * 16 + ")"
+MANY = "(and " + " ".join(["(ge due 0)"] * 64) + ")"
+TOO_MANY = "(and " + " ".join(["(ge due 0)"] * 65) + ")"
+SAMPLE_QUERY = "(select ana desk post sub (who) (gt due 50))"
+
+SESSIONS = [
+    # the sample session and the cases named with it
+    one("sample", SAMPLE_QUERY, ["(row Cy)", end(1, 1, 1)], LEAP, SAMPLE),
+    one("Bo's 75 made 10", SAMPLE_QUERY, ["(row Cy)", end(1, 1, 1)], LEAP, [x.replace("(75 noads)", "(10 noads)") for x in SAMPLE]),
+    one("no condition", "(select ana desk post sub (who))", ["(row Ida)", "(row Bo)", "(row Cy)", end(3, 0, 0)], LEAP, SAMPLE),
+    one("for bill", SAMPLE_QUERY.replace("post", "bill"), (14, "bill"), LEAP, SAMPLE),
+    one("hour 17", SAMPLE_QUERY, (14, "post"), "(clock 2028 366 17)", SAMPLE),
+    one("hour 16", SAMPLE_QUERY, ["(row Cy)", end(1, 1, 1)], "(clock 2028 366 16)", SAMPLE),
+    one("day 366 of a common year", SAMPLE_QUERY, (10, None), "(clock 2027 366 10)", SAMPLE),
+    # the clock line
+    one("year 0", SAMPLE_QUERY, (10, None), "(clock 0 1 10)", SAMPLE),
+    one("year 1", SAMPLE_QUERY, ["(row Cy)", end(1, 1, 1)], "(clock 1 1 0)", SAMPLE),
+    one("year 9999", SAMPLE_QUERY, ["(row Cy)", end(1, 1, 1)], "(clock 9999 365 10)", SAMPLE),
+    one("year 10000", SAMPLE_QUERY, (10, None), "(clock 10000 1 10)", SAMPLE),
+    one("1900 is no leap year", SAMPLE_QUERY, (10, None), "(clock 1900 366 10)", SAMPLE),
+    one("2000 is one", SAMPLE_QUERY, ["(row Cy)", end(1, 1, 1)], "(clock 2000 366 10)", SAMPLE),
+    one("day 0", SAMPLE_QUERY, (10, None), "(clock 2028 0 10)", SAMPLE),
+    one("day 367", SAMPLE_QUERY, (10, None), "(clock 2028 367 10)", SAMPLE),
+    one("hour 24", SAMPLE_QUERY, (10, None), "(clock 2028 1 24)", SAMPLE),
+    one("hour 23", SAMPLE_QUERY, (14, "post"), "(clock 2028 1 23)", SAMPLE),
+    one("a year beyond 2^64", SAMPLE_QUERY, (10, None), "(clock 18446744073709553644 1 10)", SAMPLE),
+    one("a negative day", SAMPLE_QUERY, (10, None), "(clock 2028 -1 10)", SAMPLE),
+    one("a leading zero", SAMPLE_QUERY, (10, None), "(clock 2028 01 10)", SAMPLE),
+    one("two spaces", SAMPLE_QUERY, (10, None), "(clock 2028  1 10)", SAMPLE),
+    one("a fourth number", SAMPLE_QUERY, (10, None), "(clock 2028 1 10 0)", SAMPLE),
+    one("no clock", SAMPLE_QUERY, (10, None), SAMPLE_QUERY, SAMPLE),
+    one("an empty clock line", SAMPLE_QUERY, (10, None), "", SAMPLE),
+    one("a clock line of 5,000 bytes", SAMPLE_QUERY, (10, None), "(clock 2028 1 10" + " " * 5000 + ")", SAMPLE),
+    one("10 before 11", "(select", (10, None), "(clock 0 0 0)", SAMPLE),
+    # 11
+    one("a blank line", "", (11, WHOLE)),
+    one("no form", "select", (11, WHOLE)),
+    one("unfinished", "(count ana desk post sub", (11, WHOLE)),
+    one("a space behind it", "(count ana desk post sub) ", (11, WHOLE)),
+    one("a carriage return behind it", "(count ana desk post sub)\r", (11, WHOLE)),
+    one("no column", "(select ana desk post sub ())", (11, WHOLE)),
+    one("no column bracket", "(select ana desk post sub)", (11, WHOLE)),
+    one("17 columns", "(select ana desk post sub (" + SIXTEEN + " who))", (11, WHOLE)),
+    one("16 columns", "(select ana desk bill plain (" + SIXTEEN + ") (eq who Bo))", ["(row" + " Bo" * 16 + ")", end(1, 0, 1)]),
+    one("64 comparisons", "(count ana desk bill plain " + MANY + ")", [end(1, 0, 1)]),
+    one("65 comparisons", "(count ana desk bill plain " + TOO_MANY + ")", (11, WHOLE)),
+    one("nesting 16", "(count ana desk bill plain " + nested(15) + ")", [end(1, 0, 1)]),
+    one("nesting 17", "(count ana desk bill plain " + nested(16) + ")", (11, WHOLE)),
+    one("a number out of range", "(count ana desk bill plain (eq due 9223372036854775808))", (11, WHOLE)),
+    one("a name of 25 bytes", "(count ana desk bill " + "a" * 25 + ")", (11, WHOLE)),
+    one("4,096 bytes", "(count ana desk bill " + "a" * 4074 + ")", (11, WHOLE)),
+    one("4,097 bytes", "(count ana desk bill plain)" + " " * 4070, (11, WHOLE)),
+    one("70,000 bytes", "(" * 70000, (11, WHOLE)),
+    one("another keyword", "(delete ana desk bill plain)", (11, WHOLE)),
+    # 12
+    one("unknown user", "(count zed desk post sub)", (12, "zed")),
+    one("unknown role", "(count ana boss post sub)", (12, "boss")),
+    one("unknown purpose", "(count ana desk sport sub)", (12, "sport")),
+    one("the leftmost counts", "(count ana boss sport nowhere)", (12, "boss")),
+    one("12 before 15", "(count ana desk sport nowhere)", (12, "sport")),
+    one("case counts", "(count Ana desk post sub)", (12, "Ana")),
+    # 13
+    one("a role below the user's", "(count ana night post sub)", (13, "night")),
+    one("a role above the user's", "(count ana staff post sub)", (13, "staff")),
+    one("another user's role", "(count cyd desk post sub)", (13, "desk")),
+    # 14
+    one("granted above", "(count ana desk mail plain)", [end(2, 0, 0)]),
+    one("granted below only", "(count ana desk all plain)", (14, "all")),
+    one("the condition fails", "(count bob night ads plain)", (14, "ads")),
+    one("the role is not below", "(count cyd staff bill plain)", (14, "bill")),
+    one("the user in another role", "(count ana lab bill plain)", [end(2, 0, 0)]),
+    one("that role has no other grant", "(count ana lab ads plain)", (14, "ads")),
+    one("at night all is granted", "(count bob night all plain)", [end(2, 0, 0)], NIGHT),
+    one("on day 366 too", "(count bob night bill plain)", [end(2, 0, 0)], LEAP),
+    one("14 before 15", "(count ana desk all nowhere)", (14, "all")),
+    # 15
+    one("unknown table", "(count ana desk post nowhere)", (15, "nowhere")),
+    one("unknown column", "(select ana desk post sub (who what due))", (15, "what")),
+    one("unknown column in the condition", "(select ana desk post sub (who) (or (eq who Ida) (eq what 3)))", (15, "what")),
+    one("the clock is no column", "(count ana desk post sub (gt hour 5))", (15, "hour")),
+    one("a column of another table", "(count ana desk post sub (eq tag x))", (15, "tag")),
+    one("15 before 16", "(count ana desk post sub (and (gt who 5) (eq what 1)))", (15, "what")),
+    # 16
+    one("an order of names", "(count ana desk post sub (gt who Ida))", (16, "gt")),
+    one("a name for a number", "(count ana desk post sub (eq due Ida))", (16, "Ida")),
+    one("a number for a name", "(count ana desk post sub (ne who 5))", (16, "5")),
+    one("the operator comes first", "(count ana desk post sub (le who 5))", (16, "le")),
+    one("16 before 17", "(count ana desk post led (lt who Cy))", (16, "lt")),
+    # 17
+    one("table closed", "(select ana desk post led (who))", (17, "led")),
+    one("table closed to a count", "(count ana desk mail led)", (17, "led")),
+    one("table closed to an ancestor of what is denied", "(count bob night all led)", (17, "led"), NIGHT),
+    one("denied root", "(count ana desk bill dark)", (17, "dark")),
+    one("column closed", "(select ana desk post cols (who tag due))", (17, "tag")),
+    one("column closed in the condition", "(select ana desk post cols (who) (gt due 7))", (17, "due")),
+    one("column closed in a branch not reached", "(count ana desk post cols (or (eq who Dee) (eq tag x)))", (17, "tag")),
+    # 18
+    one("an answer of 59,696 bytes", "(select ana desk post long (" + SIXTEEN + "))", [LONG_ROW] * 147 + [end(147, 0, 0)], DAY, wide(147)),
+    one("an answer of 60,102 bytes", "(select ana desk post long (" + SIXTEEN + "))", (18, None), DAY, wide(148)),
+    # scheme none
+    one("none", "(select ana desk post plain (due who))", ["(row 40 Ida)", "(row -75 Bo)", end(2, 0, 0)]),
+    one("none, count", "(count ana desk post plain (lt due 0))", [end(1, 0, 1)]),
+    one("repeats", "(select ana desk bill plain (who who due who) (eq due -75))", ["(row Bo Bo -75 Bo)", end(1, 0, 1)]),
+    # scheme table
+    one("table", "(select ana desk bill led (who due))", ["(row Cy 1)", end(1, 0, 0)]),
+    one("table, count", "(count ana desk bill led (eq who Bo))", [end(0, 0, 1)]),
+    # scheme column
+    one("column, open ones", "(select ana desk post cols (who))", ["(row Dee)", "(row Eve)", end(2, 0, 0)]),
+    one("column, nothing named", "(count ana desk post cols)", [end(2, 0, 0)]),
+    one("column, all", "(select ana desk bill cols (tag due who) (ne tag x))", ["(row y 8 Eve)", end(1, 0, 1)]),
+    # scheme row
+    one("row", "(select ana desk post recs (who due))", ["(row Fay 10)", end(1, 3, 0)]),
+    one("row, nothing named", "(count ana desk post recs)", [end(1, 3, 0)]),
+    one("row, withheld whatever the condition says", "(count ana desk post recs (gt due 15))", [end(0, 3, 1)]),
+    one("row, another purpose", "(select ana desk bill recs (who) (gt due 15))", ["(row Gus)", "(row Hal)", end(2, 1, 1)]),
+    one("row, an ancestor of what is denied", "(count bob night all recs)", [end(1, 3, 0)], NIGHT),
+    # scheme cell
+    one("cell", "(select ana desk post sub (who))", ["(row Ida)", "(row Bo)", "(row Dot)", end(3, 1, 0)]),
+    one("cell, the other column", "(select ana desk post sub (due))", ["(row 40)", "(row 60)", end(2, 2, 0)]),
+    one("cell, the condition's cell closed", "(select ana desk post sub (who) (gt due 50))", [end(0, 3, 1)]),
+    one("cell, nothing named", "(count ana desk post sub)", [end(4, 0, 0)]),
+    one("cell, count", "(count ana desk post sub (ge due 50))", [end(1, 2, 1)]),
+    one("cell, a branch not reached", "(count ana desk post sub (or (ge due 0) (eq who Ida)))", [end(1, 3, 0)]),
+    one("cell, another purpose", "(select ana desk bill sub (who due))", ["(row Ida 40)", "(row Bo 75)", "(row Cy 60)", end(3, 1, 0)]),
+    # comparisons
+    one("lt", "(select ana desk bill nums (n) (lt n 0))", ["(row -9223372036854775808)", end(1, 0, 2)]),
+    one("le", "(select ana desk bill nums (n) (le n 0))", ["(row -9223372036854775808)", "(row 0)", end(2, 0, 1)]),
+    one("gt", "(select ana desk bill nums (n) (gt n 9223372036854775806))", ["(row 9223372036854775807)", end(1, 0, 2)]),
+    one("ge", "(select ana desk bill nums (n) (ge n -9223372036854775808))", ["(row -9223372036854775808)", "(row 0)", "(row 9223372036854775807)", end(3, 0, 0)]),
+    one("eq", "(count ana desk bill nums (eq n 9223372036854775807))", [end(1, 0, 2)]),
+    one("ne", "(count ana desk bill nums (ne n 0))", [end(2, 0, 1)]),
+    one("not, and, or", "(count ana desk bill nums (not (and (or (eq n 1) (le n 0)) (ge n 0))))", [end(2, 0, 1)]),
+    # the program
+    ("several queries", RICH, [DAY, "(count ana desk bill plain)", "", "(count ana desk bill nowhere)", "(count ana desk bill recs)"], [[end(2, 0, 0)], (11, WHOLE), (15, "nowhere"), [end(3, 1, 0)]]),
+    ("a long line between two", RICH, [DAY, "(count ana desk bill plain)", "x" * 10000, "(count ana desk bill plain)"], [[end(2, 0, 0)], (11, WHOLE), [end(2, 0, 0)]]),
+    ("the clock alone", RICH, [DAY], []),
+    ("an empty policy", [], [DAY, "(count ana desk bill plain)"], [(12, "ana")]),
+]
+
+
+def printed(query, expected):
+    """What is printed for a query."""
+    if isinstance(expected, list):
+        return "".join(line + "\n" for line in expected)
+    number, item = expected
+    start = length = 0
+    if item is WHOLE:
+        length = len(query.encode())
+    elif item is not None:
+        start, length = query.index(item), len(item)
+    return f"(refused {number} query {start} {length})\n"
+
+
+def cases():
+    """(name, policy, standard input, what must be printed), in bytes."""
+    for name, policy, lines, expected in SESSIONS:
+        document = "".join(line + "\n" for line in policy).encode()
+        wanted = "".join(printed(q, e) for q, e in zip(lines[1:], expected, strict=True)).encode()
+        full = "\n".join(lines).encode()
+        yield name, document, full + b"\n", wanted
+        if lines[-1]:
+            yield name + ", without the last line feed", document, full, wanted
+    sample = "".join(line + "\n" for line in SAMPLE).encode()
+    yield "no input", sample, b"", b""
+    yield "refused policy", sample + b"(purpose x)\n", (DAY + "\n" + SAMPLE_QUERY + "\n").encode(), f"(refused 6 document {len(sample)} 11)\n".encode()
+    yield "unfinished policy", sample + b"(purpose", (DAY + "\n" + SAMPLE_QUERY + "\n").encode(), f"(refused 2 document {len(sample)} 8)\n".encode()
+    yield "policy of 60,001 bytes", b"x" * 60001, b"", b"(refused 1 document 0 0)\n"
+    yield "a refused policy with no input", sample + b"(grant ads nobody)\n", b"", f"(refused 5 document {len(sample) + 11} 6)\n".encode()
+    yield "a zero byte in a query", sample, LEAP.encode() + b"\n(count ana desk post sub\0)\n", b"(refused 11 query 0 26)\n"
+    yield "bytes above 127", sample, LEAP.encode() + b"\n\xff\xfe\xc3\xa9\n", b"(refused 11 query 0 4)\n"
