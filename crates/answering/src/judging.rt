@@ -12,6 +12,7 @@ use index::layout::TABLE_CELLS;
 use index::rows::row_label;
 use index::rows::row_labels;
 use index::rows::row_table;
+use index::rows::row_values;
 use index::tables::SchemeCode;
 use index::tables::column_kind;
 use index::tables::table_scheme;
@@ -113,34 +114,36 @@ fn kind_at(tables: &[usize; TABLE_CELLS], t: usize, c: usize) -> Kind
     Kind::Num
 }
 
-// Whether the comparison of column c whose operator stands at op holds of row r.
+// Whether the comparison of column c whose operator stands at op holds of row r, which has `width` values.
 fn compared_holds(
     text: &[u8],
     tables: &[usize; TABLE_CELLS],
     t: usize,
     rows: &[usize; ROW_CELLS],
     r: usize,
+    width: usize,
     query: &[u8],
     op: usize,
     c: usize,
 ) -> bool
-    ensures { λ x. ⌜ (r < 1024 → getD (now (rows .entry)) (1024 + r) 0 ≤ 16 → t < 8 → c < 16 → x ≡ truthIn (now (text .entry)) (now (tables .entry)) (now (rows .entry)) t r (now (query .entry)) op c) ⌝ }
+    ensures { λ x. ⌜ (r < 1024 → width ≡ getD (now (rows .entry)) (1024 + r) 0 → width ≤ 16 → t < 8 → c < 16 → x ≡ truthIn (now (text .entry)) (now (tables .entry)) (now (rows .entry)) t r (now (query .entry)) op c) ⌝ }
 {
     let kind = kind_at(tables, t, c);
     let operator = op_at(query, op);
     let name = next_word(query, op);
     let value = next_word(query, name);
-    let place = value_place(text, rows, r, c);
+    let place = value_place(text, rows, r, width, c);
     values_meet(kind, operator, text, place, query, value)
 }
 
-// Stores which of the m comparisons hold of row r; their columns stand behind the first `chosen`.
+// Stores which of the m comparisons hold of row r, which has `width` values; their columns stand behind the first `chosen`.
 fn store_truths(
     text: &[u8],
     tables: &[usize; TABLE_CELLS],
     t: usize,
     rows: &[usize; ROW_CELLS],
     r: usize,
+    width: usize,
     query: &[u8],
     ops: &[usize],
     m: usize,
@@ -149,11 +152,21 @@ fn store_truths(
     truths: &mut [bool],
 )
     requires { ⌜ (m ≤ length (now ops)) × (chosen + m ≤ length (now columns)) × (m ≤ length (now truths)) × (chosen ≤ 16) × (m ≤ 64) ⌝ }
-    ensures { λ _. ⌜ (m ≤ length (now (truths .exit))) × (r < 1024 → getD (now (rows .entry)) (1024 + r) 0 ≤ 16 → t < 8 → (j : ℕ) → j < m → getD (now (columns .entry)) (chosen + j) 0 < 16 → getD (now (truths .exit)) j false ≡ truthIn (now (text .entry)) (now (tables .entry)) (now (rows .entry)) t r (now (query .entry)) (getD (now (ops .entry)) j 0) (getD (now (columns .entry)) (chosen + j) 0)) ⌝ }
+    ensures { λ _. ⌜ (m ≤ length (now (truths .exit))) × (r < 1024 → width ≡ getD (now (rows .entry)) (1024 + r) 0 → width ≤ 16 → t < 8 → (j : ℕ) → j < m → getD (now (columns .entry)) (chosen + j) 0 < 16 → getD (now (truths .exit)) j false ≡ truthIn (now (text .entry)) (now (tables .entry)) (now (rows .entry)) t r (now (query .entry)) (getD (now (ops .entry)) j 0) (getD (now (columns .entry)) (chosen + j) 0)) ⌝ }
 {
     let mut j = 0;
     while j < m {
-        truths[j] = compared_holds(text, tables, t, rows, r, query, ops[j], columns[chosen + j]);
+        truths[j] = compared_holds(
+            text,
+            tables,
+            t,
+            rows,
+            r,
+            width,
+            query,
+            ops[j],
+            columns[chosen + j],
+        );
         j += 1;
     }
 }
@@ -183,12 +196,14 @@ fn row_matches(
             if m == 0 {
                 return true;
             }
+            let width = row_values(rows, r);
             store_truths(
                 text,
                 tables,
                 t,
                 rows,
                 r,
+                width,
                 query,
                 ops,
                 m,

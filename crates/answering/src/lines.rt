@@ -1,31 +1,18 @@
 // The lines of the rows that are given.
+use crate::cells::value_place;
 use crate::write::put_byte;
 use crate::write::put_bytes;
 use crate::write::put_word;
 use index::layout::ROW_CELLS;
 use index::layout::ROWS;
-use index::rows::row_value;
 use index::rows::row_values;
 ghost use Prim.Native.Nat.{_<_, _^_, _≤_};
-ghost use lib.ListN.{getD, length, take};
-ghost use mathlib.Core.List.{[]};
+ghost use lib.ListN.{length, take};
 ghost use mathlib.Core.Path.{_≡_};
 ghost use Rattle.answer.specs.Answer.{rowLine};
 ghost use Rattle.answering.specs.Write.{LineWritten, LinesWritten, Wrote, spaced};
 ghost use Rattle.index.specs.Index.{valueIn};
 ghost use Rattle.index.specs.Listed.{listed};
-ghost use Rattle.text.specs.Words.{wordAt};
-
-// The place of the value in column c of row r, of which there are `width`; the text's end where there is none.
-fn value_place(text: &[u8], rows: &[usize; ROW_CELLS], r: usize, width: usize, c: usize) -> usize
-    requires { ⌜ (r < 1024) × (width ≤ 16) ⌝ }
-    ensures { λ x. ⌜ wordAt (now (text .entry)) x ≡ getD (listed (valueIn (now (text .entry)) (now (rows .entry)) r) width) c [] ⌝ }
-{
-    if c < width {
-        return row_value(rows, r, c);
-    }
-    text.len()
-}
 
 // Writes the values of row r in some columns, each after a space.
 fn put_values(

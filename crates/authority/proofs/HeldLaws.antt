@@ -1,10 +1,10 @@
 -- Which conditions of conditional roles hold: a comparison by the clock and by the user's values, and a condition by its comparisons.
 -- Assumes nothing.
-use Prim.Native.Nat.{_+_, _-_, _<_, _^_, _≤_, min, suc, zero, ℕ}
-use borrow.Author.Tests.{eqb-false, eqb-true, leb-true, ltb-false, ltb-true}
-use lib.Dec.{eqb, leb, ltb}
-use lib.ListN.{drop, drop-of-length-le, getD, getElem?, length, length-drop, length-map, set, take}
-use lib.Seq.{getD-set-other, getD-set-same, take-all, take-nil}
+use Prim.Native.Nat.{_+_, _-_, _<_, _^_, _≤_, suc, zero, ℕ}
+use borrow.Author.Tests.{eqb-false, eqb-true, leb-true}
+use lib.Dec.{eqb, leb}
+use lib.ListN.{drop-of-length-le, getD, getElem?, length, length-map, set, take}
+use lib.Seq.{getD-set-other, getD-set-same}
 use mathlib.Core.Bool.{Bool, cond, false, true}
 use mathlib.Core.List.{List, [], _∷_, map}
 use mathlib.Core.Logic.{⊎-elim}
@@ -26,7 +26,7 @@ use Rattle.document.specs.Meaning.{attributeComparison}
 use Rattle.document.specs.Policy.{Attribute, CondRole, Policy, User}
 use Rattle.index.proofs.IndexLaws.{attributes-length}
 use Rattle.index.proofs.ListedLaws.{listed-at, listed-there}
-use Rattle.index.specs.Index.{Attributes, CondRoles, attributesKnown, condRoleIn, conditionAt, conditionIn, conditionRead, noCondition}
+use Rattle.index.specs.Index.{Attributes, CondRoles, attributesKnown, condRoleIn, conditionAt, conditionIn, conditionRead, lineIn, noCondition}
 use Rattle.lists.proofs.ListLaws.{all-here, findIndex-found, holdsOf-some, map-map, there-some}
 use Rattle.lists.proofs.Tests.{and-left, and-right, decide}
 use Rattle.lists.specs.Lists.{allOf, findIndex, holdsOf, known, there}
@@ -256,45 +256,13 @@ module _ (d : Policy) (k : Clock) (u : User) (s : List ℕ) (at : ℕ) where
 
 -- ---- a conditional role
 
--- a line that is cut to lie in the text is the same
-pub line-cut : (text : List ℕ) (a e : ℕ) → take (min e (length text) - min a (min e (length text))) (drop (min a (min e (length text))) text) ≡ take (e - a) (drop a text)
-line-cut text a e = ⊎-elim (λ t. inside (ltb-true a (min e (length text)) t)) (λ t. outside (ltb-false a (min e (length text)) t)) (decide (ltb a (min e (length text))))
-  where
-    long : length (drop a text) ≡ length text - a
-    long = length-drop a text
-
-    whole : length text ≤ e → take (min e (length text) - a) (drop a text) ≡ take (e - a) (drop a text)
-    whole m = take-all (min e (length text) - a) (drop a text) (omega (arith, long, m)) ∙ sym (take-all (e - a) (drop a text) (omega (arith, long, m)))
-
-    inside : a < min e (length text) → take (min e (length text) - min a (min e (length text))) (drop (min a (min e (length text))) text) ≡ take (e - a) (drop a text)
-    inside m =
-        ap (λ n. take (min e (length text) - n) (drop n text)) (omega (arith, m))
-        ∙ ⊎-elim (λ t. whole (let r = ltb-true (length text) e t in omega (arith, r))) (λ t. ap (λ n. take (n - a) (drop a text)) (let r = ltb-false (length text) e t in omega (arith, r))) (decide (ltb (length text) e))
-
-    nothing : min e (length text) ≤ a → take (e - a) (drop a text) ≡ []
-    nothing m =
-        ⊎-elim
-        (λ t. let r = ltb-true a e t in ap (take (e - a)) (drop-of-length-le text {i = a} (omega (arith, m, r))) ∙ take-nil (e - a))
-        (λ t. let r = ltb-false a e t in ap (λ n. take n (drop a text)) (let z : e - a ≡ 0 = omega (arith, r) in z))
-        (decide (ltb a e))
-
-    outside : min e (length text) ≤ a → take (min e (length text) - min a (min e (length text))) (drop (min a (min e (length text))) text) ≡ take (e - a) (drop a text)
-    outside m =
-        let z : min e (length text) - min a (min e (length text)) ≡ 0 = omega (arith, m) in
-        ap (λ n. take n (drop (min a (min e (length text))) text)) z ∙ sym (nothing m)
-
--- the condition read in such a line is that of the conditional role
-pub role-read : (text ws : List ℕ) (i a e p a′ e′ : ℕ) → a ≡ getD ws (128 + i) 0 → e ≡ getD ws (192 + i) 0 → p ≡ getD ws (256 + i) 0 → e′ ≡ min e (length text) → a′ ≡ min a e′
-    → conditionRead (conditionInForm (from (take (e′ - a′) (drop a′ text)) p)) ≡ conditionIn text ws i
+-- the condition read in its line is that of the conditional role
+pub role-read : (text ws : List ℕ) (i a e p : ℕ) (line : List ℕ) → a ≡ getD ws (128 + i) 0 → e ≡ getD ws (192 + i) 0 → p ≡ getD ws (256 + i) 0 → line ≡ lineIn text a e
+    → conditionRead (conditionInForm (from line p)) ≡ conditionIn text ws i
 unfolding conditionIn conditionAt
-role-read text ws i a e p a′ e′ ea ee ep ce ca =
-    ap (λ l. conditionRead (conditionInForm (from l p))) cut
-    ∙ ap (λ n. conditionRead (conditionInForm (from (take (e - n) (drop n text)) p))) ea
-    ∙ ap (λ n. conditionRead (conditionInForm (from (take (n - getD ws (128 + i) 0) (drop (getD ws (128 + i) 0) text)) p))) ee
-    ∙ ap (λ n. conditionRead (conditionInForm (from (take (getD ws (192 + i) 0 - getD ws (128 + i) 0) (drop (getD ws (128 + i) 0) text)) n))) ep
-  where
-    cut : take (e′ - a′) (drop a′ text) ≡ take (e - a) (drop a text)
-    cut = ap (λ n. take (e′ - n) (drop n text)) ca ∙ ap (λ n. take (n - min a n) (drop (min a n) text)) ce ∙ line-cut text a e
+role-read text ws i a e p line ea ee ep el =
+    ap (λ l. conditionRead (conditionInForm (from l p))) (el ∙ (λ j. lineIn text (ea j) (ee j)))
+    ∙ ap (λ n. conditionRead (conditionInForm (from (lineIn text (getD ws (128 + i) 0) (getD ws (192 + i) 0)) n))) ep
 
 module _ (d : Policy) (c : Clock) (u : User) (text ws : List ℕ) (i : ℕ) where
   -- its condition has as many comparisons as the one read

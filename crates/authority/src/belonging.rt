@@ -1,4 +1,5 @@
 // Who belongs to a conditional role: whether a condition over attributes and the clock holds.
+use crate::line::line_of;
 use crate::values::VALUES;
 use crate::values::attribute_number;
 use condition::comparisons::known_rank;
@@ -19,7 +20,7 @@ use index::layout::COND_ROLE_CELLS;
 use index::layout::COND_ROLES;
 use query::clock::Clock;
 use text::walking::next_word;
-ghost use Prim.Native.Nat.{_<_, _^_, _≤_, min, ℕ};
+ghost use Prim.Native.Nat.{_<_, _^_, _≤_, ℕ};
 ghost use lib.ListN.{getD, getElem?, length, take};
 ghost use mathlib.Core.Bool.{false, true};
 ghost use mathlib.Core.List.{List, map};
@@ -248,16 +249,6 @@ fn condition_holds(
     }
 }
 
-// The number n, or the bound where n is more.
-fn at_most(n: usize, bound: usize) -> usize
-    ensures { λ r. ⌜ r ≡ min n bound ⌝ }
-{
-    if n < bound {
-        return n;
-    }
-    bound
-}
-
 // Whether the condition of conditional role i holds. Its line is cut to lie in the text.
 fn role_holds(
     text: &[u8],
@@ -271,19 +262,11 @@ fn role_holds(
 ) -> bool
     ensures { λ r. ⌜ ((d : Policy) (u : User) (k : ℕ) (rs : List CondRole) → Told (now (text .entry)) (now (attributes .entry)) acount (clockOf clock) (now (user .entry)) (now (values .entry)) d u → CondRoles d (now (text .entry)) (now (conds .entry)) k rs → i < k → length (comparisons (condRoleIn d (now (text .entry)) (now (conds .entry)) i .condition)) ≤ 64 → r ≡ conditionHolds (clockOf clock) u (condRoleIn d (now (text .entry)) (now (conds .entry)) i)) ⌝ }
 {
-    let end = at_most(cond_role_end(conds, i), text.len());
-    let start = at_most(cond_role_start(conds, i), end);
+    let start = cond_role_start(conds, i);
+    let end = cond_role_end(conds, i);
+    let line = line_of(text, start, end);
     let place = cond_role_place(conds, i);
-    condition_holds(
-        text,
-        attributes,
-        acount,
-        clock,
-        user,
-        values,
-        &text[start..end],
-        place,
-    )
+    condition_holds(text, attributes, acount, clock, user, values, line, place)
 }
 
 // Stores of the first n conditional roles whether their conditions hold.

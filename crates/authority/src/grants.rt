@@ -1,5 +1,6 @@
 // The first grant that authorises a purpose.
 use crate::belonging::store_held;
+use crate::line::line_of;
 use crate::values::VALUES;
 use crate::values::store_values;
 use index::conds::cond_role_role;
@@ -28,7 +29,7 @@ ghost use mathlib.Core.Path.{_≡_};
 ghost use Rattle.authority.specs.Held.{Held, conditionHolds};
 ghost use Rattle.document.proofs.Formed.{Formed};
 ghost use Rattle.document.specs.Policy.{CondRole, Node, Policy, User, treeOf};
-ghost use Rattle.index.specs.Index.{Attributes, CondRoles, Grants, Nodes, Users, foundAs, lineIn};
+ghost use Rattle.index.specs.Index.{Attributes, CondRoles, Grants, Nodes, Users, foundAs};
 ghost use Rattle.lists.specs.Lists.{findIndex, holdsOf};
 ghost use Rattle.purpose.specs.Compliance.{inTree, parent};
 ghost use Rattle.purpose.specs.Meaning.{ClosureOf};
@@ -53,22 +54,6 @@ fn holds_at(held: &[bool; COND_ROLES], k: usize, c: usize) -> bool
         return false;
     }
     if c < COND_ROLES { held[c] } else { false }
-}
-
-// The line from a to e of the text, as far as the text goes.
-fn line_of(text: &[u8], a: usize, e: usize) -> &[u8]
-    ensures { λ r. ⌜ now r ≡ lineIn (now (text .entry)) a e ⌝ }
-{
-    if e <= a {
-        return &text[0..0];
-    }
-    if e <= text.len() {
-        return &text[a..e];
-    }
-    if a <= text.len() {
-        return &text[a..];
-    }
-    &text[0..0]
 }
 
 // The first of the grants whose purpose is above the one with this closure, and whose conditional role is over a role above

@@ -1,4 +1,4 @@
--- A table line: its scheme as the line gives it, as it is judged and as it is stored. Assumes nothing.
+-- A table line: its scheme as the line gives it and as it is stored. Assumes nothing.
 use Prim.Native.Nat.{_≤_, ℕ}
 use lib.ListN.{length}
 use mathlib.Core.List.{List}
@@ -7,27 +7,16 @@ use native.Mathlib.Omega.{arith}
 use Rattle.checker.specs.Workspace.{labelPlace, schemeCoded}
 use Rattle.form.specs.Form.{table}
 use Rattle.form.specs.Places.{SchemeWithin, schemeAt, tableColumnsAt}
+use Rattle.index.specs.TableWords.{columnWords, schemeWords}
 use Rattle.storing.specs.Stored.{tableLine}
 use Rattle.text.specs.Words.{wordOf}
-use Rattle.faults.specs.TableLine as judging
-use Rattle.storing.specs.Stored as storing
 use Rattle.form.specs.declared.lines.Scheme.{Scheme}
 use Rattle.form.specs.declared.lines.Scheme.the-variants as scheme
 use Rattle.index.specs.declared.tables.SchemeCode.{SchemeCode}
-use Rattle.index.specs.declared.tables.SchemeCode.the-variants as code
 
 module _ (s : List ℕ) (t cs : ℕ) where
-  -- what is judged is what is stored
-  pub table-judged : (k : SchemeCode) (l : ℕ) → table (wordOf s t) (judging.schemeWords s k l cs) (judging.columnWords s k cs) ≡ tableLine s t k l cs
-  unfolding judging.schemeWords judging.columnWords storing.schemeWords storing.schemeColumns
-  table-judged code.Unlabelled l = refl
-  table-judged code.ByTable l = refl
-  table-judged code.ByColumn l = refl
-  table-judged code.ByRow l = refl
-  table-judged code.ByCell l = refl
-
   coded : (k : Scheme) → tableLine s t (schemeCoded k) (labelPlace k) cs ≡ table (wordOf s t) (schemeAt s k cs) (tableColumnsAt s k cs)
-  unfolding schemeAt tableColumnsAt schemeCoded labelPlace storing.schemeWords storing.schemeColumns
+  unfolding schemeAt tableColumnsAt schemeCoded labelPlace schemeWords columnWords
   coded scheme.Unlabelled = refl
   coded (scheme.ByTable l) = refl
   coded scheme.ByColumn = refl

@@ -22,13 +22,13 @@ use Rattle.document.specs.NameFaults.{taken, unknown, usableFor}
 use Rattle.document.specs.Policy.{Attribute, Doc, Policy, treeOf}
 use Rattle.document.specs.TypeFaults.{wrongType}
 use Rattle.document.specs.ValueFaults.{misfit}
-use Rattle.faults.proofs.LeftmostLaws.{leftmost-first, leftmost-only, leftmost-skip}
 use Rattle.form.specs.Form.{Form, condRole}
 use Rattle.lists.proofs.ListLaws.{all-map, findIndex-found, holdsOf-some, map-map}
 use Rattle.lists.proofs.Tests.{and-both, and-left, and-right, or-right}
 use Rattle.lists.specs.Lists.{allOf, holdsOf, known, there}
 use Rattle.purpose.specs.Compliance.{descends}
 use Rattle.text.proofs.Lefts.{before-end}
+use Rattle.text.proofs.OffendingLaws.{leftmost-only}
 use Rattle.text.proofs.WalkingLaws.{next-within}
 use Rattle.text.specs.Offending.{leftmost, missing, offendingIf, unless}
 use Rattle.text.specs.Reader.{Left, from}
@@ -80,46 +80,6 @@ module _ (d : Policy) (w : Word) where
   pub kind-there : (a : Attribute) → attributeNamed d w ≡ some a → attributeKind d w ≡ a .kind
   unfolding attributeKind
   kind-there a e = ap (λ (o : Option Attribute). Option·getD (Option·map (λ a. a .kind) o) numbers) e
-
--- ---- the first of n stored places that fails
-
-module _ (g : ℕ → Option Word) where
-  pub first-of : (xs : List ℕ) (n j : ℕ) (w : Word) → n ≤ length xs → j < n → ((i : ℕ) → i < j → g (getD xs i 0) ≡ none) → g (getD xs j 0) ≡ some w → leftmost (map g (take n xs)) ≡ some w
-  first-of [] n j w a b h e = absurd (omega (arith, a, b))
-  first-of (x ∷ xs) zero j w a b h e = absurd (omega (arith, b))
-  first-of (x ∷ xs) (suc n) zero w a b h e = leftmost-first (g x) (map g (take n xs)) w e
-  first-of (x ∷ xs) (suc n) (suc j) w a b h e =
-      leftmost-skip (g x) (map g (take n xs)) (h 0 (omega arith))
-      ∙ first-of xs n j w (omega (arith, a)) (omega (arith, b)) (λ i l. h (suc i) (omega (arith, l))) e
-
-  pub none-of : (xs : List ℕ) (n : ℕ) → n ≤ length xs → ((i : ℕ) → i < n → g (getD xs i 0) ≡ none) → leftmost (map g (take n xs)) ≡ none
-  unfolding leftmost
-  none-of [] zero a h = refl
-  none-of [] (suc n) a h = refl
-  none-of (x ∷ xs) zero a h = refl
-  none-of (x ∷ xs) (suc n) a h = leftmost-skip (g x) (map g (take n xs)) (h 0 (omega arith)) ∙ none-of xs n (omega (arith, a)) (λ i l. h (suc i) (omega (arith, l)))
-
--- the same of a test of the words that stand behind the places
-module _ (f : Word → Bool) (word : ℕ → Word) where
-  missing-places : (ps : List ℕ) → missing f (map word ps) ≡ leftmost (map (λ p. unless (f (word p)) (word p)) ps)
-  unfolding missing
-  missing-places ps = ap leftmost (map-map (λ w. unless (f w) w) word ps)
-
-  unless-passes : (p : ℕ) → f (word p) ≡ true → unless (f (word p)) (word p) ≡ none
-  unfolding unless
-  unless-passes p h = rw h
-
-  unless-fails : (p : ℕ) → f (word p) ≡ false → unless (f (word p)) (word p) ≡ some (word p)
-  unfolding unless
-  unless-fails p h = rw h
-
-  pub first-missing : (xs : List ℕ) (n j : ℕ) → n ≤ length xs → j < n → ((i : ℕ) → i < j → f (word (getD xs i 0)) ≡ true) → f (word (getD xs j 0)) ≡ false → missing f (map word (take n xs)) ≡ some (word (getD xs j 0))
-  first-missing xs n j a b h e =
-      missing-places (take n xs)
-      ∙ first-of (λ p. unless (f (word p)) (word p)) xs n j (word (getD xs j 0)) a b (λ i l. unless-passes (getD xs i 0) (h i l)) (unless-fails (getD xs j 0) e)
-
-  pub none-missing : (xs : List ℕ) (n : ℕ) → n ≤ length xs → ((i : ℕ) → i < n → f (word (getD xs i 0)) ≡ true) → missing f (map word (take n xs)) ≡ none
-  none-missing xs n a h = missing-places (take n xs) ∙ none-of (λ p. unless (f (word p)) (word p)) xs n a (λ i l. unless-passes (getD xs i 0) (h i l))
 
 -- an operator or a value of the wrong type stands in the text
 pub mistyped-near : (s : List ℕ) (k : Kind) (at v : ℕ) → at ≤ length s → some (wordOf s v) ≡ mistyped k (comparedAt s at) → v ≤ length s

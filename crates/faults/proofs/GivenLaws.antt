@@ -24,7 +24,7 @@ use Rattle.lists.proofs.Distinct.{NoTwoSame}
 use Rattle.lists.proofs.ListLaws.{count-less, count-more, count-nil, findIndex-found, holdsOf-some}
 use Rattle.lists.specs.Lists.{allOf, anyOf, countOf, holdsOf, keep, there}
 use Rattle.text.proofs.Lefts.{before-end}
-use Rattle.text.proofs.OffendingLaws.{sameWord}
+use Rattle.text.proofs.OffendingLaws.{missing-here, missing-next, missing-nil, sameWord}
 use Rattle.text.proofs.WalkingLaws.{next-within, past-within}
 use Rattle.text.specs.Names.{sameName}
 use Rattle.text.specs.Offending.{leftmost, missing, repeated, repeatedAfter, unless}
@@ -63,18 +63,6 @@ names-over s j h = ap (map (λ (g : GivenForm). g .attribute)) (givens-stop s j 
 -- ---- the first that fails a test
 
 module _ (f : Word → Bool) where
-  missing-pass : (w : Word) (ws : List Word) → f w ≡ true → missing f (w ∷ ws) ≡ missing f ws
-  unfolding missing leftmost unless
-  missing-pass w ws h = rw h
-
-  missing-fail : (w : Word) (ws : List Word) → f w ≡ false → missing f (w ∷ ws) ≡ some w
-  unfolding missing leftmost unless
-  missing-fail w ws h = rw h
-
-  missing-nil : missing f [] ≡ none
-  unfolding missing leftmost
-  missing-nil = refl
-
   all-pass : (w : Word) (ws : List Word) → f w ≡ true → allOf f (w ∷ ws) ≡ allOf f ws
   unfolding allOf
   all-pass w ws h = rw h
@@ -88,7 +76,7 @@ module _ (f : Word → Bool) where
   all-nil = refl
 
   pub missing-over : (s : List ℕ) (j : ℕ) → (getD s j 0 ≡ 32 → ⊥) → missing f (givenNames s j) ≡ none
-  missing-over s j h = ap (missing f) (names-over s j h) ∙ missing-nil
+  missing-over s j h = ap (missing f) (names-over s j h) ∙ missing-nil f
 
   pub all-over : (s : List ℕ) (j : ℕ) → (getD s j 0 ≡ 32 → ⊥) → allOf f (givenNames s j) ≡ true
   all-over s j h = ap (allOf f) (names-over s j h) ∙ all-nil
@@ -97,11 +85,11 @@ module _ (f : Word → Bool) where
     pub missing-onward : (e : ℕ) → e ≡ pairEndAt s (j + 1) → f (wordOf s a) ≡ true → missing f (givenNames s e) ≡ missing f (givenNames s j)
     missing-onward e q t =
         ap (λ n. missing f (givenNames s n)) q
-        ∙ sym (ap (missing f) (names-onward s j h) ∙ missing-pass _ (givenNames s (pairEndAt s (j + 1))) (ap (λ n. f (wordOf s n)) (sym p) ∙ t))
+        ∙ sym (ap (missing f) (names-onward s j h) ∙ missing-next f _ (givenNames s (pairEndAt s (j + 1))) (ap (λ n. f (wordOf s n)) (sym p) ∙ t))
 
-    pub missing-here : f (wordOf s a) ≡ false → missing f (givenNames s j) ≡ some (wordOf s a)
-    missing-here t =
-        ap (missing f) (names-onward s j h) ∙ missing-fail _ (givenNames s (pairEndAt s (j + 1))) (ap (λ n. f (wordOf s n)) (sym p) ∙ t)
+    pub missing-found : f (wordOf s a) ≡ false → missing f (givenNames s j) ≡ some (wordOf s a)
+    missing-found t =
+        ap (missing f) (names-onward s j h) ∙ missing-here f _ (givenNames s (pairEndAt s (j + 1))) (ap (λ n. f (wordOf s n)) (sym p) ∙ t)
         ∙ ap (λ n. some (wordOf s n)) (sym p)
 
     pub all-onward : (e : ℕ) → e ≡ pairEndAt s (j + 1) → f (wordOf s a) ≡ true → allOf f (givenNames s e) ≡ allOf f (givenNames s j)

@@ -2,10 +2,10 @@
 use Prim.Native.Nat.{_<_, _≤_, ℕ}
 use borrow.Author.Tests.{le-leb, lt-leb}
 use lib.ListN.{length}
-use mathlib.Core.Bool.{Bool, false, true}
-use mathlib.Core.List.{List, [], _∷_}
-use mathlib.Core.Option.{none, some}
-use mathlib.Core.Path.{_≡_, refl}
+use mathlib.Core.Bool.{false}
+use mathlib.Core.List.{List}
+use mathlib.Core.Option.{none}
+use mathlib.Core.Path.{_∙_, _≡_, refl}
 use native.Mathlib.Omega.{arith}
 use Rattle.document.specs.Bounds.{lateAttr, overBound, secondRoot}
 use Rattle.document.specs.Lookup.{condRoleOf, purposeOf}
@@ -24,22 +24,9 @@ use Rattle.index.specs.declared.found.Found.{Found}
 use Rattle.index.specs.declared.found.Found.the-variants.{At, Nothing}
 use Rattle.lists.specs.Lists.{findIndex}
 use Rattle.purpose.specs.Members.{limit}
-use Rattle.text.specs.Offending.{leftmost, unless}
-use Rattle.text.specs.Words.{Word, isCalled, wordOf}
+use Rattle.text.proofs.OffendingLaws.{leftmost-fail, leftmost-on, unless-false, unless-true}
+use Rattle.text.specs.Words.{isCalled, wordOf}
 use Rattle.text.specs.declared.refusals.Reason.the-variants.{NameUnknown, OverBound}
-
--- the first of two names that is not known
-first-unknown : (b c : Bool) (v w : Word) → b ≡ false → leftmost (unless b v ∷ unless c w ∷ []) ≡ some v
-unfolding leftmost unless
-first-unknown b c v w e = rw e
-
-second-unknown : (b c : Bool) (v w : Word) → b ≡ true → c ≡ false → leftmost (unless b v ∷ unless c w ∷ []) ≡ some w
-unfolding leftmost unless
-second-unknown b c v w e f = rw (e, f)
-
-both-known : (b c : Bool) (v w : Word) → b ≡ true → c ≡ true → leftmost (unless b v ∷ unless c w ∷ []) ≡ none
-unfolding leftmost unless
-both-known b c v w e f = rw (e, f)
 
 module _ (text ws : List ℕ) (m : ℕ) (conds : List ℕ) (cn k : ℕ) (line : List ℕ) (p c : ℕ) where
   abbrev Held : Doc → Type 0
@@ -70,7 +57,7 @@ module _ (text ws : List ℕ) (m : ℕ) (conds : List ℕ) (cn k : ℕ) (line : 
     unfolding unknown purposeOf condRoleOf
     grant-purpose e =
         says-unknown Held Placed′ line (grant (wordOf line p) (wordOf line c)) k 128 roomy untaken p (λ q. q .0)
-        (λ d h. first-unknown _ _ (wordOf line p) (wordOf line c) (found-absent x _ (is (d .policy .purposes) (h .0)) e))
+        (λ d h. leftmost-fail _ (wordOf line p) _ (found-absent x _ (is (d .policy .purposes) (h .0)) e))
 
     module _ (n : ℕ) (e : x ≡ At n)
         (y : Found) (is′ : (d : Policy) (cs : List CondRole) → CondRoles d text conds cn cs → foundAs y ≡ findIndex (λ z. isCalled (wordOf line c) (z .name)) cs) where
@@ -78,11 +65,11 @@ module _ (text ws : List ℕ) (m : ℕ) (conds : List ℕ) (cn k : ℕ) (line : 
       unfolding unknown purposeOf condRoleOf
       grant-cond e′ =
           says-unknown Held Placed′ line (grant (wordOf line p) (wordOf line c)) k 128 roomy untaken c (λ q. q .1)
-          (λ d h. second-unknown _ _ (wordOf line p) (wordOf line c) (found-there x _ (is (d .policy .purposes) (h .0)) n e) (found-absent y _ (is′ (d .policy) (d .policy .condRoles) (h .1)) e′))
+          (λ d h. leftmost-on _ (wordOf line p) _ (found-there x _ (is (d .policy .purposes) (h .0)) n e) ∙ unless-false _ (wordOf line c) (found-absent y _ (is′ (d .policy) (d .policy .condRoles) (h .1)) e′))
 
       pub grant-fine : (j : ℕ) → y ≡ At j → Says Fine
       unfolding unknown purposeOf condRoleOf lateAttr secondRoot misfit wrongType
       grant-fine j e′ =
           says-fine Held Placed′ line (grant (wordOf line p) (wordOf line c)) k 128 roomy untaken
-          (λ d h. both-known _ _ (wordOf line p) (wordOf line c) (found-there x _ (is (d .policy .purposes) (h .0)) n e) (found-there y _ (is′ (d .policy) (d .policy .condRoles) (h .1)) j e′))
+          (λ d h. leftmost-on _ (wordOf line p) _ (found-there x _ (is (d .policy .purposes) (h .0)) n e) ∙ unless-true _ (wordOf line c) (found-there y _ (is′ (d .policy) (d .policy .condRoles) (h .1)) j e′))
           (λ d h. refl) (λ d h. refl) (λ d h. refl) l (λ d h. refl)

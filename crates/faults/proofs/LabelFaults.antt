@@ -3,8 +3,8 @@ use Prim.Native.Nat.{_<_, _≤_, ℕ}
 use borrow.Author.Tests.{le-leb, lt-leb}
 use lib.ListN.{getD, length, length-map}
 use mathlib.Core.Bool.{false}
-use mathlib.Core.List.{List, [], _++_, _∷_}
-use mathlib.Core.Option.{Option, none, some}
+use mathlib.Core.List.{List, _++_}
+use mathlib.Core.Option.{none}
 use mathlib.Core.Path.{_∙_, _≡_, ap, refl, sym}
 use native.Mathlib.Omega.{arith}
 use Rattle.document.specs.Bounds.{lateAttr, overBound, secondRoot}
@@ -14,7 +14,6 @@ use Rattle.document.specs.Policy.{Doc, Label, Node}
 use Rattle.document.specs.TypeFaults.{wrongType}
 use Rattle.document.specs.ValueFaults.{misfit}
 use Rattle.faults.proofs.FoundLaws.{found-absent, found-there}
-use Rattle.faults.proofs.NameWalks.{missing-first, missing-second}
 use Rattle.faults.proofs.NodeFaults.{isNode}
 use Rattle.faults.proofs.Outcomes.{says-bound, says-fine, says-taken, says-unknown}
 use Rattle.faults.proofs.PlaceLaws.{place-near, place-none, place-word}
@@ -30,30 +29,14 @@ use Rattle.index.specs.declared.found.Found.{Found}
 use Rattle.index.specs.declared.found.Found.the-variants.{At, Nothing}
 use Rattle.lists.specs.Lists.{findIndex, there}
 use Rattle.purpose.specs.Members.{limit}
-use Rattle.text.specs.Offending.{leftmost, missing, offendingIf, repeated}
-use Rattle.text.specs.Words.{Word, isCalled, wordAt, wordOf}
+use Rattle.text.proofs.OffendingLaws.{leftmost-first, leftmost-only, leftmost-skip, missing-first, missing-second}
+use Rattle.text.specs.Offending.{missing, offendingIf, repeated}
+use Rattle.text.specs.Words.{isCalled, wordAt, wordOf}
 use Rattle.text.specs.declared.refusals.Reason.the-variants.{NameTaken, NameUnknown, OverBound}
 
 labels-length : {text ws sets : List ℕ} {k : ℕ} {ls : List Label} → Labels text ws sets k ls → length ls ≡ k
 labels-length {text} {ws} {k = k} {ls} h =
     sym (length-map ls (λ l. l .name)) ∙ ap length (sym (h .named)) ∙ length-listed (λ i. wordAt text (getD ws i 0)) k
-
--- the first of three that there is
-left-1 : (a b c : Option Word) (w : Word) → a ≡ some w → leftmost (a ∷ b ∷ c ∷ []) ≡ some w
-unfolding leftmost
-left-1 a b c w e = rw e
-
-left-2 : (a b c : Option Word) (w : Word) → a ≡ none → b ≡ some w → leftmost (a ∷ b ∷ c ∷ []) ≡ some w
-unfolding leftmost
-left-2 a b c w e f = rw (e, f)
-
-left-3 : (a b c : Option Word) (w : Word) → a ≡ none → b ≡ none → c ≡ some w → leftmost (a ∷ b ∷ c ∷ []) ≡ some w
-unfolding leftmost
-left-3 a b c w e f g = rw (e, f, g)
-
-left-0 : (a b c : Option Word) → a ≡ none → b ≡ none → c ≡ none → leftmost (a ∷ b ∷ c ∷ []) ≡ none
-unfolding leftmost
-left-0 a b c e f g = rw (e, f, g)
 
 module _ (text ws : List ℕ) (m : ℕ) (labels : List ℕ) (k : ℕ) (line : List ℕ) (l a x : ℕ) where
   abbrev Held : Doc → Type 0
@@ -81,7 +64,7 @@ module _ (text ws : List ℕ) (m : ℕ) (labels : List ℕ) (k : ℕ) (line : Li
     unfolding taken labelOf offendingIf
     label-taken n e =
         says-taken Held (l ≤ length line) line form′ k 64 roomy l (λ p. p)
-        (λ d h. left-1 _ _ _ (wordOf line l) (ap (λ b. offendingIf b (wordOf line l)) (found-there f _ (is (h .1 .0) (d .policy .labels) (h .1 .1)) n e)))
+        (λ d h. leftmost-first _ _ (wordOf line l) (ap (λ b. offendingIf b (wordOf line l)) (found-there f _ (is (h .1 .0) (d .policy .labels) (h .1 .1)) n e)))
 
     module _ (e : f ≡ Nothing) (f2 : Found) (is2 : (wordFound line f2 ≡ repeated (namesAt line a)) × Near line f2) where
       fresh : (d : Doc) → Held d → offendingIf (there (labelOf (d .policy) (wordOf line l))) (wordOf line l) ≡ none
@@ -92,20 +75,20 @@ module _ (text ws : List ℕ) (m : ℕ) (labels : List ℕ) (k : ℕ) (line : Li
       unfolding taken
       allowed-twice v e2 =
           says-taken Held (l ≤ length line) line form′ k 64 roomy v (λ p. place-near line f2 (is2 .1) v e2)
-          (λ d h. left-2 _ _ _ (wordOf line v) (fresh d h) (place-word line f2 _ (is2 .0) v e2))
+          (λ d h. leftmost-skip _ _ (fresh d h) ∙ leftmost-first _ _ (wordOf line v) (place-word line f2 _ (is2 .0) v e2))
 
       module _ (e2 : f2 ≡ Nothing) (f3 : Found) (is3 : (wordFound line f3 ≡ repeated (namesAt line x)) × Near line f3) where
         pub denied-twice : (v : ℕ) → f3 ≡ At v → Says (Item NameTaken v)
         unfolding taken
         denied-twice v e3 =
             says-taken Held (l ≤ length line) line form′ k 64 roomy v (λ p. place-near line f3 (is3 .1) v e3)
-            (λ d h. left-3 _ _ _ (wordOf line v) (fresh d h) (place-none line f2 _ (is2 .0) e2) (place-word line f3 _ (is3 .0) v e3))
+            (λ d h. leftmost-skip _ _ (fresh d h) ∙ leftmost-skip _ _ (place-none line f2 _ (is2 .0) e2) ∙ leftmost-first _ _ (wordOf line v) (place-word line f3 _ (is3 .0) v e3))
 
         module _ (e3 : f3 ≡ Nothing) (f4 : Found)
             (is4 : ((ns : List Node) → Nodes limit text ws m ns → wordFound line f4 ≡ missing (isNode ns) (namesAt line a)) × Near line f4) where
           untaken : (d : Doc) → Held d → taken (d .policy) form′ ≡ none
           unfolding taken
-          untaken d h = left-0 _ _ _ (fresh d h) (place-none line f2 _ (is2 .0) e2) (place-none line f3 _ (is3 .0) e3)
+          untaken d h = leftmost-skip _ _ (fresh d h) ∙ leftmost-skip _ _ (place-none line f2 _ (is2 .0) e2) ∙ leftmost-only _ ∙ place-none line f3 _ (is3 .0) e3
 
           pub allowed-unknown : (v : ℕ) → f4 ≡ At v → Says (Item NameUnknown v)
           unfolding unknown purposeOf

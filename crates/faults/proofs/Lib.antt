@@ -10,7 +10,6 @@ pub mod GrantFaults
 pub mod NameWalks
 pub mod PlaceLaws
 pub mod LabelFaults
-pub mod LeftmostLaws
 pub mod TableLineLaws
 pub mod CondLineLaws
 pub mod RowAccepted

@@ -2,59 +2,31 @@
 use Prim.Native.Nat.{_+_, _-_, _<_, _≤_, suc, zero, ℕ}
 use lib.ListN.{drop, getD, length, take}
 use mathlib.Core.Bool.{Bool, _||_, false, true}
-use mathlib.Core.List.{List, [], _++_, _∷_, cons-ne-nil, head-eq-of-cons-eq, tail-eq-of-cons-eq}
-use mathlib.Core.Option.{Option·none-ne-some, Option·some-ne-none, none, some}
+use mathlib.Core.List.{List, [], _∷_, cons-ne-nil, head-eq-of-cons-eq, tail-eq-of-cons-eq}
+use mathlib.Core.Option.{none, some}
 use mathlib.Core.Path.{_∙_, _≡_, ap, refl, subst, sym}
 use native.Mathlib.Numerals.{add-one}
 use native.Mathlib.Omega.{arith}
 use Rattle.form.proofs.WalkSteps.{names-more, names-stop, word-after}
 use Rattle.form.specs.Walks.{namesAt}
 use Rattle.lists.specs.Lists.{anyOf}
-use Rattle.text.specs.Offending.{leftmost, missing, repeated, repeatedAfter, unless}
+use Rattle.text.proofs.OffendingLaws.{missing-here, missing-next, missing-nil}
+use Rattle.text.specs.Offending.{missing, repeated, repeatedAfter}
 use Rattle.text.specs.Walking.{wordEndAt}
 use Rattle.text.specs.Words.{Word, isCalled, wordAt, wordOf}
 
 -- ---- the first word that fails a test
 
 module _ (f : Word → Bool) where
-  pub missing-nil : missing f [] ≡ none
-  unfolding missing leftmost
-  missing-nil = refl
-
-  pub missing-here : (w : Word) (ws : List Word) → f w ≡ false → missing f (w ∷ ws) ≡ some w
-  unfolding missing leftmost unless
-  missing-here w ws h = rw h
-
-  pub missing-next : (w : Word) (ws : List Word) → f w ≡ true → missing f (w ∷ ws) ≡ missing f ws
-  unfolding missing leftmost unless
-  missing-next w ws h = rw h
-
-  -- of two lists: the first's, or else the second's
-  pub missing-first : (v : Word) (ws us : List Word) → missing f ws ≡ some v → missing f (ws ++ us) ≡ some v
-  missing-first v [] us h = absurd (Option·none-ne-some _ (sym missing-nil ∙ h))
-  missing-first v (w ∷ ws) us h = go (f w) refl (missing-first v ws us)
-    where
-      go : (b : Bool) → f w ≡ b → (missing f ws ≡ some v → missing f (ws ++ us) ≡ some v) → missing f (w ∷ ws ++ us) ≡ some v
-      go true e ih = missing-next w (ws ++ us) e ∙ ih (sym (missing-next w ws e) ∙ h)
-      go false e ih = missing-here w (ws ++ us) e ∙ sym (missing-here w ws e) ∙ h
-
-  pub missing-second : (ws us : List Word) → missing f ws ≡ none → missing f (ws ++ us) ≡ missing f us
-  missing-second [] us h = refl
-  missing-second (w ∷ ws) us h = go (f w) refl (missing-second ws us)
-    where
-      go : (b : Bool) → f w ≡ b → (missing f ws ≡ none → missing f (ws ++ us) ≡ missing f us) → missing f (w ∷ ws ++ us) ≡ missing f us
-      go true e ih = missing-next w (ws ++ us) e ∙ ih (sym (missing-next w ws e) ∙ h)
-      go false e ih = absurd (Option·some-ne-none _ (sym (missing-here w ws e) ∙ h))
-
   module _ (line : List ℕ) (j : ℕ) where
     pub unknown-stop : (getD line j 0 ≡ 32 → ⊥) → missing f (namesAt line j) ≡ none
-    unknown-stop h = ap (missing f) (names-stop line j h) ∙ missing-nil
+    unknown-stop h = ap (missing f) (names-stop line j h) ∙ missing-nil f
 
     pub unknown-here : getD line j 0 ≡ 32 → f (wordOf line (j + 1)) ≡ false → missing f (namesAt line j) ≡ some (wordOf line (j + 1))
-    unknown-here h e = ap (missing f) (names-more line j h) ∙ missing-here (wordOf line (j + 1)) (namesAt line (wordEndAt line (j + 1))) e
+    unknown-here h e = ap (missing f) (names-more line j h) ∙ missing-here f (wordOf line (j + 1)) (namesAt line (wordEndAt line (j + 1))) e
 
     unknown-next : getD line j 0 ≡ 32 → f (wordOf line (j + 1)) ≡ true → missing f (namesAt line j) ≡ missing f (namesAt line (wordEndAt line (j + 1)))
-    unknown-next h e = ap (missing f) (names-more line j h) ∙ missing-next (wordOf line (j + 1)) (namesAt line (wordEndAt line (j + 1))) e
+    unknown-next h e = ap (missing f) (names-more line j h) ∙ missing-next f (wordOf line (j + 1)) (namesAt line (wordEndAt line (j + 1))) e
 
     pub unknown-on : (e : ℕ) → e ≡ j + 1 + length (wordAt line (j + 1)) → getD line j 0 ≡ 32 → f (wordOf line (j + 1)) ≡ true → missing f (namesAt line e) ≡ missing f (namesAt line j)
     unfolding wordEndAt

@@ -4,7 +4,7 @@ use borrow.Author.Tests.{le-leb, le-ltb, lt-leb, lt-ltb}
 use lib.Dec.{leb}
 use lib.ListN.{length}
 use mathlib.Core.Bool.{Bool, false, true}
-use mathlib.Core.List.{List}
+use mathlib.Core.List.{List, []}
 use mathlib.Core.Option.{Option, none, some}
 use mathlib.Core.Path.{_∙_, _≡_, ap, refl}
 use native.Mathlib.Omega.{arith}
@@ -22,7 +22,8 @@ use Rattle.index.proofs.IndexLaws.{nodes-length}
 use Rattle.index.specs.Index.{Nodes, foundAs}
 use Rattle.lists.specs.Lists.{findIndex, listed, there}
 use Rattle.purpose.specs.Members.{limit}
-use Rattle.text.specs.Offending.{leftmost, missing, offendingIf, unless}
+use Rattle.text.proofs.OffendingLaws.{missing-here, missing-next, missing-nil}
+use Rattle.text.specs.Offending.{missing, offendingIf}
 use Rattle.text.specs.Words.{Word, isCalled, wordOf}
 use Rattle.faults.specs.declared.fault.Fault.{Fault}
 use Rattle.faults.specs.declared.fault.Fault.the-variants.{Fine, Item, Whole}
@@ -69,16 +70,16 @@ role-kind = record {
 }
 
 one-known : (ns : List Node) (w : Word) → isNode ns w ≡ true → missing (isNode ns) (listed (some w)) ≡ none
-unfolding missing listed unless leftmost
-one-known ns w h = rw h
+unfolding listed
+one-known ns w h = missing-next (isNode ns) w [] h ∙ missing-nil (isNode ns)
 
 one-unknown : (ns : List Node) (w : Word) → isNode ns w ≡ false → missing (isNode ns) (listed (some w)) ≡ some w
-unfolding missing listed unless leftmost
-one-unknown ns w h = rw h
+unfolding listed
+one-unknown ns w h = missing-here (isNode ns) w [] h
 
 pub no-name : (ns : List Node) → missing (isNode ns) (listed none) ≡ none
-unfolding missing listed leftmost
-no-name ns = refl
+unfolding listed
+no-name ns = missing-nil (isNode ns)
 
 module _ (nodes : Policy → List Node) (form : Word → Option Word → Form) (room : ℕ) (kind : Kind nodes form room)
     (text ws : List ℕ) (k : ℕ) (line : List ℕ) (n : ℕ) where

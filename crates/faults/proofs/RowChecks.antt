@@ -8,60 +8,41 @@ use mathlib.Core.Option.{Option, Option·none-ne-some, Option·some-injective, n
 use mathlib.Core.Path.{_∙_, _≡_, ap, refl, subst, sym}
 use native.Mathlib.Numerals.{add-one}
 use Rattle.condition.specs.Kinds.{hasKind}
+use Rattle.document.proofs.RowItems.{item-bracket, item-plain}
 use Rattle.document.specs.Lookup.{columnsAt}
 use Rattle.document.specs.NameFaults.{bracketLabels}
 use Rattle.document.specs.Policy.{Column, Policy}
 use Rattle.document.specs.TypeFaults.{mistypedValue}
-use Rattle.faults.proofs.RowItems.{item-bracket, item-plain, values-more, values-stop}
+use Rattle.faults.proofs.RowItems.{values-more, values-stop}
 use Rattle.faults.specs.RowWords.{labelAt, valueAt, valuesAt}
 use Rattle.form.proofs.WalkSteps.{items-more, items-stop}
 use Rattle.form.specs.Form.{Item, labelled, plain}
 use Rattle.form.specs.Walks.{firstIn, itemAt, itemEndAt, itemsAt, secondIn}
 use Rattle.index.proofs.TableLaws.{column-at, column-inside, table-inside, width-read}
 use Rattle.index.specs.Index.{Cut, Tables, columnIn, kindOfCell, kindSaid}
+use Rattle.text.proofs.OffendingLaws.{leftmost-fail, leftmost-on, leftmost-only, missing-nil}
 use Rattle.text.specs.Offending.{leftmost, missing, unless}
 use Rattle.text.specs.Walking.{past}
 use Rattle.text.specs.Words.{Word, wordAt, wordOf}
-
--- ---- the first of two
-
-pub leftmost-one : (o : Option Word) → leftmost (o ∷ []) ≡ o
-unfolding leftmost
-leftmost-one none = refl
-leftmost-one (some w) = refl
-
-pub leftmost-on : (b : Bool) (w : Word) (o : Option Word) → b ≡ true → leftmost (unless b w ∷ o ∷ []) ≡ o
-unfolding leftmost unless
-leftmost-on true w o e = leftmost-one o
-leftmost-on false w o e = absurd (Option·none-ne-some w (ap (λ t. unless t w) (sym e)))
-
-pub leftmost-here : (b : Bool) (w : Word) (o : Option Word) → b ≡ false → leftmost (unless b w ∷ o ∷ []) ≡ some w
-unfolding leftmost unless
-leftmost-here false w o e = refl
-leftmost-here true w o e = absurd (Option·none-ne-some w (ap (λ t. unless t w) e))
 
 -- ---- labels that are not known
 
 module _ (f : Word → Bool) where
   pub one-missing : (w : Word) (b : Bool) → f w ≡ b → missing f (w ∷ []) ≡ unless b w
   unfolding missing
-  one-missing w b e = leftmost-one (unless (f w) w) ∙ ap (λ t. unless t w) e
-
-  pub none-missing : missing f [] ≡ none
-  unfolding missing leftmost
-  none-missing = refl
+  one-missing w b e = leftmost-only (unless (f w) w) ∙ ap (λ t. unless t w) e
 
   first-missing : (w : Word) (ws : List Word) → missing f (w ∷ ws) ≡ leftmost (missing f (w ∷ []) ∷ missing f ws ∷ [])
   unfolding missing leftmost
   first-missing w ws = go (unless (f w) w)
     where
       go : (o : Option Word) → leftmost (o ∷ map (λ v. unless (f v) v) ws) ≡ leftmost (leftmost (o ∷ []) ∷ leftmost (map (λ v. unless (f v) v) ws) ∷ [])
-      go none = sym (leftmost-one (leftmost (map (λ v. unless (f v) v) ws)))
+      go none = sym (leftmost-only (leftmost (map (λ v. unless (f v) v) ws)))
       go (some v) = refl
 
   labels-first : (i : Item) (is : List Item) → missing f (bracketLabels (i ∷ is)) ≡ leftmost (missing f (bracketLabels (i ∷ [])) ∷ missing f (bracketLabels is) ∷ [])
   unfolding bracketLabels unless missing
-  labels-first (plain w) is = sym (ap (λ o. leftmost (o ∷ missing f (bracketLabels is) ∷ [])) none-missing ∙ leftmost-on true w (missing f (bracketLabels is)) refl)
+  labels-first (plain w) is = sym (ap (λ o. leftmost (o ∷ missing f (bracketLabels is) ∷ [])) (missing-nil f) ∙ leftmost-on true w (missing f (bracketLabels is)) refl)
   labels-first (labelled v l) is = first-missing l (bracketLabels is)
 
   module _ (s : List ℕ) (at : ℕ) where
@@ -85,11 +66,11 @@ module _ (f : Word → Bool) where
     labels-on t = labels-step ∙ leftmost-on b (labelAt s (i + 1)) (missing f (bracketLabels (itemsAt s (itemEndAt s (i + 1))))) t
 
     pub labels-here : b ≡ false → missing f (bracketLabels (itemsAt s i)) ≡ some (labelAt s (i + 1))
-    labels-here t = labels-step ∙ leftmost-here b (labelAt s (i + 1)) (missing f (bracketLabels (itemsAt s (itemEndAt s (i + 1))))) t
+    labels-here t = labels-step ∙ leftmost-fail b (labelAt s (i + 1)) _ t
 
   pub labels-done : (s : List ℕ) (i : ℕ) → (getD s i 0 ≡ 32 → ⊥) → missing f (bracketLabels (itemsAt s i)) ≡ none
   unfolding bracketLabels
-  labels-done s i h = ap (λ is. missing f (bracketLabels is)) (items-stop s i h) ∙ none-missing
+  labels-done s i h = ap (λ is. missing f (bracketLabels is)) (items-stop s i h) ∙ missing-nil f
 
 -- ---- values of the wrong type
 
@@ -139,4 +120,4 @@ module _ (text ws : List ℕ) (k t : ℕ) (d : Policy) (h : Tables text ws k (d 
   types-on x = types-step ∙ leftmost-on b (wordOf s v) (mistypedValue (drop (c + 1) (columnsAt d t)) (valuesAt s (itemEndAt s (i + 1)))) x
 
   pub types-here : b ≡ false → mistypedValue (drop c (columnsAt d t)) (valuesAt s i) ≡ some (wordOf s v)
-  types-here x = types-step ∙ leftmost-here b (wordOf s v) (mistypedValue (drop (c + 1) (columnsAt d t)) (valuesAt s (itemEndAt s (i + 1)))) x
+  types-here x = types-step ∙ leftmost-fail b (wordOf s v) _ x

@@ -17,7 +17,6 @@ use Rattle.document.specs.Policy.{Doc}
 use Rattle.document.specs.TypeFaults.{mistypedValue, wrongType}
 use Rattle.document.specs.ValueFaults.{misfit, rowValues}
 use Rattle.faults.proofs.Judging.{judge-bound, judge-fine, judge-type, judge-unknown, judge-values}
-use Rattle.faults.proofs.RowChecks.{leftmost-here, leftmost-on}
 use Rattle.faults.proofs.RowItems.{width-fits}
 use Rattle.faults.specs.Places.{Near, wordFound}
 use Rattle.faults.specs.RowWords.{valuesAt}
@@ -30,6 +29,7 @@ use Rattle.index.specs.declared.found.Found.the-variants as found
 use Rattle.index.specs.declared.tables.SchemeCode.{SchemeCode}
 use Rattle.lists.proofs.ListLaws.{holdsOf-some}
 use Rattle.lists.specs.Lists.{known, there}
+use Rattle.text.proofs.OffendingLaws.{leftmost-fail, leftmost-on}
 use Rattle.text.specs.Offending.{leftmost, missing, unless}
 use Rattle.text.specs.Refusal.{accepted, document, pointing, pointingAll, refused}
 use Rattle.text.specs.Words.{Word, wordOf}
@@ -61,7 +61,7 @@ module _ (d : Doc) (line : List ℕ) (w : Word) (is : List Item) (k : ℕ) (coun
     row-no-table e = judge-unknown d line (row w is) row-room row-new w (none-there (missing (λ v. there (labelOf (d .policy) v)) (rowLabels (schemeOf (d .policy) w) is)))
       where
         none-there : (o : Option Word) → leftmost (unless (there (tableOf (d .policy) w)) w ∷ o ∷ []) ≡ some w
-        none-there o = leftmost-here (there (tableOf (d .policy) w)) w o (ap there e)
+        none-there o = leftmost-fail (there (tableOf (d .policy) w)) w (o ∷ []) (ap there e)
 
     -- the table is known
     module _ (x : ℕ) (e : tableOf (d .policy) w ≡ some x) (scheme : Scheme ℕ) (s : schemeAt (d .policy) x ≡ scheme) where

@@ -16,18 +16,19 @@ use Rattle.document.specs.NameFaults.{taken, unknown}
 use Rattle.document.specs.Policy.{Doc}
 use Rattle.document.specs.TypeFaults.{wrongType}
 use Rattle.document.specs.ValueFaults.{misfit}
-use Rattle.faults.proofs.LeftmostLaws.{leftmost-only, missing-here, missing-next}
-use Rattle.faults.specs.TableLine.{bracketEndBy, columnWords, columnsBy, schemeWords, tripled}
+use Rattle.faults.specs.TableLine.{bracketEndBy, columnsBy, tripled}
 use Rattle.form.proofs.WalkSteps.{column-labels-more, column-labels-stop, columns-more, columns-stop, labelled-columns-more, labelled-columns-stop, pair-after, pair-inside, triple-after, triple-inside}
 use Rattle.form.specs.Form.{ColumnForm, Form, schemeLabels, table}
 use Rattle.form.specs.Walks.{columnAt, columnLabelAt, columnLabelsAt, firstIn, secondIn, thirdIn, tripleEndAt}
 use Rattle.lists.proofs.Tests.{or-right}
 use Rattle.lists.specs.Lists.{anyOf, findIndex, there}
+use Rattle.text.proofs.OffendingLaws.{leftmost-only, missing-here, missing-next, missing-nil}
 use Rattle.text.proofs.WalkingLaws.{next-within, past-within}
 use Rattle.text.specs.Offending.{leftmost, missing, offendingIf, repeated, repeatedAfter}
 use Rattle.text.specs.Words.{Word, isCalled, wordOf}
 use Rattle.text.specs.declared.refusals.Reason.{Reason}
 use Rattle.faults.specs.declared.fault.Fault.the-variants.{Fine, Item, Whole}
+use Rattle.index.specs.TableWords.{columnWords, schemeWords}
 use Rattle.index.specs.declared.tables.SchemeCode.{SchemeCode}
 use Rattle.index.specs.declared.tables.SchemeCode.the-variants as code
 
@@ -173,8 +174,7 @@ passing-end p = p .same
 
 module _ (s : List ℕ) (at : ℕ) (f : Word → Bool) where
   pub labels-stop : (getD s at 0 ≡ 32 → ⊥) → missing f (columnLabelsAt s at) ≡ none
-  unfolding missing leftmost
-  labels-stop h = ap (missing f) (column-labels-stop s at h)
+  labels-stop h = ap (missing f) (column-labels-stop s at h) ∙ missing-nil f
 
   module _ (h : getD s at 0 ≡ 32) (v : ℕ) (e : v ≡ thirdIn s (at + 1)) where
     labels-more : missing f (columnLabelsAt s at) ≡ missing f (wordOf s v ∷ columnLabelsAt s (bracketEndBy true s (at + 1)))

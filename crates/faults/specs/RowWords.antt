@@ -20,10 +20,6 @@ valuesAt s at = listAt valueAt itemEndAt s at
 unfoldable pub labelAt : List ℕ → ℕ → Word
 labelAt s at = wordOf s (secondIn s at)
 
--- the labels of the brackets from a position on, if all items are brackets
-unfoldable pub labelsAt : List ℕ → ℕ → List Word
-labelsAt s at = listAt labelAt itemEndAt s at
-
 -- the values of items that are all brackets (true), or all without one (false)
 unfoldable pub shapedValues : Bool → List Item → Option (List Word)
 shapedValues true is = bracketValues is

@@ -6,29 +6,14 @@ use mathlib.Core.List.{List}
 use mathlib.Core.Path.{_≡_}
 use Rattle.document.specs.Policy.{Doc}
 use Rattle.faults.specs.Judged.{Judges}
-use Rattle.form.specs.Form.{ColumnForm, Scheme, byCell, byColumn, byRow, byTable, table, unlabelled}
-use Rattle.form.specs.Walks.{columnLabelsAt, columnsAt, labelledColumnsAt, pairEndAt, tripleEndAt}
-use Rattle.text.specs.Words.{Word, wordOf}
+use Rattle.form.specs.Form.{ColumnForm, table}
+use Rattle.form.specs.Walks.{columnsAt, labelledColumnsAt, pairEndAt, tripleEndAt}
+use Rattle.index.specs.TableWords.{columnWords, schemeWords}
+use Rattle.text.specs.Words.{wordOf}
 use Rattle.faults.specs.declared.fault.Fault.{Fault}
 use Rattle.faults.specs.declared.fault.Fault.the-variants.{Fine}
 use Rattle.index.specs.declared.tables.SchemeCode.{SchemeCode}
 use Rattle.index.specs.declared.tables.SchemeCode.the-variants as code
-
--- the scheme with the words of its labels: the table's stands at l, the columns begin at cs
-unfoldable pub schemeWords : List ℕ → SchemeCode → ℕ → ℕ → Scheme Word
-schemeWords line code.Unlabelled l cs = unlabelled
-schemeWords line code.ByTable l cs = byTable (wordOf line l)
-schemeWords line code.ByColumn l cs = byColumn (columnLabelsAt line cs)
-schemeWords line code.ByRow l cs = byRow
-schemeWords line code.ByCell l cs = byCell
-
--- the columns that begin at cs
-unfoldable pub columnWords : List ℕ → SchemeCode → ℕ → List ColumnForm
-columnWords line code.Unlabelled cs = columnsAt line cs
-columnWords line code.ByTable cs = columnsAt line cs
-columnWords line code.ByColumn cs = labelledColumnsAt line cs
-columnWords line code.ByRow cs = columnsAt line cs
-columnWords line code.ByCell cs = columnsAt line cs
 
 -- whether each column has its label, so that its bracket holds three words and not two
 abbrev pub tripled : SchemeCode → Bool

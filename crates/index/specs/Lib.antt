@@ -1,3 +1,4 @@
 -- How the lent workspace of the checker holds a document. Assumes nothing.
 pub mod Listed
 pub mod Index
+pub mod TableWords

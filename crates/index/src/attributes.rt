@@ -4,6 +4,7 @@ use crate::found::Found;
 use crate::found::find_name;
 use crate::layout::ATTRIBUTE_CELLS;
 use crate::layout::ATTRIBUTES;
+use crate::store::kind_cell;
 use text::words::is_word;
 ghost use Prim.Native.Nat.{_+_, _<_, ℕ};
 ghost use lib.ListN.{getElem?, length};
@@ -11,7 +12,7 @@ ghost use mathlib.Core.List.{List, [], _++_, _∷_};
 ghost use mathlib.Core.Option.{some};
 ghost use mathlib.Core.Path.{_≡_};
 ghost use Rattle.document.specs.Policy.{Attribute};
-ghost use Rattle.index.specs.Index.{Attributes, FoundBelow, foundAs, kindOfCell, kindSaid};
+ghost use Rattle.index.specs.Index.{Attributes, FoundBelow, foundAs, kindSaid};
 ghost use Rattle.lists.specs.Lists.{findIndex};
 ghost use Rattle.text.specs.Words.{isCalled, wordAt, wordOf};
 
@@ -77,19 +78,12 @@ pub fn attribute_role(ws: &[usize; ATTRIBUTE_CELLS], k: usize, n: usize) -> Foun
     Found::At(ws[ROLE_AT + j])
 }
 
-// A type as a number.
-fn cell_of(named: bool) -> usize
-    ensures { λ r. ⌜ kindOfCell r ≡ kindSaid named ⌝ }
-{
-    if named { 1 } else { 0 }
-}
-
 // One attribute more, where there is room.
 fn store_attribute(ws: &mut [usize], k: usize, pos: usize, role: usize, named: bool)
     requires { ⌜ (k < 32) × (64 + k < length (now ws)) ⌝ }
     ensures { λ r. ⌜ ((text : List ℕ) (xs : List Attribute) → Attributes text (now (ws .entry)) k xs → Attributes text (now (ws .exit)) (k + 1) (xs ++ (record { name = wordAt text pos; role = some role; kind = kindSaid named } ∷ []))) ⌝ }
 {
-    let cell = cell_of(named);
+    let cell = kind_cell(named);
     ws[k] = pos;
     ws[ROLE_AT + k] = role;
     ws[KIND_AT + k] = cell;

@@ -11,6 +11,7 @@ use crate::layout::TABLE_LABELS;
 use crate::layout::TABLE_SCHEMES;
 use crate::layout::TABLE_WIDTHS;
 use crate::layout::TABLES;
+use crate::store::kind_cell;
 ghost use Prim.Native.Nat.{_*_, _+_, _<_, ℕ};
 ghost use lib.ListN.{getD};
 ghost use mathlib.Core.List.{List, _++_, _∷_, []};
@@ -42,13 +43,6 @@ fn scheme_cell(s: SchemeCode) -> usize
         SchemeCode::ByRow => 3,
         SchemeCode::ByCell => 4,
     }
-}
-
-// The number of a type.
-fn kind_cell(named: bool) -> usize
-    ensures { λ r. ⌜ kindOfCell r ≡ kindSaid named ⌝ }
-{
-    if named { 1 } else { 0 }
 }
 
 // Stores column c of table t: the position of its name, whether its type is names, and its label.

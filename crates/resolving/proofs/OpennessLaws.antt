@@ -16,7 +16,8 @@ use Rattle.index.specs.Listed.{listed}
 use Rattle.index.specs.declared.tables.SchemeCode.{SchemeCode}
 use Rattle.lists.specs.Lists.{holdsOf, known}
 use Rattle.query.specs.Naming.{wordsAt}
-use Rattle.resolving.proofs.FirstOffending.{first-missing, mapped-at, none-missing}
+use Rattle.resolving.proofs.TakenLaws.{mapped-at}
+use Rattle.text.proofs.FirstOffending.{first-missing, none-missing}
 use Rattle.text.specs.Offending.{missing}
 use Rattle.text.specs.Words.{Word, wordOf}
 

@@ -13,8 +13,8 @@ use Rattle.document.specs.Policy.{Column}
 use Rattle.lists.proofs.ListLaws.{map-append}
 use Rattle.lists.specs.Lists.{known, there}
 use Rattle.query.specs.Naming.{wordsAt}
-use Rattle.resolving.proofs.Missing.{missing-here, missing-next, missing-nil}
 use Rattle.resolving.specs.Resolved.{Resolves}
+use Rattle.text.proofs.OffendingLaws.{missing-here, missing-next, missing-nil}
 use Rattle.text.specs.Offending.{missing}
 use Rattle.text.specs.Words.{Word, wordOf}
 use Rattle.resolving.specs.declared.offending.Offending.the-variants as offending

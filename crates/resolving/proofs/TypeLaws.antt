@@ -16,8 +16,9 @@ use Rattle.document.specs.Policy.{Column, Policy}
 use Rattle.index.specs.Index.{Tables}
 use Rattle.lists.proofs.ListLaws.{all-here, findIndex-found, getElem?-map, map-map, there-some}
 use Rattle.lists.specs.Lists.{known, there}
-use Rattle.resolving.proofs.FirstOffending.{first-of, mapped-at, none-of, taken-at}
+use Rattle.resolving.proofs.TakenLaws.{mapped-at, taken-at}
 use Rattle.resolving.specs.Resolved.{Compares}
+use Rattle.text.proofs.FirstOffending.{first-of, none-of}
 use Rattle.text.specs.Offending.{leftmost}
 use Rattle.text.specs.Words.{Word}
 

@@ -1,21 +1,18 @@
 -- The items of a row that are shaped for the table's scheme, as the code walks through them: words, or brackets of two words. Assumes
 -- nothing.
 use Prim.Native.Nat.{_+_, suc, zero, ℕ}
-use borrow.Author.Tests.{eqb-false, eqb-true}
 use lib.Dec.{eqb}
 use lib.ListN.{getD, length}
 use mathlib.Core.Bool.{Bool, cond, false, true}
 use mathlib.Core.List.{List, [], _∷_, map}
-use mathlib.Core.Logic.{⊎-elim}
-use mathlib.Core.Option.{Option, Option·none-ne-some, Option·some-injective, none, some}
-use mathlib.Core.Path.{_∙_, _≡_, ap, refl, subst, sym}
+use mathlib.Core.Option.{Option·none-ne-some, Option·some-injective, some}
+use mathlib.Core.Path.{_∙_, _≡_, ap, refl, sym}
+use Rattle.document.proofs.RowItems.{bracket-behind, led-name, led-values, no-values-behind}
 use Rattle.document.specs.NameFaults.{bracketLabels, leadingName}
 use Rattle.document.specs.ValueFaults.{bracketValues, plainValues, valuesBehindLabel}
-use Rattle.form.proofs.WalkSteps.{items-more, items-stop}
 use Rattle.form.specs.Form.{GivenForm, Item, labelled, plain}
 use Rattle.form.specs.Walks.{firstIn, givenAt, givensAt, itemAt, itemEndAt, itemsAt, listAt, listUpTo, namesAt, pairEndAt, secondIn}
 use Rattle.lists.proofs.ListLaws.{map-inv}
-use Rattle.lists.proofs.Tests.{decide}
 use Rattle.text.specs.Names.{isName}
 use Rattle.text.specs.Walking.{wordEndAt}
 use Rattle.text.specs.Words.{Word, wordAt, wordOf}
@@ -81,20 +78,14 @@ pub record Leading (s : List ℕ) (at : ℕ) (ws : List Word) : Type 0 where
   pub label : leadingName (itemsAt s at) ≡ wordOf s (at + 1) ∷ []
   pub values : ws ≡ namesAt s (wordEndAt s (at + 1))
 
-leading-turn : (s : List ℕ) (p : ℕ) (ws : List Word) (o n : Bool) → isName (wordAt s p) ≡ n → valuesBehindLabel (cond o (labelled (wordOf s (firstIn s p)) (wordOf s (secondIn s p))) (plain (wordOf s p)) ∷ itemsAt s (cond o (pairEndAt s p) (wordEndAt s p))) ≡ some ws
-    → (leadingName (cond o (labelled (wordOf s (firstIn s p)) (wordOf s (secondIn s p))) (plain (wordOf s p)) ∷ itemsAt s (cond o (pairEndAt s p) (wordEndAt s p))) ≡ wordOf s p ∷ []) × (ws ≡ namesAt s (wordEndAt s p))
-unfolding valuesBehindLabel leadingName
-leading-turn s p ws true n e h = absurd (Option·none-ne-some _ h)
-leading-turn s p ws false true e h = (rw e, plain-names s (wordEndAt s p) ws (rw e at h))
-leading-turn s p ws false false e h = absurd (Option·none-ne-some ws (rw e at h))
-
 module _ (s : List ℕ) (at : ℕ) (ws : List Word) (h : valuesBehindLabel (itemsAt s at) ≡ some ws) where
   pub leading-space : (getD s at 0 ≡ 32 → ⊥) → ⊥
-  unfolding valuesBehindLabel
-  leading-space g = Option·none-ne-some ws (sym (ap valuesBehindLabel (items-stop s at g)) ∙ h)
+  leading-space g = Option·none-ne-some ws (sym (no-values-behind s at g) ∙ h)
 
   pub leading : getD s at 0 ≡ 32 → Leading s at ws
-  unfolding itemAt itemEndAt
-  leading g =
-      let r = leading-turn s (at + 1) ws (eqb (getD s (at + 1) 0) 40) (isName (wordAt s (at + 1))) refl (sym (ap valuesBehindLabel (items-more s at g)) ∙ h) in
-      record { label = ap leadingName (items-more s at g) ∙ r .0; values = r .1 }
+  leading g = go (eqb (getD s (at + 1) 0) 40) refl (isName (wordAt s (at + 1))) refl
+    where
+      go : (o : Bool) → eqb (getD s (at + 1) 0) 40 ≡ o → (n : Bool) → isName (wordAt s (at + 1)) ≡ n → Leading s at ws
+      go true o n e = absurd (Option·none-ne-some ws (sym (bracket-behind s at g o) ∙ h))
+      go false o false e = absurd (Option·none-ne-some ws (sym (led-values s at g o false e) ∙ h))
+      go false o true e = record { label = led-name s at g o true e; values = plain-names s (wordEndAt s (at + 1)) ws (sym (led-values s at g o true e) ∙ h) }

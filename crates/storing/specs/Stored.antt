@@ -7,14 +7,14 @@ use mathlib.Core.Path.{_≡_}
 use Rattle.document.specs.Check.{checkForm}
 use Rattle.document.specs.Meaning.{add}
 use Rattle.document.specs.Policy.{Column, Doc, Row, Table}
-use Rattle.form.specs.Form.{ColumnForm, Form, Scheme, byCell, byColumn, byRow, byTable, table, unlabelled}
-use Rattle.form.specs.Walks.{columnLabelsAt, columnsAt, labelledColumnsAt}
+use Rattle.form.specs.Form.{Form, table}
 use Rattle.index.specs.Index.{Filling, FillingRow, Rows, Tables}
+use Rattle.index.specs.TableWords.{columnWords, schemeWords}
 use Rattle.index.specs.declared.tables.SchemeCode.{SchemeCode}
 use Rattle.index.specs.declared.tables.SchemeCode.the-variants as code
 use Rattle.text.specs.Numbers.{Value}
 use Rattle.text.specs.Refusal.{accepted}
-use Rattle.text.specs.Words.{Word, nameBytes, wordOf}
+use Rattle.text.specs.Words.{nameBytes, wordOf}
 
 -- the line stands at a position of the text, and what stands behind it does not go on with a name
 pub record LineAt (text : List ℕ) (at : ℕ) (line : List ℕ) : Type 0 where
@@ -27,25 +27,9 @@ pub record LineAt (text : List ℕ) (at : ℕ) (line : List ℕ) : Type 0 where
 abbrev pub Passes : Doc → List ℕ → Form → Type 0
 Passes d line f = checkForm d line f ≡ accepted (add d f)
 
--- the scheme of a table by the code's name for it, the place of the table's label, and that of its columns
-unfoldable pub schemeWords : SchemeCode → List ℕ → ℕ → ℕ → Scheme Word
-schemeWords code.Unlabelled s l cs = unlabelled
-schemeWords code.ByTable s l cs = byTable (wordOf s l)
-schemeWords code.ByColumn s l cs = byColumn (columnLabelsAt s cs)
-schemeWords code.ByRow s l cs = byRow
-schemeWords code.ByCell s l cs = byCell
-
--- the columns of a table of this scheme
-unfoldable pub schemeColumns : SchemeCode → List ℕ → ℕ → List ColumnForm
-schemeColumns code.Unlabelled s cs = columnsAt s cs
-schemeColumns code.ByTable s cs = columnsAt s cs
-schemeColumns code.ByColumn s cs = labelledColumnsAt s cs
-schemeColumns code.ByRow s cs = columnsAt s cs
-schemeColumns code.ByCell s cs = columnsAt s cs
-
 -- the table line whose name stands at t
 abbrev pub tableLine : List ℕ → ℕ → SchemeCode → ℕ → ℕ → Form
-tableLine s t k l cs = table (wordOf s t) (schemeWords k s l cs) (schemeColumns k s cs)
+tableLine s t k l cs = table (wordOf s t) (schemeWords s k l cs) (columnWords s k cs)
 
 -- ---- for the functions that are not called from outside
 

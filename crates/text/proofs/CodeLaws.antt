@@ -8,9 +8,9 @@ use mathlib.Core.List.{List, [], _∷_}
 use mathlib.Core.Option.{Option, bind, none, some}
 use mathlib.Core.Path.{_∙_, _≡_, ap, refl, sym}
 use native.Mathlib.Omega.{arith}
-use Rattle.text.proofs.AnswerLaws.{Answer, ReadAt, answerOf, read-at, read-refused}
+use Rattle.text.proofs.AnswerLaws.{Answer, answerOf, read-at, read-refused}
 use Rattle.text.proofs.NumberLaws.{rankDown-not, rankUp-not}
-use Rattle.text.proofs.ReaderLaws.{Eats, eats-number}
+use Rattle.text.proofs.ReaderLaws.{eats-number}
 use Rattle.text.proofs.Spaces.{optional-here, optional-not}
 use Rattle.text.proofs.WordLaws.{word-read, word-refused}
 use Rattle.text.specs.Brackets.{optional}
@@ -18,14 +18,13 @@ use Rattle.text.specs.Bytes.{isDigit}
 use Rattle.text.specs.CodeEnds.{amountOf, limited, numberOf, optionalOf, wordEnd}
 use Rattle.text.specs.Names.{isName}
 use Rattle.text.specs.Numbers.{digitsFrom, rankDown, rankUp}
-use Rattle.text.specs.Reader.{Left, Reader, andThen, from, give}
+use Rattle.text.specs.Reader.{Left, andThen, from, give}
 use Rattle.text.specs.Words.{Word, name, readNumber, wordAt, wordOf, wordThat}
 use Rattle.text.specs.declared.brackets.Optional.{Optional}
 use Rattle.text.specs.declared.brackets.Optional.the-variants as optionalName
 use Rattle.text.specs.declared.numbers.Amount.the-variants as amount
 use Rattle.text.specs.declared.numbers.Number.{Number}
 use Rattle.text.specs.declared.numbers.Number.the-variants as number
-use Rattle.text.specs.declared.words.End.{End}
 use Rattle.text.specs.declared.words.End.the-variants.{At, Nothing}
 
 -- ---- numbers up to 2^63
@@ -123,29 +122,13 @@ module _ (s : List ℕ) (at : ℕ) (p : List ℕ → Bool) where
 
 -- ---- readers that go forward: what an answer tells, by the laws of AnswerLaws
 
-pub at-same : {e e′ : ℕ} → At e ≡ At e′ → e ≡ e′
-at-same h = cc
-
-pub at-apart : (e : ℕ) → At e ≡ Nothing → ⊥
-at-apart e h = let z : _≡_ {A = ℕ} 0 1 = cc in omega arith
-
 pub number-same : {e e′ k k′ : ℕ} → number.At e k ≡ number.At e′ k′ → (e ≡ e′) × (k ≡ k′)
 number-same h = (cc, cc)
 
 pub number-apart : (e k : ℕ) → number.At e k ≡ number.Nothing → ⊥
 number-apart e k h = let z : _≡_ {A = ℕ} 0 1 = cc in omega arith
 
--- a reader's end is such an answer
-abbrev pub endAnswer : Answer (Unit {0}) End
-endAnswer = record {
-  yes = λ e y. At e;
-  no = Nothing;
-  same-end = λ e e′ y y′ h. at-same h;
-  same-what = λ e e′ y y′ h. refl;
-  apart = λ e y h. at-apart e h;
-}
-
--- and so are a number's end and rank
+-- a number's end and rank are such an answer
 abbrev pub numberAnswer : Answer ℕ Number
 numberAnswer = record {
   yes = λ e k. number.At e k;
@@ -155,22 +138,9 @@ numberAnswer = record {
   apart = λ e k h. number-apart e k h;
 }
 
-end-answer : {A : Type 0} (o : Option (A × Left)) → wordEnd o ≡ answerOf endAnswer (λ (a : A). tt {0}) o
-end-answer none = refl
-end-answer (some r) = refl
-
 number-answer : (o : Option (ℕ × Left)) → numberOf o ≡ answerOf numberAnswer (λ (k : ℕ). k) o
 number-answer none = refl
 number-answer (some r) = refl
-
-module _ {A : Type 0} (R : Reader A) (w : A → ℕ) (p : Eats w R) (s : List ℕ) (at : ℕ) where
-  -- an end e: the reader read something and left the text from e on, which is later by as much as it eats
-  pub end-read : (e : ℕ) → wordEnd (R (from s at)) ≡ At e → ReadAt R (λ a. tt {0}) w s at e (tt {0})
-  end-read e h = read-at endAnswer R (λ a. tt {0}) w p s at e (tt {0}) (sym (end-answer (R (from s at))) ∙ h)
-
-  -- none: it read nothing
-  pub end-refused : wordEnd (R (from s at)) ≡ Nothing → R (from s at) ≡ none
-  end-refused h = read-refused endAnswer R (λ a. tt {0}) w p s at (sym (end-answer (R (from s at))) ∙ h)
 
 module _ (s : List ℕ) (at : ℕ) where
   -- an end and a rank: the reader of numbers read the rank, and left the text from the end on

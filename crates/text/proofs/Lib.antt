@@ -3,6 +3,7 @@ pub mod Samples
 pub mod NameLaws
 pub mod RefusalLaws
 pub mod OffendingLaws
+pub mod FirstOffending
 pub mod LineLaws
 pub mod ByteLaws
 pub mod Lefts

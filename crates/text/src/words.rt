@@ -33,8 +33,8 @@ pub fn word_end(s: &[u8], at: usize) -> usize
 pub fn name_end(s: &[u8], at: usize) -> End
     ensures { λ r. ⌜ r ≡ wordEnd (name (from (now (s .entry)) at)) ⌝ }
 {
-    let end = word_end(s, at);
     if is_letter(byte_at(s, at)) {
+        let end = word_end(s, at);
         if end - at <= 24 {
             return End::At(end);
         }

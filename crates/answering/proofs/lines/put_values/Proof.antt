@@ -49,7 +49,7 @@ loop-again c =
     let cs = c .before .before .before .before .before .before .before .before .before .before .before .before .before .before .before .args .columns .now in
     let i = c .before .before .before .before .before .before .before .before .before .before .before .loop .i in
     w.step (32 ∷ getD vs (getD cs i 0) []) (spaced (drop (i + 1) cs) vs) (c .before .before .before .before .before .before .before .before .before .before .before .loop .inv) (spaced-more vs cs i (c .before .before .before .before .before .before .before .before .before .before .loop-test .taken))
-    (rw (c .before .before .before .before .before .before .before .before .value-place .ensures) at (w.both (c .before .before .before .before .before .before .put-byte .ensures) (c .before .before .put-word .ensures)))
+    (rw (c .before .before .before .before .before .before .before .before .value-place .ensures (c .before .before .before .before .before .before .before .before .before .before .before .before .before .before .before .pre .3) (c .before .before .before .before .before .before .before .before .before .before .before .before .before .before .before .pre .4)) at (w.both (c .before .before .before .before .before .before .put-byte .ensures) (c .before .before .put-word .ensures)))
 
 same-length : tie.Need-same-length Inv-loop μ-loop
 same-length c = w.ahead-kept (c .before .loop .inv)

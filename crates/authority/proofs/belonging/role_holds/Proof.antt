@@ -11,36 +11,24 @@ use borrow.Author.Needs.{needs}
 use Rattle.authority.proofs.belonging.role_holds.Statement.{statement}
 use Rattle.authority.proofs.belonging.role_holds.Tie as tie
 
-cond-role-end-requires : tie.Need-cond-role-end-requires
-cond-role-end-requires c κs = search needs
-
-at-most-requires : tie.Need-at-most-requires
-at-most-requires c κs = search needs
-
 cond-role-start-requires : tie.Need-cond-role-start-requires
 cond-role-start-requires c κs = search needs
 
-at-most-requires-2 : tie.Need-at-most-requires-2
-at-most-requires-2 c κs = search needs
+cond-role-end-requires : tie.Need-cond-role-end-requires
+cond-role-end-requires c κs = search needs
+
+line-of-requires : tie.Need-line-of-requires
+line-of-requires c κs = search needs
 
 cond-role-place-requires : tie.Need-cond-role-place-requires
 cond-role-place-requires c κs = search needs
-
-sub-condition-holds : tie.Need-sub-condition-holds
-sub-condition-holds c = search needs
-
-part-condition-holds-start : tie.Need-part-condition-holds-start
-part-condition-holds-start c = search needs
-
-part-condition-holds-end : tie.Need-part-condition-holds-end
-part-condition-holds-end c = search needs
 
 condition-holds-requires : tie.Need-condition-holds-requires
 condition-holds-requires c κs = search needs
 
 returns : tie.Need-returns
-returns c d u k rs t h l few = let a = c .before .before .before .before .before .before .before .before .before .args in
-    let same = role-read (a .text .now) (a .conds .now) (a .i) (c .before .before .before .before .cond-role-start .result) (c .before .before .before .before .before .before .cond-role-end .result) (c .before .before .cond-role-place .result) (c .before .before .before .at-most2 .result) (c .before .before .before .before .before .at-most .result) (c .before .before .before .before .cond-role-start .ensures (omega (arith, l, h .few))) (c .before .before .before .before .before .before .cond-role-end .ensures (omega (arith, l, h .few))) (c .before .before .cond-role-place .ensures (omega (arith, l, h .few))) (c .before .before .before .before .before .at-most .ensures) (c .before .before .before .at-most2 .ensures) in
+returns c d u k rs t h l few = let a = c .before .before .before .before .before .before .before .args in
+    let same = role-read (a .text .now) (a .conds .now) (a .i) (c .before .before .before .before .cond-role-start .result) (c .before .before .before .cond-role-end .result) (c .before .cond-role-place .result) (c .before .before .line-of .result .now) (c .before .before .before .before .cond-role-start .ensures (omega (arith, l, h .few))) (c .before .before .before .cond-role-end .ensures (omega (arith, l, h .few))) (c .before .cond-role-place .ensures (omega (arith, l, h .few))) (c .before .before .line-of .ensures) in
     c .condition-holds .ensures d u t (ap (attributesKnown d) same ∙ h .known (a .i) l) (omega (arith, ap (λ x. length (comparisons x)) same, role-few d (clockOf (a .clock)) u (a .text .now) (a .conds .now) (a .i) few))
     ∙ ap (holds (comparisonHolds d (clockOf (a .clock)) u)) same
     ∙ role-is d (clockOf (a .clock)) u (a .text .now) (a .conds .now) (a .i)
@@ -49,13 +37,9 @@ pub role-holds-spec : {M : Type 1} → statement M
 role-holds-spec =
     tie.close
     (tie.spec
-    cond-role-end-requires
-    at-most-requires
     cond-role-start-requires
-    at-most-requires-2
+    cond-role-end-requires
+    line-of-requires
     cond-role-place-requires
-    sub-condition-holds
-    part-condition-holds-start
-    part-condition-holds-end
     condition-holds-requires
     returns)

@@ -11,8 +11,9 @@ use Rattle.condition.specs.Answers.{comparedAt, kindOf, wrongWord}
 use Rattle.condition.specs.CondForm.{mistyped}
 use Rattle.document.specs.Lookup.{attributeKind}
 use Rattle.document.specs.Policy.{Policy}
-use Rattle.faults.proofs.CondLineLaws.{first-of, mistyped-near, none-of}
+use Rattle.faults.proofs.CondLineLaws.{mistyped-near}
 use Rattle.index.specs.Index.{Attributes}
+use Rattle.text.proofs.FirstOffending.{first-of, none-of}
 use Rattle.text.specs.Walking.{nextWord}
 use Rattle.text.specs.Words.{wordOf}
 use Rattle.faults.proofs.conds.first_mistyped.Statement.{statement}

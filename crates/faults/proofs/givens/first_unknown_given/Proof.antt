@@ -8,7 +8,7 @@ use mathlib.Core.Path.{_∙_, _≡_, refl, sym}
 use native.Mathlib.Omega.{arith}
 use Rattle.document.specs.Lookup.{attributeOf}
 use Rattle.document.specs.Policy.{Policy}
-use Rattle.faults.proofs.GivenLaws.{first-near, givenNames, missing-here, missing-onward, missing-over, pair-less, space-here}
+use Rattle.faults.proofs.GivenLaws.{first-near, givenNames, missing-found, missing-onward, missing-over, pair-less, space-here}
 use Rattle.index.specs.Index.{Attributes}
 use Rattle.lists.specs.Lists.{there}
 use Rattle.text.specs.Offending.{missing}
@@ -37,7 +37,7 @@ attribute-known-requires : tie.Need-attribute-known-requires Inv-loop μ-loop
 attribute-known-requires c κs = search needs
 
 returns : tie.Need-returns Inv-loop μ-loop
-returns c = (λ d h. sym (missing-here (λ w. there (attributeOf d w)) (c .before .before .before .before .before .before .before .before .args .line .now) (c .before .before .before .before .before .loop .j) (c .before .before .first-in .result) (sym (c .before .before .before .before .byte-at .ensures) ∙ c .before .before .before .if1 .taken) (c .before .before .first-in .ensures) (sym (c .before .attribute-known .ensures d h) ∙ not-true _ (c .if2 .taken))) ∙ c .before .before .before .before .before .loop .inv d h, omega (arith, first-near (c .before .before .before .before .before .before .before .before .args .line .now) (c .before .before .before .before .before .loop .j) (sym (c .before .before .before .before .byte-at .ensures) ∙ c .before .before .before .if1 .taken), (c .before .before .first-in .ensures)))
+returns c = (λ d h. sym (missing-found (λ w. there (attributeOf d w)) (c .before .before .before .before .before .before .before .before .args .line .now) (c .before .before .before .before .before .loop .j) (c .before .before .first-in .result) (sym (c .before .before .before .before .byte-at .ensures) ∙ c .before .before .before .if1 .taken) (c .before .before .first-in .ensures) (sym (c .before .attribute-known .ensures d h) ∙ not-true _ (c .if2 .taken))) ∙ c .before .before .before .before .before .loop .inv d h, omega (arith, first-near (c .before .before .before .before .before .before .before .before .args .line .now) (c .before .before .before .before .before .loop .j) (sym (c .before .before .before .before .byte-at .ensures) ∙ c .before .before .before .if1 .taken), (c .before .before .first-in .ensures)))
 
 add-pair-end : tie.Need-add-pair-end Inv-loop μ-loop
 add-pair-end c = omega (arith, space-here (c .before .before .before .before .before .before .before .before .args .line .now) (c .before .before .before .before .before .loop .j) (sym (c .before .before .before .before .byte-at .ensures) ∙ c .before .before .before .if1 .taken))

@@ -2,9 +2,10 @@
 use mathlib.Core.Option.{Option·none-ne-some}
 use mathlib.Core.Path.{_∙_, ap, sym}
 use native.Mathlib.Omega.{arith}
+use Rattle.document.proofs.RowItems.{no-values-behind}
 use Rattle.faults.specs.RowWords.{valuesAt}
 use Rattle.text.proofs.Spaces.{space-here}
-use Rattle.faults.proofs.RowItems.{behind-values, no-values-behind}
+use Rattle.faults.proofs.RowItems.{behind-values}
 use borrow.Author.Needs.{needs}
 use Rattle.faults.proofs.items.behind_first.Statement.{statement}
 use Rattle.faults.proofs.items.behind_first.Tie as tie

@@ -2,9 +2,9 @@
 use borrow.Author.Tests.{eq-eqb, ne-eqb}
 use lib.ListN.{getD}
 use mathlib.Core.Path.{_∙_, ap, sym}
+use Rattle.document.proofs.RowItems.{item-bracket-end, item-plain-end}
 use Rattle.form.specs.Walks.{firstIn, pairEndAt, secondIn}
 use Rattle.text.specs.Walking.{nextWord, past, wordEndAt}
-use Rattle.faults.proofs.RowItems.{item-bracket-end, item-plain-end}
 use borrow.Author.Needs.{needs}
 use Rattle.faults.proofs.items.item_end_at.Statement.{statement}
 use Rattle.faults.proofs.items.item_end_at.Tie as tie

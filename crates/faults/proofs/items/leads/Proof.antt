@@ -5,11 +5,11 @@ use lib.ListN.{getD}
 use mathlib.Core.Bool.{false}
 use mathlib.Core.Path.{_∙_, _≡_, refl, sym}
 use native.Mathlib.Omega.{arith}
+use Rattle.document.proofs.RowItems.{bracket-behind, bracket-leading, led-name, led-values, no-leading, no-values-behind}
 use Rattle.lists.proofs.Tests.{true-not-false}
 use Rattle.text.proofs.CodeLaws.{word-at, word-nothing}
 use Rattle.text.proofs.Spaces.{space-here}
 use Rattle.text.specs.Names.{isName}
-use Rattle.faults.proofs.RowItems.{bracket-behind, bracket-leading, led-name, led-values, no-leading, no-values-behind}
 use borrow.Author.Needs.{needs}
 use Rattle.faults.proofs.items.leads.Statement.{statement}
 use Rattle.faults.proofs.items.leads.Tie as tie

@@ -2,12 +2,13 @@
 use mathlib.Core.Bool.{false, true}
 use mathlib.Core.Path.{_∙_, ap, refl, sym}
 use native.Mathlib.Omega.{arith}
+use Rattle.document.proofs.RowItems.{led-values}
 use Rattle.faults.specs.RowWords.{shapedValues}
 use Rattle.form.specs.Walks.{itemsAt}
 use Rattle.lists.specs.Lists.{holdsOf}
 use Rattle.text.proofs.Spaces.{space-here}
 use Rattle.text.specs.Walking.{wordEndAt}
-use Rattle.faults.proofs.RowItems.{led-values, width-fits}
+use Rattle.faults.proofs.RowItems.{width-fits}
 use borrow.Author.Needs.{needs}
 use Rattle.faults.proofs.items.led_values_fit.Statement.{statement}
 use Rattle.faults.proofs.items.led_values_fit.Tie as tie

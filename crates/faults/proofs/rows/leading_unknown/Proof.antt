@@ -4,14 +4,15 @@ use borrow.Author.Tests.{not-false, not-true}
 use mathlib.Core.Bool.{false, true}
 use mathlib.Core.Path.{_∙_, ap, refl, sym}
 use native.Mathlib.Omega.{arith}
+use Rattle.document.proofs.RowItems.{led-name}
 use Rattle.document.specs.Lookup.{labelOf}
 use Rattle.index.specs.Index.{foundAs}
 use Rattle.lists.specs.Lists.{there}
+use Rattle.text.proofs.OffendingLaws.{missing-nil}
 use Rattle.text.proofs.Spaces.{space-here}
 use Rattle.text.specs.Offending.{missing, unless}
 use Rattle.text.specs.Words.{wordOf}
-use Rattle.faults.proofs.RowChecks.{none-missing, one-missing}
-use Rattle.faults.proofs.RowItems.{led-name}
+use Rattle.faults.proofs.RowChecks.{one-missing}
 use borrow.Author.Needs.{needs}
 use Rattle.faults.proofs.rows.leading_unknown.Statement.{statement}
 use Rattle.faults.proofs.rows.leading_unknown.Tie as tie
@@ -21,7 +22,7 @@ leads-requires c κs = search needs
 
 returns : tie.Need-returns
 returns c =
-    (λ sets d h. sym (ap (missing (λ w. there (labelOf d w))) (c .before .leads .ensures .1 (not-true (c .before .leads .result) (c .if1 .taken)) .0) ∙ none-missing (λ w. there (labelOf d w))), tt)
+    (λ sets d h. sym (ap (missing (λ w. there (labelOf d w))) (c .before .leads .ensures .1 (not-true (c .before .leads .result) (c .if1 .taken)) .0) ∙ missing-nil (λ w. there (labelOf d w))), tt)
 
 add-find-label : tie.Need-add-find-label
 add-find-label c = omega (arith, space-here (c .before .before .before .before .args .line .now) (c .before .before .before .before .args .at) _ refl (c .before .leads .ensures .0 (not-false (c .before .leads .result) (c .if1 .left)) .0) .1)

@@ -5,8 +5,8 @@ use Rattle.document.specs.NameFaults.{rowLabels}
 use Rattle.form.specs.Walks.{itemsAt}
 use Rattle.index.specs.Index.{schemeBy}
 use Rattle.lists.specs.Lists.{there}
+use Rattle.text.proofs.OffendingLaws.{missing-nil}
 use Rattle.text.specs.Offending.{missing}
-use Rattle.faults.proofs.RowChecks.{none-missing}
 use borrow.Author.Needs.{needs}
 use Rattle.faults.proofs.rows.unknown_label.Statement.{statement}
 use Rattle.faults.proofs.rows.unknown_label.Tie as tie
@@ -35,17 +35,17 @@ first-unknown-label-requires c κs = search needs
 returns : tie.Need-returns
 unfolding rowLabels schemeBy
 returns c =
-    (λ sets d l ls h. sym (ap (λ m. missing (λ w. there (labelOf d w)) (rowLabels (schemeBy m l ls) (itemsAt (c .before .before .before .before .args .line .now) (c .before .before .before .before .args .at)))) (c .enum-told .given .1) ∙ none-missing (λ w. there (labelOf d w))), tt)
+    (λ sets d l ls h. sym (ap (λ m. missing (λ w. there (labelOf d w)) (rowLabels (schemeBy m l ls) (itemsAt (c .before .before .before .before .args .line .now) (c .before .before .before .before .args .at)))) (c .enum-told .given .1) ∙ missing-nil (λ w. there (labelOf d w))), tt)
 
 returns-2 : tie.Need-returns-2
 unfolding rowLabels schemeBy
 returns-2 c =
-    (λ sets d l ls h. sym (ap (λ m. missing (λ w. there (labelOf d w)) (rowLabels (schemeBy m l ls) (itemsAt (c .before .before .before .before .args .line .now) (c .before .before .before .before .args .at)))) (c .enum-told2 .given .1) ∙ none-missing (λ w. there (labelOf d w))), tt)
+    (λ sets d l ls h. sym (ap (λ m. missing (λ w. there (labelOf d w)) (rowLabels (schemeBy m l ls) (itemsAt (c .before .before .before .before .args .line .now) (c .before .before .before .before .args .at)))) (c .enum-told2 .given .1) ∙ missing-nil (λ w. there (labelOf d w))), tt)
 
 returns-3 : tie.Need-returns-3
 unfolding rowLabels schemeBy
 returns-3 c =
-    (λ sets d l ls h. sym (ap (λ m. missing (λ w. there (labelOf d w)) (rowLabels (schemeBy m l ls) (itemsAt (c .before .before .before .before .args .line .now) (c .before .before .before .before .args .at)))) (c .enum-told3 .given .1) ∙ none-missing (λ w. there (labelOf d w))), tt)
+    (λ sets d l ls h. sym (ap (λ m. missing (λ w. there (labelOf d w)) (rowLabels (schemeBy m l ls) (itemsAt (c .before .before .before .before .args .line .now) (c .before .before .before .before .args .at)))) (c .enum-told3 .given .1) ∙ missing-nil (λ w. there (labelOf d w))), tt)
 
 returns-4 : tie.Need-returns-4
 unfolding rowLabels schemeBy

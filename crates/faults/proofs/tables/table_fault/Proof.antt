@@ -12,9 +12,10 @@ use Rattle.document.specs.Policy.{Doc}
 use Rattle.faults.proofs.Judging.{judge-bound, judge-fine, judge-taken, judge-unknown}
 use Rattle.faults.proofs.TableLineLaws.{columnNames, columns-words, fine-apart-item, fine-apart-whole, table-again, table-form, table-late, table-many, table-room, table-root, table-taken, table-type, table-unknown, table-values, table-wide}
 use Rattle.faults.specs.Places.{Near, wordFound}
-use Rattle.faults.specs.TableLine.{columnWords, columnsBy}
+use Rattle.faults.specs.TableLine.{columnsBy}
 use Rattle.index.proofs.TableLaws.{tables-counted}
 use Rattle.index.specs.Index.{Tables, foundAs}
+use Rattle.index.specs.TableWords.{columnWords}
 use Rattle.text.specs.Offending.{repeated}
 use Rattle.text.specs.Words.{wordOf}
 use Rattle.index.specs.declared.found.Found.{Found}

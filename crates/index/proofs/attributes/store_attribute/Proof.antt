@@ -14,8 +14,8 @@ use borrow.Author.Needs.{needs}
 use Rattle.index.proofs.attributes.store_attribute.Statement.{statement}
 use Rattle.index.proofs.attributes.store_attribute.Tie as tie
 
-cell-of-requires : tie.Need-cell-of-requires
-cell-of-requires c κs = search needs
+kind-cell-requires : tie.Need-kind-cell-requires
+kind-cell-requires c κs = search needs
 
 mul-ws : tie.Need-mul-ws
 mul-ws c = search needs
@@ -47,15 +47,15 @@ same-length c = search needs
 returns : tie.Need-returns
 returns c text xs h =
     let a = c .before .before .args in
-    subst (λ (t : Kind). Attributes text (stores (a .ws .now) (attributeStores (a .k) (a .pos) (a .role) (c .cell-of .result))) (a .k + 1) (xs ++ (record { name = wordAt text (a .pos); role = some (a .role); kind = t } ∷ [])))
-    (c .cell-of .ensures)
-    (attributes-pushed text (a .ws .now) (a .k) (a .pos) (a .role) (c .cell-of .result) (omega arith) (omega arith) xs h)
+    subst (λ (t : Kind). Attributes text (stores (a .ws .now) (attributeStores (a .k) (a .pos) (a .role) (c .kind-cell .result))) (a .k + 1) (xs ++ (record { name = wordAt text (a .pos); role = some (a .role); kind = t } ∷ [])))
+    (c .kind-cell .ensures)
+    (attributes-pushed text (a .ws .now) (a .k) (a .pos) (a .role) (c .kind-cell .result) (omega arith) (omega arith) xs h)
 
 pub store-attribute-spec : {M : Type 1} → statement M
 store-attribute-spec =
     tie.close
     (tie.spec
-    cell-of-requires
+    kind-cell-requires
     mul-ws
     slice-write-ws
     add-ws

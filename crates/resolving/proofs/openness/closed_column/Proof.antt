@@ -2,9 +2,9 @@
 use mathlib.Core.Path.{_∙_, refl, sym}
 use Rattle.document.specs.Open.{columnOpen}
 use Rattle.index.specs.Index.{schemeBy}
+use Rattle.text.proofs.OffendingLaws.{missing-all}
 use Rattle.index.specs.declared.tables.SchemeCode.the-variants as code
 use Rattle.query.specs.Naming.{wordsAt}
-use Rattle.resolving.proofs.FirstOffending.{missing-all}
 use Rattle.resolving.proofs.OpennessLaws.{columns-by}
 use borrow.Author.Needs.{needs}
 use Rattle.resolving.proofs.openness.closed_column.Statement.{statement}

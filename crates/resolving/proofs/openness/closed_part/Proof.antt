@@ -4,7 +4,7 @@ use mathlib.Core.Path.{_∙_, sym}
 use native.Mathlib.Omega.{arith}
 use Rattle.document.specs.Lookup.{schemeAt}
 use Rattle.document.specs.Open.{labelOpen, tableOpen}
-use Rattle.resolving.proofs.FirstOffending.{fails-first, passes-first}
+use Rattle.text.proofs.OffendingLaws.{leftmost-fail, leftmost-on}
 use Rattle.text.specs.Words.{wordOf}
 use borrow.Author.Needs.{needs}
 use Rattle.resolving.proofs.openness.closed_part.Statement.{statement}
@@ -14,7 +14,7 @@ table-open-requires : tie.Need-table-open-requires
 table-open-requires c κs = search needs
 
 returns : tie.Need-returns
-returns c d text k p h l a o e = fails-first (tableOpen (labelOpen d p) (schemeAt d (c .before .before .before .before .args .t))) (wordOf (c .before .before .before .before .args .query .now) (c .before .before .before .before .args .at)) _ (sym (c .before .table-open .ensures d text k p h l o) ∙ not-true (c .before .table-open .result) (c .if1 .taken))
+returns c d text k p h l a o e = sym (leftmost-fail (tableOpen (labelOpen d p) (schemeAt d (c .before .before .before .before .args .t))) (wordOf (c .before .before .before .before .args .query .now) (c .before .before .before .before .args .at)) _ (sym (c .before .table-open .ensures d text k p h l o) ∙ not-true (c .before .table-open .result) (c .if1 .taken)))
 
 closed-column-requires : tie.Need-closed-column-requires
 closed-column-requires c κs = search needs
@@ -22,7 +22,7 @@ closed-column-requires c κs = search needs
 returns-2 : tie.Need-returns-2
 returns-2 c d text k p h l a o e =
     c .closed-column .ensures d text (c .before .before .before .before .before .before .before .before .args .query .now) k p h l (omega (arith, a, c .before .before .closed-column-arg2 .given .0)) (omega (arith, a, c .before .closed-column-arg3 .given .0)) o e
-    ∙ passes-first (tableOpen (labelOpen d p) (schemeAt d (c .before .before .before .before .before .before .before .before .args .t))) (wordOf (c .before .before .before .before .before .before .before .before .args .query .now) (c .before .before .before .before .before .before .before .before .args .at)) _ (sym (c .before .before .before .before .before .table-open .ensures d text k p h l o) ∙ not-false (c .before .before .before .before .before .table-open .result) (c .before .before .before .before .if1 .left))
+    ∙ sym (leftmost-on (tableOpen (labelOpen d p) (schemeAt d (c .before .before .before .before .before .before .before .before .args .t))) (wordOf (c .before .before .before .before .before .before .before .before .args .query .now) (c .before .before .before .before .before .before .before .before .args .at)) _ (sym (c .before .before .before .before .before .table-open .ensures d text k p h l o) ∙ not-false (c .before .before .before .before .before .table-open .result) (c .before .before .before .before .if1 .left)))
 
 pub closed-part-spec : {M : Type 1} → statement M
 closed-part-spec =

@@ -29,33 +29,32 @@ returns : tie.Need-returns
 returns c =
     let s = c .before .before .before .before .before .before .args .s .now in
     let at = c .before .before .before .before .before .before .args .at in
-    let h : isLetter (getD s at 0) ≡ true = test-of isLetter (c .before .before .before .byte-at .ensures) (c .before .before .is-letter .ensures) (c .before .if1 .taken) in
-    let e = c .before .before .before .before .word-end .ensures in
+    let h : isLetter (getD s at 0) ≡ true = test-of isLetter (c .before .before .before .before .byte-at .ensures) (c .before .before .before .is-letter .ensures) (c .before .before .if1 .taken) in
+    let e = c .before .word-end .ensures in
     rw (word-read s at isName (is-name s at h (omega arith))) (ap At e)
 
 returns-2 : tie.Need-returns-2
 returns-2 c =
     let s = c .before .before .before .before .before .before .args .s .now in
     let at = c .before .before .before .before .before .before .args .at in
-    let h : isLetter (getD s at 0) ≡ true = test-of isLetter (c .before .before .before .byte-at .ensures) (c .before .before .is-letter .ensures) (c .before .if1 .taken) in
-    let e = c .before .before .before .before .word-end .ensures in
+    let h : isLetter (getD s at 0) ≡ true = test-of isLetter (c .before .before .before .before .byte-at .ensures) (c .before .before .before .is-letter .ensures) (c .before .before .if1 .taken) in
+    let e = c .before .word-end .ensures in
     rw (word-refused s at isName (not-name-long s at h (omega arith)))
 
 returns-3 : tie.Need-returns-3
 returns-3 c =
-    let s = c .before .before .before .before .before .args .s .now in
-    let at = c .before .before .before .before .before .args .at in
+    let s = c .before .before .before .before .args .s .now in
+    let at = c .before .before .before .before .args .at in
     let h : isLetter (getD s at 0) ≡ false = test-of isLetter (c .before .before .byte-at .ensures) (c .before .is-letter .ensures) (c .if1 .left) in
-    let e = c .before .before .before .word-end .ensures in
     rw (word-refused s at isName (not-name-letter s at h))
 
 pub name-end-spec : {M : Type 1} → statement M
 name-end-spec =
     tie.close
     (tie.spec
-    word-end-requires
     byte-at-requires
     is-letter-requires
+    word-end-requires
     sub-if2
     returns
     returns-2

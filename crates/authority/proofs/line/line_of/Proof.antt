@@ -1,9 +1,9 @@
--- `authority::grants::line_of` meets its contract. Assumes nothing.
+-- `authority::line::line_of` meets its contract. Assumes nothing.
 use borrow.Author.Needs.{needs}
 use native.Mathlib.Omega.{arith}
 use Rattle.authority.proofs.LineLaws.{line-cut, line-empty, line-past}
-use Rattle.authority.proofs.grants.line_of.Statement.{statement}
-use Rattle.authority.proofs.grants.line_of.Tie as tie
+use Rattle.authority.proofs.line.line_of.Statement.{statement}
+use Rattle.authority.proofs.line.line_of.Tie as tie
 
 sub-result : tie.Need-sub-result
 sub-result c = search needs

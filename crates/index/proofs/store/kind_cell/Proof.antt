@@ -1,8 +1,8 @@
--- `index::tables::kind_cell` meets its contract. Assumes nothing.
+-- `index::store::kind_cell` meets its contract. Assumes nothing.
 use mathlib.Core.Path.{ap, sym}
 use Rattle.index.specs.Index.{kindOfCell, kindSaid}
-use Rattle.index.proofs.tables.kind_cell.Statement.{statement}
-use Rattle.index.proofs.tables.kind_cell.Tie as tie
+use Rattle.index.proofs.store.kind_cell.Statement.{statement}
+use Rattle.index.proofs.store.kind_cell.Tie as tie
 
 returns : tie.Need-returns
 unfolding kindOfCell kindSaid

@@ -1,0 +1,67 @@
+-- The items of a row by the positions where they stand, and the label in front of them. Assumes nothing.
+use Prim.Native.Nat.{_+_, ℕ}
+use lib.Dec.{eqb}
+use lib.ListN.{getD}
+use mathlib.Core.Bool.{Bool, cond, false, true}
+use mathlib.Core.List.{List, [], _∷_}
+use mathlib.Core.Option.{none}
+use mathlib.Core.Path.{_∙_, _≡_, ap}
+use Rattle.document.specs.NameFaults.{leadingName}
+use Rattle.document.specs.ValueFaults.{plainValues, valuesBehindLabel}
+use Rattle.form.proofs.WalkSteps.{items-more, items-stop}
+use Rattle.form.specs.Form.{labelled, plain}
+use Rattle.form.specs.Walks.{firstIn, itemAt, itemEndAt, itemsAt, pairEndAt, secondIn}
+use Rattle.text.specs.Names.{isName}
+use Rattle.text.specs.Walking.{wordEndAt}
+use Rattle.text.specs.Words.{wordAt, wordOf}
+
+-- ---- one item
+
+module _ (s : List ℕ) (at : ℕ) where
+  pub item-bracket : eqb (getD s at 0) 40 ≡ true → itemAt s at ≡ labelled (wordOf s (firstIn s at)) (wordOf s (secondIn s at))
+  unfolding itemAt
+  item-bracket e = rw e
+
+  pub item-plain : eqb (getD s at 0) 40 ≡ false → itemAt s at ≡ plain (wordOf s at)
+  unfolding itemAt
+  item-plain e = rw e
+
+  pub item-bracket-end : eqb (getD s at 0) 40 ≡ true → itemEndAt s at ≡ pairEndAt s at
+  unfolding itemEndAt
+  item-bracket-end e = rw e
+
+  pub item-plain-end : eqb (getD s at 0) 40 ≡ false → itemEndAt s at ≡ wordEndAt s at
+  unfolding itemEndAt
+  item-plain-end e = rw e
+
+-- ---- a row whose first item is its label
+
+module _ (s : List ℕ) (at : ℕ) where
+  pub no-values-behind : (getD s at 0 ≡ 32 → ⊥) → valuesBehindLabel (itemsAt s at) ≡ none
+  unfolding valuesBehindLabel
+  no-values-behind e = ap valuesBehindLabel (items-stop s at e)
+
+  pub no-leading : (getD s at 0 ≡ 32 → ⊥) → leadingName (itemsAt s at) ≡ []
+  unfolding leadingName
+  no-leading e = ap leadingName (items-stop s at e)
+
+  pub bracket-behind : getD s at 0 ≡ 32 → eqb (getD s (at + 1) 0) 40 ≡ true → valuesBehindLabel (itemsAt s at) ≡ none
+  unfolding valuesBehindLabel
+  bracket-behind e o = ap valuesBehindLabel (items-more s at e) ∙ ap (λ i. valuesBehindLabel (i ∷ itemsAt s (itemEndAt s (at + 1)))) (item-bracket s (at + 1) o)
+
+  pub bracket-leading : getD s at 0 ≡ 32 → eqb (getD s (at + 1) 0) 40 ≡ true → leadingName (itemsAt s at) ≡ []
+  unfolding leadingName
+  bracket-leading e o = ap leadingName (items-more s at e) ∙ ap (λ i. leadingName (i ∷ itemsAt s (itemEndAt s (at + 1)))) (item-bracket s (at + 1) o)
+
+  module _ (e : getD s at 0 ≡ 32) (o : eqb (getD s (at + 1) 0) 40 ≡ false) where
+    plain-first : itemsAt s at ≡ plain (wordOf s (at + 1)) ∷ itemsAt s (wordEndAt s (at + 1))
+    plain-first = items-more s at e ∙ (λ j. item-plain s (at + 1) o j ∷ itemsAt s (item-plain-end s (at + 1) o j))
+
+    module _ (b : Bool) (n : isName (wordAt s (at + 1)) ≡ b) where
+      pub led-values : valuesBehindLabel (itemsAt s at) ≡ cond b (plainValues (itemsAt s (wordEndAt s (at + 1)))) none
+      unfolding valuesBehindLabel
+      led-values = ap valuesBehindLabel plain-first ∙ ap (λ t. cond t (plainValues (itemsAt s (wordEndAt s (at + 1)))) none) n
+
+      pub led-name : leadingName (itemsAt s at) ≡ cond b (wordOf s (at + 1) ∷ []) []
+      unfolding leadingName
+      led-name = ap leadingName plain-first ∙ ap (λ t. cond t (wordOf s (at + 1) ∷ []) []) n
