@@ -25,7 +25,7 @@ use Rattle.query.specs.Naming.{wordsAt}
 use Rattle.query.specs.Query.{Wanted, closedPart, columnComparison, countsOnly, mistypedQuery, named, openFor, resolved, select, unknownColumn, wantedOf}
 use Rattle.query.specs.QueryForm.{QueryForm, namedWords, selectedWords}
 use Rattle.resolving.specs.Resolved.{Compares, Resolves, offendingIn}
-use Rattle.text.proofs.OffendingLaws.{missing-none}
+use Rattle.text.proofs.OffendingLaws.{leftmost-only, missing-none}
 use Rattle.text.specs.Offending.{leftmost, missing, unless}
 use Rattle.text.specs.Reader.{from}
 use Rattle.text.specs.Words.{Word, wordOf}
@@ -84,11 +84,6 @@ module _ {A : Type 0} (n k m : ℕ) (xs as′ bs : List A) (e : take n xs ≡ as
 
 -- ---- the table, by its number
 
-leftmost-one : (o : Option Word) → leftmost (o ∷ []) ≡ o
-unfolding leftmost
-leftmost-one none = refl
-leftmost-one (some w) = refl
-
 -- the word of a table that is not there is the first that is unknown
 pub table-unknown : (d : Policy) (q : QueryForm) → none ≡ tableOf d (q .table) → some (q .table) ≡ unknownColumn d q
 unfolding unknownColumn leftmost unless there
@@ -116,7 +111,7 @@ module _ {d : Policy} {q : QueryForm} {t k : ℕ} (table : InTable d q t k) wher
   column-unknown =
       ap (λ cs. leftmost (unless (there (tableOf d (q .table))) (q .table) ∷ missing (λ w. there (columnOf cs w)) (namedWords q) ∷ [])) columns-are
       ∙ ap (λ o. leftmost (unless (there o) (q .table) ∷ missing (λ w. there (columnOf (columnsAt d t) w)) (namedWords q) ∷ [])) (table .is)
-      ∙ leftmost-one (missing (λ w. there (columnOf (columnsAt d t) w)) (namedWords q))
+      ∙ leftmost-only (missing (λ w. there (columnOf (columnsAt d t) w)) (namedWords q))
 
   module _ {s : List ℕ} {n : ℕ} {places numbers : List ℕ} {x : Offending} (r : Resolves (columnsAt d t) s n places x numbers) (words : wordsAt s n places ≡ namedWords q) where
     pub resolves-unknown : offendingIn s x ≡ unknownColumn d q

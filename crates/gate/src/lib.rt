@@ -1,4 +1,6 @@
-// The gate: checking a document, and asking it.
+// The gate, as a host sees it: checking a document, asking it, the part that a refusal hands back, and the C exports.
 pub mod asking;
+pub mod documents;
+pub mod exports;
 pub mod parts;
 pub mod two;

@@ -1,0 +1,119 @@
+-- The code and the figures of a result. Assumes nothing.
+use Prim.Native.Nat.{ℕ}
+use lib.ListN.{getD, length}
+use mathlib.Core.List.{List, [], _∷_}
+use mathlib.Core.Path.{_∙_, _≡_, ap, refl, subst, sym}
+use native.Mathlib.Omega.{arith}
+use Rattle.answer.specs.Ask.{Outcome, ask}
+use Rattle.answer.specs.Ask as meant
+use Rattle.answer.specs.Reserve.{IsReserve}
+use Rattle.checker.specs.Outcome.{Reserved, checkedAs, linesOnly}
+use Rattle.checker.specs.declared.documents.Checked.{Checked}
+use Rattle.checker.specs.declared.documents.Checked.the-variants as checked
+use Rattle.document.specs.Check.{Accepted, check}
+use Rattle.gate.specs.Exports.{ExportsAsk, ExportsCheck, Refuses, askFigures, checkFigures, codeOf}
+use Rattle.gate.specs.Outside.{Asks, Figures, answeredAs, figuresOf, inFigures}
+use Rattle.gate.specs.Reserved.{ChecksDocument, HasReserve}
+use Rattle.gate.specs.declared.asking.Answered.{Answered}
+use Rattle.gate.specs.declared.asking.Answered.the-variants as answered
+use Rattle.gate.specs.declared.asking.Figures as code
+use Rattle.query.specs.Authority.{Clock}
+use Rattle.text.proofs.RefusalLaws.{not-refused}
+use Rattle.text.specs.Reasons.{numberOf, refusalOf}
+use Rattle.text.specs.Refusal.{Result, accepted, refused}
+use Rattle.text.specs.declared.refusals.Reason.{Reason}
+use Rattle.text.specs.declared.refusals.Reason.the-variants.{BufferTooShort, ClockOutOfRange, Closed, LateAttribute, MistypedQuery, NameTaken, NameUnknown, NotAQuery, NotAuthorised, OverBound, RoleNotGiven, SecondRoot, TooLong, UnknownColumn, UnknownParty, WrongForm, WrongType, WrongValues}
+use Rattle.text.specs.declared.refusals.Refusal.{Refusal}
+
+-- no refusal has the code 0
+numbered : (r : Reason) → numberOf r ≡ 0 → ⊥
+numbered TooLong e = omega (arith, e)
+numbered WrongForm e = omega (arith, e)
+numbered OverBound e = omega (arith, e)
+numbered NameTaken e = omega (arith, e)
+numbered NameUnknown e = omega (arith, e)
+numbered SecondRoot e = omega (arith, e)
+numbered WrongValues e = omega (arith, e)
+numbered WrongType e = omega (arith, e)
+numbered LateAttribute e = omega (arith, e)
+numbered ClockOutOfRange e = omega (arith, e)
+numbered NotAQuery e = omega (arith, e)
+numbered UnknownParty e = omega (arith, e)
+numbered RoleNotGiven e = omega (arith, e)
+numbered NotAuthorised e = omega (arith, e)
+numbered UnknownColumn e = omega (arith, e)
+numbered MistypedQuery e = omega (arith, e)
+numbered Closed e = omega (arith, e)
+numbered BufferTooShort e = omega (arith, e)
+
+-- the outcome of a check and its number of lines have one code, and the one is accepted where the other is
+code-lines : (o : Result Accepted) → codeOf (linesOnly o) ≡ codeOf o
+unfolding codeOf linesOnly
+code-lines (refused r) = refl
+code-lines (accepted a) = refl
+
+lines-accepted : (o : Result Accepted) (n : ℕ) → linesOnly o ≡ accepted n → (a : Accepted) × (o ≡ accepted a)
+unfolding linesOnly
+lines-accepted (refused r) n e = not-refused e
+lines-accepted (accepted a) n e = (a, refl)
+
+-- the outcome of asking and its figures likewise
+code-figures : (o : Outcome) → codeOf (inFigures o) ≡ codeOf o
+unfolding codeOf inFigures
+code-figures (refused r) = refl
+code-figures (accepted a) = refl
+
+figures-accepted : (o : Outcome) (x : Figures) → inFigures o ≡ accepted x → (a : meant.Answered) × (o ≡ accepted a)
+unfolding inFigures
+figures-accepted (refused r) x e = not-refused e
+figures-accepted (accepted a) x e = (a, refl)
+
+-- a document that is refused
+pub refused-check : (doc figures : List ℕ) (n : ℕ) (x : Checked) (r : Refusal) → ChecksDocument doc x → x ≡ checked.Refused r → Refuses (refusalOf r) figures n → ExportsCheck doc figures n
+unfolding checkedAs codeOf checkFigures
+refused-check doc figures n x r h told f =
+    let e : refused (refusalOf r) ≡ linesOnly (check doc) = sym (ap checkedAs told) ∙ h .is .is in
+    record {
+      code = f .code ∙ ap codeOf e ∙ code-lines (check doc);
+      filled = f .filled ∙ ap checkFigures e;
+      accepts = λ z. absurd (numbered (r .reason) (sym (f .code) ∙ z));
+      reserve = λ z. absurd (numbered (r .reason) (sym (f .code) ∙ z));
+    }
+
+-- a document that is accepted
+pub accepted-check : (doc figures : List ℕ) (x : Checked) (n m : ℕ) → ChecksDocument doc x → x ≡ checked.Accepted n m → figures ≡ n ∷ m ∷ 0 ∷ 0 ∷ 0 ∷ [] → ExportsCheck doc figures 0
+unfolding checkedAs codeOf checkFigures Reserved HasReserve
+accepted-check doc figures x n m h told f =
+    let e : accepted n ≡ linesOnly (check doc) = sym (ap checkedAs told) ∙ h .is .is in
+    let same : m ≡ 60021 = subst Reserved told (h .is .reserve) in
+    record {
+      code = ap codeOf e ∙ code-lines (check doc);
+      filled = f ∙ ap (λ k. n ∷ k ∷ 0 ∷ 0 ∷ 0 ∷ []) same ∙ ap checkFigures e;
+      accepts = λ z. lines-accepted (check doc) n (sym e);
+      reserve = λ z. subst (λ l. IsReserve doc (getD l 1 0)) (sym f) (subst (HasReserve doc) told (h .reserve));
+    }
+
+module _ (doc text : List ℕ) (c : Clock) (before after′ figures : List ℕ) (x : Answered) (h : Asks doc text c before after′ x) where
+  -- a query that is refused
+  pub refused-ask : (n : ℕ) (r : Refusal) → x ≡ answered.Refused r → Refuses (refusalOf r) figures n → ExportsAsk doc text c before after′ figures n
+  unfolding answeredAs codeOf askFigures
+  refused-ask n r told f =
+      let e : refused (refusalOf r) ≡ inFigures (ask doc text c (length before)) = sym (ap answeredAs told) ∙ h .is in
+      record {
+        code = f .code ∙ ap codeOf e ∙ code-figures (ask doc text c (length before));
+        filled = f .filled ∙ ap askFigures e;
+        buffer = h .buffer;
+        answers = λ z. absurd (numbered (r .reason) (sym (f .code) ∙ z));
+      }
+
+  -- a query that is answered
+  pub given-ask : (g : code.Figures) → x ≡ answered.Given g → figures ≡ g .len ∷ g .grant ∷ g .passed ∷ g .withheld ∷ g .unmatched ∷ [] → ExportsAsk doc text c before after′ figures 0
+  unfolding answeredAs codeOf askFigures figuresOf
+  given-ask g told f =
+      let e : accepted (figuresOf g) ≡ inFigures (ask doc text c (length before)) = sym (ap answeredAs told) ∙ h .is in
+      record {
+        code = ap codeOf e ∙ code-figures (ask doc text c (length before));
+        filled = f ∙ ap askFigures e;
+        buffer = h .buffer;
+        answers = λ z. figures-accepted (ask doc text c (length before)) (figuresOf g) (sym e);
+      }

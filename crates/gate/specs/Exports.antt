@@ -1,0 +1,61 @@
+-- What the exported functions hand to a host (01, "Asking"): a code, and five figures.
+use Prim.Native.Nat.{ℕ}
+use lib.ListN.{getD, length}
+use mathlib.Core.List.{List, [], _∷_}
+use mathlib.Core.Path.{_≡_}
+use Rattle.answer.specs.Ask.{Answered, after, ask}
+use Rattle.answer.specs.Reserve.{IsReserve}
+use Rattle.checker.specs.Outcome.{linesOnly}
+use Rattle.document.specs.Check.{Accepted, check}
+use Rattle.query.specs.Authority.{Clock}
+use Rattle.text.specs.Refusal.{Refusal, Result, Source, accepted, document, query, refused}
+use Rattle.gate.specs.Outside.{Figures, inFigures}
+
+-- the code of a result: 0, or the refusal's number
+unfoldable pub codeOf : {A : Type 0} → Result A → ℕ
+codeOf (refused r) = r .number
+codeOf (accepted x) = 0
+
+-- the text that a refusal points into: 1 for the document, 2 for the query
+unfoldable pub sourceCode : Source → ℕ
+sourceCode document = 1
+sourceCode query = 2
+
+-- the figures of a refusal: the text, and the part that it points to
+unfoldable pub refusalFigures : Refusal → List ℕ
+refusalFigures r = sourceCode (r .source) ∷ r .start ∷ r .len ∷ 0 ∷ 0 ∷ []
+
+-- the figures of a check: the number of lines and the reserve, or those of the refusal
+unfoldable pub checkFigures : Result ℕ → List ℕ
+checkFigures (refused r) = refusalFigures r
+checkFigures (accepted n) = n ∷ 60021 ∷ 0 ∷ 0 ∷ 0 ∷ []
+
+-- the figures of asking: the answer's length, the grant and the three counts, or those of the refusal
+unfoldable pub askFigures : Result Figures → List ℕ
+askFigures (refused r) = refusalFigures r
+askFigures (accepted x) = x .len ∷ x .grant ∷ x .passed ∷ x .withheld ∷ x .unmatched ∷ []
+
+-- the clock of a year, a day and an hour
+unfoldable pub clockAt : (year day hour : ℕ) → Clock
+clockAt y d h = record { year = y; day = d; hour = h }
+
+-- the code n and the figures are those of the refusal
+pub record Refuses (r : Refusal) (figures : List ℕ) (n : ℕ) : Type 0 where
+  pub code : n ≡ r .number
+  pub filled : figures ≡ refusalFigures r
+
+-- the code n and the figures are those of the check of the document; where n is 0, the document is accepted, and the second
+-- figure is a reserve of it
+pub record ExportsCheck (doc figures : List ℕ) (n : ℕ) : Type 0 where
+  pub code : n ≡ codeOf (check doc)
+  pub filled : figures ≡ checkFigures (linesOnly (check doc))
+  pub accepts : n ≡ 0 → (a : Accepted) × (check doc ≡ accepted a)
+  pub reserve : n ≡ 0 → IsReserve doc (getD figures 1 0)
+
+-- the code n and the figures are those of asking the document, and the lent buffer afterwards is what asking says; where n is
+-- 0, the query is answered
+pub record ExportsAsk (doc text : List ℕ) (c : Clock) (before after′ figures : List ℕ) (n : ℕ) : Type 0 where
+  pub code : n ≡ codeOf (ask doc text c (length before))
+  pub filled : figures ≡ askFigures (inFigures (ask doc text c (length before)))
+  pub buffer : after′ ≡ after (ask doc text c (length before)) before
+  pub answers : n ≡ 0 → (a : Answered) × (ask doc text c (length before) ≡ accepted a)

@@ -1,0 +1,91 @@
+// The gate for hosts in C or Rust: a code, which is 0 or a refusal's number, and five figures.
+use crate::asking::Answered;
+use crate::asking::ask;
+use crate::documents::check;
+use checker::documents::Checked;
+use query::clock::Clock;
+use text::refusals::Refusal;
+use text::refusals::Source;
+use text::refusals::number;
+ghost use mathlib.Core.List.{[], _∷_};
+ghost use mathlib.Core.Path.{_≡_};
+ghost use Rattle.gate.specs.Exports.{ExportsAsk, ExportsCheck, Refuses, clockAt, sourceCode};
+ghost use Rattle.text.specs.Reasons.{refusalOf, sourceOf};
+
+// Stores five figures.
+fn store_five(figures: &mut [u64; 5], a: u64, b: u64, c: u64, d: u64, e: u64)
+    ensures { λ _. ⌜ now (figures .exit) ≡ a ∷ b ∷ c ∷ d ∷ e ∷ [] ⌝ }
+{
+    *figures = [a, b, c, d, e];
+}
+
+// The number of the text that a refusal points into.
+fn source_code(s: Source) -> u64
+    ensures { λ r. ⌜ r ≡ sourceCode (sourceOf s) ⌝ }
+{
+    match s {
+        Source::Document => 1,
+        Source::Query => 2,
+    }
+}
+
+// Stores the figures of a refusal. Gives its number.
+fn store_refusal(figures: &mut [u64; 5], r: Refusal) -> u64
+    ensures { λ n. ⌜ Refuses (refusalOf r) (now (figures .exit)) n ⌝ }
+{
+    let start = r.start;
+    let len = r.len;
+    let source = r.source;
+    let reason = r.reason;
+    let s = source_code(source);
+    let n = number(reason);
+    store_five(figures, s, start as u64, len as u64, 0, 0);
+    n as u64
+}
+
+// Checks a document. Gives 0, with the number of lines and a reserve, or a refusal's number, with the text and the part that
+// the refusal points to.
+#[no_mangle]
+pub extern "C" fn gate_check(doc: &[u8], figures: &mut [u64; 5]) -> u64
+    ensures { λ n. ⌜ ExportsCheck (now (doc .entry)) (now (figures .exit)) n ⌝ }
+{
+    let x = check(doc);
+    match x {
+        Checked::Refused(r) => store_refusal(figures, r),
+        Checked::Accepted(lines, reserve) => {
+            store_five(figures, lines as u64, reserve as u64, 0, 0, 0);
+            0
+        }
+    }
+}
+
+// Asks a document with a query at a time. Gives 0, with the answer's length, the grant and the three counts, or a refusal's
+// number, with the text and the part that the refusal points to.
+#[no_mangle]
+pub extern "C" fn gate_ask(
+    doc: &[u8],
+    query: &[u8],
+    year: u64,
+    day: u64,
+    hour: u64,
+    out: &mut [u8],
+    figures: &mut [u64; 5],
+) -> u64
+    ensures { λ n. ⌜ ExportsAsk (now (doc .entry)) (now (query .entry)) (clockAt year day hour) (now (out .entry)) (now (out .exit)) (now (figures .exit)) n ⌝ }
+{
+    let x = ask(doc, query, Clock { year, day, hour }, out);
+    match x {
+        Answered::Refused(r) => store_refusal(figures, r),
+        Answered::Given(f) => {
+            store_five(
+                figures,
+                f.len as u64,
+                f.grant as u64,
+                f.passed as u64,
+                f.withheld as u64,
+                f.unmatched as u64,
+            );
+            0
+        }
+    }
+}
