@@ -1,0 +1,150 @@
+//! A copy of the reference's `answer`, with blunders 1, 3, 6, 7 and 8.
+
+use std::cell::RefCell;
+
+use crate::condition::Condition;
+use crate::forms::Value;
+use crate::policy::{Labelling, Policy, Row, Table};
+use crate::on;
+use crate::purpose::{open, Label, Tree};
+
+/// 01: an answer "carries their length, the grant and the three counts".
+#[derive(Clone, Copy, Debug, PartialEq, Eq)]
+pub struct Answer {
+    pub len: usize,
+    pub grant: usize,
+    pub passed: usize,
+    pub withheld: usize,
+    pub unmatched: usize,
+}
+
+/// What becomes of a row.
+enum Fate {
+    Withheld,
+    Passed,
+    Unmatched,
+}
+
+/// A query whose names are all found: places in the policy.
+pub struct Request<'q, 'p> {
+    pub purpose: usize,
+    pub table: usize,
+    /// The selected columns; none for a count.
+    pub selected: Option<Vec<usize>>,
+    /// The named columns, selected or in the condition.
+    pub named: Vec<usize>,
+    pub condition: Option<&'q Condition<'p>>,
+}
+
+/// The text of an answer and its counts.
+pub struct Written {
+    pub text: Vec<u8>,
+    pub passed: usize,
+    pub withheld: usize,
+    pub unmatched: usize,
+}
+
+/// Whether a label, by its place, is open to a purpose.
+pub fn label_open(policy: &Policy, label: usize, purpose: usize) -> bool {
+    match policy.labels.get(label) {
+        Some(label) if on(1) => open_downwards(&policy.tree, label, purpose),
+        Some(label) => open(&policy.tree, label, purpose),
+        None => false,
+    }
+}
+
+/// Blunder 1.
+fn open_downwards(tree: &Tree, label: &Label, p: usize) -> bool {
+    let allowed = label.allowed.iter().any(|&a| tree.descends(p, a));
+    allowed && !label.denied.iter().any(|&d| tree.descends(p, d))
+}
+
+/// 01: "A row not withheld is passed if the condition holds or is absent, else unmatched."
+fn fate<'p>(policy: &Policy<'p>, request: &Request<'_, 'p>, row: &Row<'p>) -> Fate {
+    let table = &policy.tables[request.table];
+    let mut closed = withheld(policy, request, table.labelling, row);
+    if on(6) && table.labelling == Labelling::Cell {
+        closed = reached_closed(policy, request, table, row);
+    }
+    if closed && !on(3) {
+        return Fate::Withheld;
+    }
+    let holds = match request.condition {
+        None => true,
+        Some(condition) => condition.holds(&|name| value_in(table, row, name)),
+    };
+    if closed && holds {
+        return Fate::Withheld;
+    }
+    if holds {
+        Fate::Passed
+    } else {
+        Fate::Unmatched
+    }
+}
+
+/// 01: "Scheme row withholds a row whose label is closed ..  Scheme cell withholds a row with a closed named cell."
+fn withheld(policy: &Policy, request: &Request, labelling: Labelling, row: &Row) -> bool {
+    let closed = |label: Option<usize>| match label {
+        Some(label) => !label_open(policy, label, request.purpose),
+        None => false,
+    };
+    match labelling {
+        Labelling::None | Labelling::Table(_) | Labelling::Column => false,
+        Labelling::Row if on(7) => !request.named.is_empty() && closed(row.label),
+        Labelling::Row => closed(row.label),
+        Labelling::Cell => request.named.iter().any(|&column| closed(row.cells[column].label)),
+    }
+}
+
+/// Blunder 6: only the selected cells and those that the condition reads.
+fn reached_closed<'p>(policy: &Policy<'p>, request: &Request<'_, 'p>, table: &Table, row: &Row<'p>) -> bool {
+    let reached = RefCell::new(request.selected.clone().unwrap_or_default());
+    if let Some(condition) = request.condition {
+        condition.holds(&|name| {
+            reached.borrow_mut().extend(table.columns.iter().position(|column| column.name == name));
+            value_in(table, row, name)
+        });
+    }
+    let reached = reached.into_inner();
+    reached.iter().any(|&column| row.cells[column].label.is_some_and(|label| !label_open(policy, label, request.purpose)))
+}
+
+/// The value of a row in the column of a name.
+fn value_in<'p>(table: &Table, row: &Row<'p>, name: &[u8]) -> Option<Value<'p>> {
+    let column = table.columns.iter().position(|column| column.name == name)?;
+    Some(row.cells[column].value)
+}
+
+/// 01: "Select writes `(row v ..)` for each passed row in document order; both end with `(end PASSED WITHHELD UNMATCHED)`, each line with a line feed."
+pub fn write<'p>(policy: &Policy<'p>, request: &Request<'_, 'p>) -> Written {
+    let mut written = Written { text: Vec::new(), passed: 0, withheld: 0, unmatched: 0 };
+    for row in policy.rows.iter().filter(|row| row.table == request.table) {
+        match fate(policy, request, row) {
+            Fate::Withheld => written.withheld += 1,
+            Fate::Unmatched => written.unmatched += 1,
+            Fate::Passed => {
+                written.passed += 1;
+                if let Some(selected) = &request.selected {
+                    write_row(&mut written.text, row, selected);
+                }
+            }
+        }
+    }
+    let end = format!("(end {} {} {})\n", written.passed, written.withheld, written.unmatched);
+    written.text.extend_from_slice(end.as_bytes());
+    written
+}
+
+/// `(row v ..)` with the selected values, and a line feed.
+fn write_row(text: &mut Vec<u8>, row: &Row, selected: &[usize]) {
+    text.extend_from_slice(b"(row");
+    for &column in selected {
+        text.push(b' ');
+        match row.cells[column].value {
+            Value::Name(name) => text.extend_from_slice(name),
+            Value::Number(number) => text.extend_from_slice(number.to_string().as_bytes()),
+        }
+    }
+    text.extend_from_slice(b")\n");
+}

@@ -1,0 +1,64 @@
+//! The reference with one blunder switched on, for `comparison --mutant K`: most modules are the
+//! reference's own files; `answer`, `ask` and `check` are copies with the blunders in them.
+
+use std::sync::atomic::{AtomicU32, Ordering};
+
+mod answer;
+mod ask;
+mod check;
+#[path = "../../reference/src/clock.rs"]
+pub mod clock;
+#[path = "../../reference/src/condition.rs"]
+pub mod condition;
+#[path = "../../reference/src/forms.rs"]
+pub mod forms;
+#[path = "../../reference/src/policy.rs"]
+pub mod policy;
+#[path = "../../reference/src/purpose.rs"]
+pub mod purpose;
+#[path = "../../reference/src/query.rs"]
+pub mod query;
+#[path = "../../reference/src/refusal.rs"]
+pub mod refusal;
+#[path = "../../reference/src/rules.rs"]
+pub mod rules;
+#[path = "../../reference/src/text.rs"]
+pub mod text;
+
+pub use answer::Answer;
+pub use ask::ask;
+pub use check::{check, Accepted};
+pub use clock::Clock;
+pub use refusal::{Refusal, Source};
+
+/// What each mutant does wrong, counted from 1.
+pub const BLUNDERS: [&str; 16] = [
+    "a denied purpose closes downwards only",
+    "labels tested for selected columns only",
+    "withheld counted only where the condition holds",
+    "a grant matched by equal purpose only",
+    "a conditional role matched by equal role only",
+    "a column in a branch that wasn't reached is skipped",
+    "scheme row withholds only where a column is named",
+    "18 said for the answer without its condition",
+    "bytes written on 18",
+    "the last grant given, not the first",
+    "5 tested before 4",
+    "for 8 the rightmost item given",
+    "7 tested before 5",
+    "3 tested after 4",
+    "9 tested before 5",
+    "15 tested before 13 and 14",
+];
+
+static BLUNDER: AtomicU32 = AtomicU32::new(0);
+
+/// Switches one blunder on.
+pub fn switch(blunder: u32) {
+    BLUNDER.store(blunder, Ordering::Relaxed);
+}
+
+/// Whether a blunder is on.
+pub(crate) fn on(blunder: u32) -> bool {
+    BLUNDER.load(Ordering::Relaxed) == blunder
+}

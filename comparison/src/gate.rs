@@ -1,0 +1,205 @@
+//! The gate's two C exports, and the second implementation beside them, both as one kind of result.
+
+use reference::{Clock, Source};
+
+#[cfg(not(feature = "stub"))]
+extern "C" {
+    fn gate_check(doc: *const u8, doc_len: usize, figures: *mut u64) -> u64;
+    #[allow(clippy::too_many_arguments)]
+    fn gate_ask(
+        doc: *const u8,
+        doc_len: usize,
+        query: *const u8,
+        query_len: usize,
+        year: u64,
+        day: u64,
+        hour: u64,
+        out: *mut u8,
+        out_len: usize,
+        figures: *mut u64,
+    ) -> u64;
+}
+
+#[cfg(feature = "stub")]
+use crate::stub::{gate_ask, gate_check};
+
+/// A number of 01 with its part: the source is 1 for the document, 2 for the query.
+#[derive(Clone, Copy, Debug, PartialEq, Eq)]
+pub struct Refused {
+    pub number: u64,
+    pub source: u64,
+    pub start: u64,
+    pub length: u64,
+}
+
+/// What checking gives; the reference has no reserve.
+#[derive(Clone, Copy, Debug, PartialEq, Eq)]
+pub enum Checked {
+    Accepted { lines: u64 },
+    Refused(Refused),
+}
+
+/// What asking gives, the bytes apart.
+#[derive(Clone, Copy, Debug, PartialEq, Eq)]
+pub enum Asked {
+    Answered { length: u64, grant: u64, passed: u64, withheld: u64, unmatched: u64 },
+    Refused(Refused),
+}
+
+/// Bytes that the figures hold before a call, so that each is seen to be written.
+const UNWRITTEN: u64 = 0x5a5a_5a5a_5a5a_5a5a;
+
+/// Five figures between two that nobody may touch.
+struct Figures([u64; 7]);
+
+impl Figures {
+    fn new() -> Figures {
+        Figures([UNWRITTEN; 7])
+    }
+
+    fn lent(&mut self) -> *mut u64 {
+        self.0[1..].as_mut_ptr()
+    }
+
+    fn read(&self) -> Result<[u64; 5], String> {
+        let [before, a, b, c, d, e, after] = self.0;
+        if before != UNWRITTEN || after != UNWRITTEN {
+            return Err(format!("wrote beside the five figures: {:?}", self.0));
+        }
+        Ok([a, b, c, d, e])
+    }
+}
+
+fn refused(number: u64, figures: [u64; 5]) -> Result<Refused, String> {
+    let [source, start, length, d, e] = figures;
+    if d != 0 || e != 0 || source > 2 || source == 0 || number > 18 {
+        return Err(format!("refusal {number} with figures {figures:?}"));
+    }
+    Ok(Refused { number, source, start, length })
+}
+
+/// The gate's checking, with its reserve (0 where refused).
+pub fn check(doc: &[u8]) -> Result<(Checked, u64), String> {
+    let mut figures = Figures::new();
+    // The pointers are of slices that live through the call; the figures have room for five.
+    let number = unsafe { gate_check(doc.as_ptr(), doc.len(), figures.lent()) };
+    let figures = figures.read()?;
+    if number == 0 {
+        let [lines, reserve, c, d, e] = figures;
+        if (c, d, e) != (0, 0, 0) {
+            return Err(format!("accepted with figures {figures:?}"));
+        }
+        Ok((Checked::Accepted { lines }, reserve))
+    } else {
+        Ok((Checked::Refused(refused(number, figures)?), 0))
+    }
+}
+
+/// The gate's asking.
+pub fn ask(doc: &[u8], query: &[u8], clock: Clock, out: &mut [u8]) -> Result<Asked, String> {
+    let mut figures = Figures::new();
+    // As in `check`; the buffer is lent for this call alone.
+    let number = unsafe {
+        gate_ask(
+            doc.as_ptr(),
+            doc.len(),
+            query.as_ptr(),
+            query.len(),
+            clock.year,
+            clock.day,
+            clock.hour,
+            out.as_mut_ptr(),
+            out.len(),
+            figures.lent(),
+        )
+    };
+    let figures = figures.read()?;
+    if number == 0 {
+        let [length, grant, passed, withheld, unmatched] = figures;
+        Ok(Asked::Answered { length, grant, passed, withheld, unmatched })
+    } else {
+        Ok(Asked::Refused(refused(number, figures)?))
+    }
+}
+
+/// Whose claim the pairs test: the gate's, or a mutant's to see that the test has teeth.
+#[derive(Clone, Copy, Debug, PartialEq, Eq)]
+pub enum Subject {
+    Gate,
+    Mutant,
+}
+
+impl Subject {
+    pub fn ask(self, doc: &[u8], query: &[u8], clock: Clock, out: &mut [u8]) -> Result<Asked, String> {
+        match self {
+            Subject::Gate => ask(doc, query, clock, out),
+            Subject::Mutant => Ok(Second::Mutant.ask(doc, query, clock, out)),
+        }
+    }
+}
+
+/// What the gate is compared with.
+#[derive(Clone, Copy, Debug, PartialEq, Eq)]
+pub enum Second {
+    Reference,
+    Mutant,
+}
+
+impl Second {
+    pub fn check(self, doc: &[u8]) -> Checked {
+        match self {
+            Second::Reference => match reference::check(doc) {
+                Ok(accepted) => Checked::Accepted { lines: accepted.lines as u64 },
+                Err(refusal) => Checked::Refused(of_reference(refusal)),
+            },
+            Second::Mutant => match mutant::check(doc) {
+                Ok(accepted) => Checked::Accepted { lines: accepted.lines as u64 },
+                Err(refusal) => Checked::Refused(of_mutant(refusal)),
+            },
+        }
+    }
+
+    pub fn ask(self, doc: &[u8], query: &[u8], clock: Clock, out: &mut [u8]) -> Asked {
+        match self {
+            Second::Reference => match reference::ask(doc, query, clock, out) {
+                Ok(answer) => Asked::Answered {
+                    length: answer.len as u64,
+                    grant: answer.grant as u64,
+                    passed: answer.passed as u64,
+                    withheld: answer.withheld as u64,
+                    unmatched: answer.unmatched as u64,
+                },
+                Err(refusal) => Asked::Refused(of_reference(refusal)),
+            },
+            Second::Mutant => {
+                let clock = mutant::Clock { year: clock.year, day: clock.day, hour: clock.hour };
+                match mutant::ask(doc, query, clock, out) {
+                    Ok(answer) => Asked::Answered {
+                        length: answer.len as u64,
+                        grant: answer.grant as u64,
+                        passed: answer.passed as u64,
+                        withheld: answer.withheld as u64,
+                        unmatched: answer.unmatched as u64,
+                    },
+                    Err(refusal) => Asked::Refused(of_mutant(refusal)),
+                }
+            }
+        }
+    }
+}
+
+fn of_reference(refusal: reference::Refusal) -> Refused {
+    let source = match refusal.source {
+        Source::Document => 1,
+        Source::Query => 2,
+    };
+    Refused { number: u64::from(refusal.number), source, start: refusal.start as u64, length: refusal.len as u64 }
+}
+
+fn of_mutant(refusal: mutant::Refusal) -> Refused {
+    let source = match refusal.source {
+        mutant::Source::Document => 1,
+        mutant::Source::Query => 2,
+    };
+    Refused { number: u64::from(refusal.number), source, start: refusal.start as u64, length: refusal.len as u64 }
+}

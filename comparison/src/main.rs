@@ -1,0 +1,144 @@
+//! The gate against the reference on random texts, and against itself on pairs of documents alike.
+
+// A difference is made once, at the end of a run.
+#![allow(clippy::result_large_err)]
+
+mod compare;
+mod damage;
+mod documents;
+mod gate;
+mod model;
+mod pairs;
+mod queries;
+mod random;
+#[cfg(feature = "stub")]
+mod stub;
+mod texts;
+
+use compare::Buffers;
+use gate::{Second, Subject};
+use pairs::PairTally;
+use random::Random;
+use std::process::ExitCode;
+use std::time::Instant;
+use texts::{Run, Tally};
+
+struct Options {
+    texts: u64,
+    pairs: u64,
+    seed: u64,
+    mutant: Option<u32>,
+}
+
+fn options() -> Result<Options, String> {
+    let mut options = Options { texts: 20_000, pairs: 5_000, seed: 1, mutant: None };
+    let mut arguments = std::env::args().skip(1);
+    while let Some(argument) = arguments.next() {
+        let given = arguments.next().ok_or(format!("{argument}: a number is missing"))?;
+        let number: u64 = given.parse().map_err(|_| format!("{argument} {given}: not a number"))?;
+        match argument.as_str() {
+            "--texts" => options.texts = number,
+            "--pairs" => options.pairs = number,
+            "--seed" => options.seed = number,
+            "--mutant" if (1..=mutant::BLUNDERS.len() as u64).contains(&number) => options.mutant = Some(number as u32),
+            _ => return Err(format!("{argument} {given}: not known")),
+        }
+    }
+    Ok(options)
+}
+
+fn main() -> ExitCode {
+    let options = match options() {
+        Ok(options) => options,
+        Err(what) => {
+            eprintln!("{what}\ncomparison [--texts N] [--pairs N] [--seed S] [--mutant 1..{}]", mutant::BLUNDERS.len());
+            return ExitCode::from(2);
+        }
+    };
+    match options.mutant {
+        Some(blunder) => catch(&options, blunder),
+        None => compare_all(&options),
+    }
+}
+
+/// Every text and pair; fails at the first difference, or where a refusal number was never seen.
+fn compare_all(options: &Options) -> ExitCode {
+    let start = Instant::now();
+    let mut run = Run::new(Second::Reference);
+    for place in 0..options.texts {
+        if let Err(difference) = run.text(&mut Random::new(options.seed, place)) {
+            print!("{difference}");
+            println!("text {place} of seed {}", options.seed);
+            return ExitCode::FAILURE;
+        }
+    }
+    let texts_done = start.elapsed();
+    let tally = run.tally;
+    let mut buffers = Buffers::new();
+    let mut pairs = PairTally::default();
+    for place in 0..options.pairs {
+        let mut random = Random::new(options.seed, place | 1 << 40);
+        if let Err(difference) = pairs::run(&mut random, Subject::Gate, &mut buffers, &mut pairs) {
+            print!("{difference}");
+            println!("pair {place} of seed {}", options.seed);
+            return ExitCode::FAILURE;
+        }
+    }
+    summary(options, &tally, &pairs);
+    println!("seconds:           {:.1} texts, {:.1} pairs", texts_done.as_secs_f64(), (start.elapsed() - texts_done).as_secs_f64());
+    let missing: Vec<usize> = (1..=18).filter(|&number| tally.refusals[number] == 0).collect();
+    if !missing.is_empty() {
+        println!("FAILED: refusals never seen: {missing:?}");
+        return ExitCode::FAILURE;
+    }
+    if options.pairs > 0 && pairs.told_apart * 3 <= pairs.unlike {
+        println!("FAILED: pairs that aren't alike are hardly told apart");
+        return ExitCode::FAILURE;
+    }
+    println!("no difference");
+    ExitCode::SUCCESS
+}
+
+fn summary(options: &Options, tally: &Tally, pairs: &PairTally) {
+    let histogram = |refusals: &[u64; 19]| -> String {
+        (1..=18).filter(|&n| refusals[n] > 0).map(|n| format!(" {n}:{}", refusals[n])).collect()
+    };
+    println!("seed:              {}", options.seed);
+    println!("texts:             {}, accepted {}, the longest {} bytes", tally.texts, tally.accepted, tally.longest);
+    println!("queries:           {}, answered {}, asked with {} buffers", tally.queries, tally.answered, tally.asked);
+    println!("refusals seen:    {}", histogram(&tally.refusals));
+    println!("pairs alike:       {}, answered {}, refused{}", pairs.pairs, pairs.answered, histogram(&pairs.refusals));
+    println!("pairs not alike:   {}, told apart {}", pairs.unlike, pairs.told_apart);
+}
+
+/// The gate against a mutant: a difference has to be found. Whether the mutant keeps the no-difference claim is told beside it.
+fn catch(options: &Options, blunder: u32) -> ExitCode {
+    mutant::switch(blunder);
+    println!("mutant {blunder}: {}", mutant::BLUNDERS[blunder as usize - 1]);
+    let mut run = Run::new(Second::Mutant);
+    let caught = (0..options.texts).find_map(|place| {
+        let difference = run.text(&mut Random::new(options.seed, place)).err()?;
+        Some((place + 1, difference))
+    });
+    let mut buffers = Buffers::new();
+    let mut pairs = PairTally::default();
+    let leaked = (0..options.pairs).find(|place| {
+        let mut random = Random::new(options.seed, place | 1 << 40);
+        pairs::run(&mut random, Subject::Mutant, &mut buffers, &mut pairs).is_err()
+    });
+    match leaked {
+        Some(place) => println!("mutant {blunder}: breaks the no-difference claim after {} pairs", place + 1),
+        None => println!("mutant {blunder}: keeps the no-difference claim in {} pairs", options.pairs),
+    }
+    match caught {
+        Some((texts, difference)) => {
+            print!("{difference}");
+            println!("mutant {blunder}: caught after {texts} texts");
+            ExitCode::SUCCESS
+        }
+        None => {
+            println!("mutant {blunder}: NOT caught in {} texts", options.texts);
+            ExitCode::FAILURE
+        }
+    }
+}

@@ -1,0 +1,352 @@
+//! The generator's own picture of a document: what each line says, and which cells are closed (01).
+//! It is built with the text and never read from it.
+
+use std::fmt;
+
+#[derive(Clone, Copy, Debug, PartialEq, Eq)]
+pub enum Type {
+    Num,
+    Name,
+}
+
+impl fmt::Display for Type {
+    fn fmt(&self, f: &mut fmt::Formatter) -> fmt::Result {
+        f.write_str(match self {
+            Type::Num => "num",
+            Type::Name => "name",
+        })
+    }
+}
+
+#[derive(Clone, Debug, PartialEq, Eq)]
+pub enum Value {
+    Num(i64),
+    Name(String),
+}
+
+impl fmt::Display for Value {
+    fn fmt(&self, f: &mut fmt::Formatter) -> fmt::Result {
+        match self {
+            Value::Num(number) => write!(f, "{number}"),
+            Value::Name(name) => f.write_str(name),
+        }
+    }
+}
+
+#[derive(Clone, Debug)]
+pub enum Condition {
+    Compare(&'static str, String, Value),
+    Not(Box<Condition>),
+    And(Vec<Condition>),
+    Or(Vec<Condition>),
+}
+
+impl fmt::Display for Condition {
+    fn fmt(&self, f: &mut fmt::Formatter) -> fmt::Result {
+        let list = |f: &mut fmt::Formatter, word: &str, conditions: &[Condition]| {
+            write!(f, "({word}")?;
+            for condition in conditions {
+                write!(f, " {condition}")?;
+            }
+            f.write_str(")")
+        };
+        match self {
+            Condition::Compare(operator, subject, value) => write!(f, "({operator} {subject} {value})"),
+            Condition::Not(inner) => write!(f, "(not {inner})"),
+            Condition::And(conditions) => list(f, "and", conditions),
+            Condition::Or(conditions) => list(f, "or", conditions),
+        }
+    }
+}
+
+impl Condition {
+    /// The names compared, evaluated or not.
+    pub fn subjects(&self) -> Vec<&str> {
+        match self {
+            Condition::Compare(_, subject, _) => vec![subject],
+            Condition::Not(inner) => inner.subjects(),
+            Condition::And(list) | Condition::Or(list) => list.iter().flat_map(|c| c.subjects()).collect(),
+        }
+    }
+
+    /// How many brackets deep it is.
+    pub fn depth(&self) -> usize {
+        match self {
+            Condition::Compare(..) => 1,
+            Condition::Not(inner) => 1 + inner.depth(),
+            Condition::And(list) | Condition::Or(list) => 1 + list.iter().map(|c| c.depth()).max().unwrap_or(0),
+        }
+    }
+
+    /// Whether it holds; a name without a value is false.
+    pub fn holds(&self, value_of: &dyn Fn(&str) -> Option<Value>) -> bool {
+        match self {
+            Condition::Compare(operator, subject, right) => match (value_of(subject), right) {
+                (Some(Value::Num(l)), Value::Num(r)) => match *operator {
+                    "eq" => l == *r,
+                    "ne" => l != *r,
+                    "lt" => l < *r,
+                    "le" => l <= *r,
+                    "gt" => l > *r,
+                    _ => l >= *r,
+                },
+                (Some(Value::Name(l)), Value::Name(r)) => (*operator == "eq") == (l == *r),
+                _ => false,
+            },
+            Condition::Not(inner) => !inner.holds(value_of),
+            Condition::And(list) => list.iter().all(|c| c.holds(value_of)),
+            Condition::Or(list) => list.iter().any(|c| c.holds(value_of)),
+        }
+    }
+}
+
+/// A purpose or a role.
+#[derive(Clone, Debug)]
+pub struct Node {
+    pub name: String,
+    pub parent: Option<usize>,
+}
+
+#[derive(Clone, Debug)]
+pub struct Attribute {
+    pub role: usize,
+    pub name: String,
+    pub kind: Type,
+}
+
+#[derive(Clone, Debug)]
+pub struct User {
+    pub name: String,
+    pub role: usize,
+    pub values: Vec<(usize, Value)>,
+}
+
+#[derive(Clone, Debug)]
+pub struct CondRole {
+    pub name: String,
+    pub role: usize,
+    pub condition: Condition,
+}
+
+#[derive(Clone, Debug)]
+pub struct Grant {
+    pub purpose: usize,
+    pub cond_role: usize,
+}
+
+#[derive(Clone, Debug)]
+pub struct Label {
+    pub name: String,
+    pub allow: Vec<usize>,
+    pub deny: Vec<usize>,
+}
+
+#[derive(Clone, Copy, Debug, PartialEq, Eq)]
+pub enum Scheme {
+    None,
+    Table(usize),
+    Column,
+    Row,
+    Cell,
+}
+
+#[derive(Clone, Debug)]
+pub struct Column {
+    pub name: String,
+    pub kind: Type,
+    /// A label's place, used under scheme column.
+    pub label: usize,
+}
+
+#[derive(Clone, Debug)]
+pub struct Table {
+    pub name: String,
+    pub scheme: Scheme,
+    pub columns: Vec<Column>,
+}
+
+#[derive(Clone, Debug)]
+pub struct Row {
+    pub table: usize,
+    /// A label's place, used under scheme row.
+    pub label: usize,
+    /// A value and a label's place, the latter used under scheme cell.
+    pub cells: Vec<(Value, usize)>,
+}
+
+/// A line: a place in the list of its kind.
+#[derive(Clone, Copy, Debug)]
+pub enum Line {
+    Purpose(usize),
+    Role(usize),
+    Attr(usize),
+    User(usize),
+    CondRole(usize),
+    Grant(usize),
+    Label(usize),
+    Table(usize),
+    Row(usize),
+}
+
+#[derive(Clone, Debug, Default)]
+pub struct Model {
+    pub purposes: Vec<Node>,
+    pub roles: Vec<Node>,
+    pub attributes: Vec<Attribute>,
+    pub users: Vec<User>,
+    pub cond_roles: Vec<CondRole>,
+    pub grants: Vec<Grant>,
+    pub labels: Vec<Label>,
+    pub tables: Vec<Table>,
+    pub rows: Vec<Row>,
+    pub lines: Vec<Line>,
+}
+
+/// 01: "Ancestors and descendants include the purpose itself, and among roles the role itself."
+pub fn descends(nodes: &[Node], low: usize, high: usize) -> bool {
+    low == high || nodes[low].parent.is_some_and(|parent| descends(nodes, parent, high))
+}
+
+impl Model {
+    pub fn text(&self) -> Vec<u8> {
+        let mut text = String::new();
+        for &line in &self.lines {
+            text.push_str(&self.line(line));
+            text.push('\n');
+        }
+        text.into_bytes()
+    }
+
+    pub fn line(&self, line: Line) -> String {
+        let node = |word: &str, nodes: &[Node], place: usize| match nodes[place].parent {
+            None => format!("({word} {})", nodes[place].name),
+            Some(parent) => format!("({word} {} {})", nodes[place].name, nodes[parent].name),
+        };
+        match line {
+            Line::Purpose(place) => node("purpose", &self.purposes, place),
+            Line::Role(place) => node("role", &self.roles, place),
+            Line::Attr(place) => {
+                let attribute = &self.attributes[place];
+                format!("(attr {} {} {})", self.roles[attribute.role].name, attribute.name, attribute.kind)
+            }
+            Line::User(place) => {
+                let user = &self.users[place];
+                let mut line = format!("(user {} {}", user.name, self.roles[user.role].name);
+                for (attribute, value) in &user.values {
+                    line += &format!(" ({} {value})", self.attributes[*attribute].name);
+                }
+                line + ")"
+            }
+            Line::CondRole(place) => {
+                let cond_role = &self.cond_roles[place];
+                let role = &self.roles[cond_role.role].name;
+                format!("(cond-role {} {role} {})", cond_role.name, cond_role.condition)
+            }
+            Line::Grant(place) => {
+                let grant = &self.grants[place];
+                format!("(grant {} {})", self.purposes[grant.purpose].name, self.cond_roles[grant.cond_role].name)
+            }
+            Line::Label(place) => {
+                let label = &self.labels[place];
+                let set = |purposes: &[usize]| -> String {
+                    purposes.iter().map(|&p| format!(" {}", self.purposes[p].name)).collect()
+                };
+                format!("(label {} (allow{}) (deny{}))", label.name, set(&label.allow), set(&label.deny))
+            }
+            Line::Table(place) => {
+                let table = &self.tables[place];
+                let mut line = format!("(table {}", table.name);
+                line += &match table.scheme {
+                    Scheme::None => " none".to_string(),
+                    Scheme::Table(label) => format!(" table {}", self.labels[label].name),
+                    Scheme::Column => " column".to_string(),
+                    Scheme::Row => " row".to_string(),
+                    Scheme::Cell => " cell".to_string(),
+                };
+                for column in &table.columns {
+                    line += &match table.scheme {
+                        Scheme::Column => format!(" ({} {} {})", column.name, column.kind, self.labels[column.label].name),
+                        _ => format!(" ({} {})", column.name, column.kind),
+                    };
+                }
+                line + ")"
+            }
+            Line::Row(place) => {
+                let row = &self.rows[place];
+                let table = &self.tables[row.table];
+                let mut line = format!("(row {}", table.name);
+                if table.scheme == Scheme::Row {
+                    line += &format!(" {}", self.labels[row.label].name);
+                }
+                for (value, label) in &row.cells {
+                    line += &match table.scheme {
+                        Scheme::Cell => format!(" ({value} {})", self.labels[*label].name),
+                        _ => format!(" {value}"),
+                    };
+                }
+                line + ")"
+            }
+        }
+    }
+
+    /// The attributes defined at a role or above, by place.
+    pub fn attributes_of(&self, role: usize) -> Vec<usize> {
+        (0..self.attributes.len()).filter(|&a| descends(&self.roles, role, self.attributes[a].role)).collect()
+    }
+
+    /// 01: "P is open under it exactly when P descends from an allowed purpose, and is neither ancestor nor descendant of a denied one".
+    pub fn open(&self, label: usize, p: usize) -> bool {
+        let label = &self.labels[label];
+        let below = |low, high| descends(&self.purposes, low, high);
+        label.allow.iter().any(|&a| below(p, a)) && !label.deny.iter().any(|&d| below(p, d) || below(d, p))
+    }
+
+    pub fn purpose(&self, name: &str) -> Option<usize> {
+        self.purposes.iter().position(|purpose| purpose.name == name)
+    }
+
+    /// The label of a cell by its table's scheme; none under scheme none.
+    fn cell_label(&self, row: &Row, column: usize) -> Option<usize> {
+        let table = &self.tables[row.table];
+        match table.scheme {
+            Scheme::None => None,
+            Scheme::Table(label) => Some(label),
+            Scheme::Column => Some(table.columns[column].label),
+            Scheme::Row => Some(row.label),
+            Scheme::Cell => Some(row.cells[column].1),
+        }
+    }
+
+    /// 01: "A cell's label is its table's, column's, row's or its own, by scheme; the cell is closed when that label is."
+    pub fn cell_open(&self, row: &Row, column: usize, p: usize) -> bool {
+        self.cell_label(row, column).is_none_or(|label| self.open(label, p))
+    }
+
+    /// 01: "Scheme row withholds a row whose label is closed, even if no column is named. Scheme cell withholds a row with a closed named cell."
+    pub fn row_withheld(&self, row: &Row, named: &[&str], p: usize) -> bool {
+        let table = &self.tables[row.table];
+        match table.scheme {
+            Scheme::None | Scheme::Table(_) | Scheme::Column => false,
+            Scheme::Row => !self.open(row.label, p),
+            Scheme::Cell => (0..table.columns.len())
+                .any(|column| named.contains(&table.columns[column].name.as_str()) && !self.open(row.cells[column].1, p)),
+        }
+    }
+
+    /// Whether some grant lets a user form act for a purpose (only to aim queries with).
+    pub fn authorised(&self, user: usize, purpose: usize, clock: [u64; 3]) -> bool {
+        let user = &self.users[user];
+        let value_of = |name: &str| match name {
+            "year" => i64::try_from(clock[0]).ok().map(Value::Num),
+            "day" => i64::try_from(clock[1]).ok().map(Value::Num),
+            "hour" => i64::try_from(clock[2]).ok().map(Value::Num),
+            _ => user.values.iter().find(|(a, _)| self.attributes[*a].name == name).map(|(_, v)| v.clone()),
+        };
+        self.grants.iter().any(|grant| {
+            let cond_role = &self.cond_roles[grant.cond_role];
+            descends(&self.purposes, purpose, grant.purpose)
+                && descends(&self.roles, user.role, cond_role.role)
+                && cond_role.condition.holds(&value_of)
+        })
+    }
+}

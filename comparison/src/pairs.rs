@@ -1,0 +1,159 @@
+//! 01, "The no-difference claim": documents alike for a query give one outcome; others mostly don't.
+
+use crate::compare::{pair_difference, shrink, Buffers, Difference, Question, LONGEST_RESERVE};
+use crate::documents;
+use crate::gate::{self, Asked, Checked, Subject};
+use crate::model::*;
+use crate::queries::{self, Query};
+use crate::random::Random;
+use crate::texts::keep;
+
+#[derive(Default)]
+pub struct PairTally {
+    pub pairs: u64,
+    pub answered: u64,
+    /// By refusal number, 10 to 18.
+    pub refusals: [u64; 19],
+    pub unlike: u64,
+    pub told_apart: u64,
+}
+
+/// Cells by row and column.
+type Cells = Vec<(usize, usize)>;
+
+/// The cells that may have another value in a document alike for the query; none: a text that is no query.
+fn free_cells(model: &Model, query: Option<&Query>) -> Cells {
+    let mut free = Vec::new();
+    for (place, row) in model.rows.iter().enumerate() {
+        for column in 0..row.cells.len() {
+            if may_differ(model, query, row, column) {
+                free.push((place, column));
+            }
+        }
+    }
+    free
+}
+
+/// 01: "closed to the query's purpose, stands in a table or column that the query doesn't name, or lies in a row withheld from it".
+fn may_differ(model: &Model, query: Option<&Query>, row: &Row, column: usize) -> bool {
+    // "A text that isn't a query .. names nothing."
+    let Some(query) = query else { return true };
+    // "A purpose that the documents don't know has every cell closed to it."
+    let Some(purpose) = model.purpose(&query.purpose) else { return true };
+    let table = &model.tables[row.table];
+    let named = query.named();
+    !model.cell_open(row, column, purpose)
+        || table.name != query.table
+        || !named.contains(&table.columns[column].name.as_str())
+        || model.row_withheld(row, &named, purpose)
+}
+
+/// The model with some of those cells changed, each in its type; at least one, and the text within its bound.
+fn changed(random: &mut Random, model: &Model, cells: &Cells, all: bool) -> Option<Model> {
+    let mut other = model.clone();
+    let mut any = false;
+    let share = if all { 1 } else { *random.pick(&[1, 2, 4, 20]) };
+    for &(row, column) in cells {
+        if !random.chance(1, share) {
+            continue;
+        }
+        let kind = model.tables[model.rows[row].table].columns[column].kind;
+        let given = documents::value(random, kind);
+        any = any || given != model.rows[row].cells[column].0;
+        other.rows[row].cells[column].0 = given;
+    }
+    if any && other.text().len() <= 60_000 {
+        Some(other)
+    } else {
+        None
+    }
+}
+
+fn accepted(doc: &[u8]) -> bool {
+    matches!(gate::check(doc), Ok((Checked::Accepted { .. }, _)))
+}
+
+/// One pair alike, with its questions; and where the query is answered, one pair that isn't alike.
+pub fn run(random: &mut Random, subject: Subject, buffers: &mut Buffers, tally: &mut PairTally) -> Result<(), Difference> {
+    let (model, query, text, clock, alike) = loop {
+        let model = match random.below(100) {
+            0 => documents::at_bound(random).0,
+            _ => documents::ordinary(random),
+        };
+        let clock = queries::clock(random);
+        let mut query = queries::good(random, &model, clock);
+        let mut is_query = true;
+        match random.below(20) {
+            0..=11 => {}
+            12..=17 => queries::fault(random, &model, &mut query),
+            _ => is_query = false,
+        }
+        if !query.within_bounds() {
+            continue;
+        }
+        let text = if is_query { query.text() } else { queries::no_query(random, &model, &query) };
+        let query = if is_query { Some(query) } else { None };
+        let free = free_cells(&model, query.as_ref());
+        let Some(alike) = changed(random, &model, &free, false) else { continue };
+        if accepted(&model.text()) {
+            break (model, query, text, clock, alike);
+        }
+    };
+    let (doc, alike) = (model.text(), alike.text());
+    if !accepted(&alike) {
+        let question = Question { query: text, clock, buffer: 0 };
+        return Err(pair_difference(subject, "a document alike is refused".to_string(), &doc, &alike, &question));
+    }
+    tally.pairs += 1;
+    let put = |buffer: usize, buffers: &mut Buffers| -> Result<Asked, Difference> {
+        let question = Question { query: text.clone(), clock, buffer };
+        let (asked, equal) = buffers.ask_pair(subject, &doc, &alike, &question)?;
+        if equal {
+            return Ok(asked);
+        }
+        Err(smaller(subject, buffers, &doc, &alike, &question))
+    };
+    let asked = put(LONGEST_RESERVE, buffers)?;
+    match asked {
+        Asked::Answered { length, .. } => {
+            tally.answered += 1;
+            let length = length as usize;
+            put(length, buffers)?;
+            put(length - 1, buffers)?;
+            put(random.below(length + 10), buffers)?;
+        }
+        Asked::Refused(refused) => {
+            tally.refusals[refused.number as usize] += 1;
+            put(random.below(50), buffers)?;
+            return Ok(());
+        }
+    }
+    // Not alike: cells open to the query, named by it and not withheld.
+    let free = free_cells(&model, query.as_ref());
+    let bound: Cells = (0..model.rows.len())
+        .flat_map(|row| (0..model.rows[row].cells.len()).map(move |column| (row, column)))
+        .filter(|cell| !free.contains(cell))
+        .collect();
+    if let Some(unlike) = changed(random, &model, &bound, true) {
+        let question = Question { query: text.clone(), clock, buffer: LONGEST_RESERVE };
+        let (_, equal) = buffers.ask_pair(subject, &doc, &unlike.text(), &question)?;
+        tally.unlike += 1;
+        tally.told_apart += u64::from(!equal);
+    }
+    Ok(())
+}
+
+/// The same lines deleted from both while both are accepted and told apart.
+fn smaller(subject: Subject, buffers: &mut Buffers, doc: &[u8], alike: &[u8], question: &Question) -> Difference {
+    let others: Vec<Vec<u8>> = alike.split_inclusive(|&byte| byte == b'\n').map(|line| line.to_vec()).collect();
+    let lines: Vec<Vec<u8>> = doc.split_inclusive(|&byte| byte == b'\n').map(|line| line.to_vec()).collect();
+    // Lines are numbered in front while shrinking, so that the other document's are known.
+    let numbered: Vec<u8> = (0..lines.len()).flat_map(|place| format!("{place}\n").into_bytes()).collect();
+    let kept = shrink(&numbered, &mut |places| {
+        let places: Vec<usize> = places.iter().filter_map(|line| String::from_utf8_lossy(line).trim().parse().ok()).collect();
+        let one: Vec<u8> = places.iter().flat_map(|&place| lines[place].clone()).collect();
+        let two: Vec<u8> = places.iter().flat_map(|&place| others[place].clone()).collect();
+        accepted(&one) && accepted(&two) && matches!(buffers.ask_pair(subject, &one, &two, question), Ok((_, false)))
+    });
+    pair_difference(subject, "a pair alike told apart".to_string(), &keep(doc, &kept), &keep(alike, &kept), question)
+}

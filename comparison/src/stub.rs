@@ -1,0 +1,54 @@
+//! The two exports over the reference, to try the harness without the gate (feature `stub`).
+
+use reference::{Clock, Refusal, Source};
+use std::slice;
+
+unsafe fn refuse(refusal: Refusal, figures: *mut u64) -> u64 {
+    let figures = slice::from_raw_parts_mut(figures, 5);
+    let source = match refusal.source {
+        Source::Document => 1,
+        Source::Query => 2,
+    };
+    figures.copy_from_slice(&[source, refusal.start as u64, refusal.len as u64, 0, 0]);
+    u64::from(refusal.number)
+}
+
+/// # Safety
+/// As the C export: a document of that length, room for five figures.
+pub unsafe fn gate_check(doc: *const u8, doc_len: usize, figures: *mut u64) -> u64 {
+    match reference::check(slice::from_raw_parts(doc, doc_len)) {
+        Ok(accepted) => {
+            slice::from_raw_parts_mut(figures, 5).copy_from_slice(&[accepted.lines as u64, 60_021, 0, 0, 0]);
+            0
+        }
+        Err(refusal) => refuse(refusal, figures),
+    }
+}
+
+/// # Safety
+/// As the C export: texts and a buffer of those lengths, room for five figures.
+#[allow(clippy::too_many_arguments)]
+pub unsafe fn gate_ask(
+    doc: *const u8,
+    doc_len: usize,
+    query: *const u8,
+    query_len: usize,
+    year: u64,
+    day: u64,
+    hour: u64,
+    out: *mut u8,
+    out_len: usize,
+    figures: *mut u64,
+) -> u64 {
+    let doc = slice::from_raw_parts(doc, doc_len);
+    let query = slice::from_raw_parts(query, query_len);
+    let out = slice::from_raw_parts_mut(out, out_len);
+    match reference::ask(doc, query, Clock { year, day, hour }, out) {
+        Ok(a) => {
+            let given = [a.len, a.grant, a.passed, a.withheld, a.unmatched].map(|figure| figure as u64);
+            slice::from_raw_parts_mut(figures, 5).copy_from_slice(&given);
+            0
+        }
+        Err(refusal) => refuse(refusal, figures),
+    }
+}

@@ -1,0 +1,257 @@
+//! Random texts: checking and asking on both sides (01 (d), "a second implementation for random texts").
+
+use crate::compare::{check, repeats_no_column, shrink, Buffers, Difference, Question, LONGEST_RESERVE, ROOMY};
+use crate::damage;
+use crate::documents;
+use crate::gate::{Asked, Checked, Second};
+use crate::model::Model;
+use crate::queries;
+use crate::random::Random;
+use reference::Clock;
+
+/// Texts over this length get fewer questions, for the time they take.
+const LARGE: usize = 10_000;
+
+/// What a run has seen.
+#[derive(Default)]
+pub struct Tally {
+    pub texts: u64,
+    pub accepted: u64,
+    pub longest: usize,
+    pub queries: u64,
+    pub answered: u64,
+    pub asked: u64,
+    /// By refusal number.
+    pub refusals: [u64; 19],
+}
+
+impl Tally {
+    pub fn saw_check(&mut self, checked: Checked) {
+        match checked {
+            Checked::Accepted { .. } => self.accepted += 1,
+            Checked::Refused(refused) => self.refusals[refused.number as usize] += 1,
+        }
+    }
+
+    pub fn saw_ask(&mut self, asked: Asked) {
+        self.asked += 1;
+        if let Asked::Refused(refused) = asked {
+            self.refusals[refused.number as usize] += 1;
+        }
+    }
+}
+
+/// A document text, the model it was made from, and whether the text is valid by construction.
+struct Text {
+    model: Model,
+    doc: Vec<u8>,
+    valid: bool,
+}
+
+fn document(random: &mut Random) -> Text {
+    let mut bound = false;
+    let (model, mut valid) = match random.below(100) {
+        0..=5 => {
+            bound = true;
+            documents::at_bound(random)
+        }
+        6..=7 => (documents::large(random), true),
+        _ => (documents::ordinary(random), true),
+    };
+    let mut doc = model.text();
+    valid = valid && doc.len() <= 60_000;
+    match random.below(20) {
+        0..=7 => {}
+        8..=9 if !bound => {}
+        10 if !bound => {
+            doc = damage::noise(random);
+            valid = false;
+        }
+        11 if !bound => {
+            // Noise after lines that are right.
+            doc.extend(damage::noise(random));
+            valid = false;
+        }
+        kind if (12..=15).contains(&kind) || bound && (8..=15).contains(&kind) => {
+            doc.extend(documents::faulty_line(random, &model));
+            valid = false;
+        }
+        _ => {
+            for _ in 0..*random.pick(&[1, 1, 1, 2, 3]) {
+                damage::once(random, &mut doc);
+            }
+            valid = false;
+        }
+    }
+    Text { model, doc, valid }
+}
+
+/// A query text: mostly good, else with one or two faults, of a length at the bound, no query, or damaged.
+fn query(random: &mut Random, model: &Model, doc: &[u8], clock: Clock) -> Vec<u8> {
+    let share = if doc.len() > LARGE { 2 } else { 10 };
+    if random.chance(1, share) {
+        return queries::widest(random, model, clock).text();
+    }
+    let mut query = queries::good(random, model, clock);
+    match random.below(20) {
+        0..=8 => query.text(),
+        9..=13 => {
+            for _ in 0..*random.pick(&[1, 1, 2, 3]) {
+                queries::fault(random, model, &mut query);
+            }
+            query.text()
+        }
+        14 => {
+            let length = random.between(4095, 4097);
+            match queries::of_length(random, model, query.clone(), length) {
+                Some(long) => long.text(),
+                None => query.text(),
+            }
+        }
+        15 | 16 => queries::no_query(random, model, &query),
+        17 => damage::noise(random),
+        _ => {
+            let mut text = query.text();
+            if random.chance(1, 2) {
+                damage::word(random, &mut text, doc, 1);
+                return text;
+            }
+            for _ in 0..*random.pick(&[1, 1, 2]) {
+                damage::once(random, &mut text);
+            }
+            text
+        }
+    }
+}
+
+/// A run over texts: what the gate is compared with, the buffers, and what was seen.
+pub struct Run {
+    pub second: Second,
+    pub buffers: Buffers,
+    pub tally: Tally,
+}
+
+impl Run {
+    pub fn new(second: Second) -> Run {
+        Run { second, buffers: Buffers::new(), tally: Tally::default() }
+    }
+
+    /// One text: checked, then asked, and its own bytes the same afterwards.
+    pub fn text(&mut self, random: &mut Random) -> Result<(), Difference> {
+        let text = document(random);
+        let before = text.doc.clone();
+        self.tally.texts += 1;
+        self.tally.longest = self.tally.longest.max(text.doc.len());
+        let reserve = self.check(&text)?;
+        let questions = match (reserve, text.doc.len() > LARGE) {
+            (None, _) => 1,
+            (Some(_), true) => 2,
+            (Some(_), false) => 5,
+        };
+        for _ in 0..questions {
+            let clock = queries::clock(random);
+            let query = query(random, &text.model, &text.doc, clock);
+            self.query(random, &text.doc, &query, clock, reserve)?;
+        }
+        if before == text.doc {
+            Ok(())
+        } else {
+            Err(alone("the document's bytes were changed".to_string(), before, None, String::new()))
+        }
+    }
+
+    /// The reserve, where the text is accepted.
+    fn check(&mut self, text: &Text) -> Result<Option<usize>, Difference> {
+        let (checked, reserve) = check(self.second, &text.doc).map_err(|difference| smaller_check(self.second, difference))?;
+        self.tally.saw_check(checked);
+        match checked {
+            Checked::Accepted { .. } => Ok(Some(reserve)),
+            Checked::Refused(_) if text.valid => {
+                let what = "both refuse a document that the generator holds valid".to_string();
+                Err(alone(what, text.doc.clone(), None, format!("{checked:?}")))
+            }
+            Checked::Refused(_) => Ok(None),
+        }
+    }
+
+    /// One query with several buffers, most of them about as long as the answer.
+    fn query(&mut self, random: &mut Random, doc: &[u8], query: &[u8], clock: Clock, reserve: Option<usize>) -> Result<(), Difference> {
+        self.tally.queries += 1;
+        let mut question = Question { query: query.to_vec(), clock, buffer: LONGEST_RESERVE };
+        let mut asked = self.ask(doc, &question)?;
+        if matches!(asked, Asked::Refused(refused) if refused.number == 18) {
+            question.buffer = ROOMY;
+            asked = self.ask(doc, &question)?;
+        }
+        let Asked::Answered { length, .. } = asked else {
+            question.buffer = random.below(40);
+            return self.ask(doc, &question).map(|_| ());
+        };
+        self.tally.answered += 1;
+        let length = length as usize;
+        if repeats_no_column(query) && reserve.is_some_and(|reserve| length > reserve) {
+            return Err(self.smaller_reserve(doc, question));
+        }
+        let mut lengths = vec![length - 1, length];
+        if doc.len() <= LARGE {
+            lengths.extend([length + 1, 0, random.below(length)]);
+        }
+        for buffer in lengths {
+            question.buffer = buffer;
+            self.ask(doc, &question)?;
+        }
+        Ok(())
+    }
+
+    /// The lines that an answer longer than its reserve takes.
+    fn smaller_reserve(&mut self, doc: &[u8], question: Question) -> Difference {
+        let mut over = |doc: &[u8]| -> Option<String> {
+            let (checked, reserve) = check(self.second, doc).ok()?;
+            let asked = self.buffers.ask(self.second, doc, &question).ok()?;
+            match (checked, asked) {
+                (Checked::Accepted { .. }, Asked::Answered { length, .. }) if length > reserve as u64 => {
+                    Some(format!("reserve {reserve}, {asked:?}"))
+                }
+                _ => None,
+            }
+        };
+        let kept = shrink(doc, &mut |lines| over(&lines.concat()).is_some());
+        let doc = keep(doc, &kept);
+        let gate = over(&doc).unwrap_or_default();
+        alone("an answer longer than the reserve".to_string(), doc, Some(question), gate)
+    }
+
+    fn ask(&mut self, doc: &[u8], question: &Question) -> Result<Asked, Difference> {
+        match self.buffers.ask(self.second, doc, question) {
+            Ok(asked) => {
+                self.tally.saw_ask(asked);
+                Ok(asked)
+            }
+            Err(difference) => Err(smaller_ask(self.second, &mut self.buffers, difference)),
+        }
+    }
+}
+
+/// What the gate gave that is wrong by itself.
+fn alone(what: String, doc: Vec<u8>, question: Option<Question>, gate: String) -> Difference {
+    Difference { what, doc, alike: None, question, gate, second: String::new() }
+}
+
+fn smaller_check(second: Second, difference: Difference) -> Difference {
+    let kept = shrink(&difference.doc, &mut |lines| check(second, &lines.concat()).is_err());
+    let text = keep(&difference.doc, &kept);
+    check(second, &text).err().unwrap_or(difference)
+}
+
+fn smaller_ask(second: Second, buffers: &mut Buffers, difference: Difference) -> Difference {
+    let Some(question) = difference.question.clone() else { return difference };
+    let kept = shrink(&difference.doc, &mut |lines| buffers.ask(second, &lines.concat(), &question).is_err());
+    let text = keep(&difference.doc, &kept);
+    buffers.ask(second, &text, &question).err().unwrap_or(difference)
+}
+
+/// The lines of those places.
+pub fn keep(doc: &[u8], kept: &[usize]) -> Vec<u8> {
+    let lines: Vec<&[u8]> = doc.split_inclusive(|&byte| byte == b'\n').collect();
+    kept.iter().filter_map(|&place| lines.get(place)).copied().collect::<Vec<_>>().concat()
+}

@@ -1,0 +1,125 @@
+//! 01, "Asking": the numbers 1 to 18 in their order, then the answer.
+
+use crate::answer::{label_open, write, Answer, Request};
+use crate::check::read_document;
+use crate::clock::Clock;
+use crate::forms::Word;
+use crate::policy::{Labelling, Policy, User};
+use crate::query::{read_query, Query};
+use crate::refusal::{leftmost, of_query, Refusal};
+use crate::text::Span;
+
+/// 01, "Asking": "The earliest in this order whose condition holds is given, and there is no refusal when none holds."
+pub fn ask(doc: &[u8], query: &[u8], clock: Clock, out: &mut [u8]) -> Result<Answer, Refusal> {
+    let at_start = Span { start: 0, len: 0 };
+    let whole_query = Span { start: 0, len: query.len() };
+
+    // "1 to 9 as in checking".
+    let (policy, _) = read_document(doc)?;
+
+    // "10 clock out of range".
+    if !clock.in_range() {
+        return Err(of_query(10, at_start));
+    }
+
+    // "11 query not one form of the two shapes, or over a bound".
+    let Some(parsed) = read_query(query) else { return Err(of_query(11, whole_query)) };
+
+    // "12 user, role or purpose unknown", the leftmost of them.
+    if !policy.knows_user(parsed.user.text) {
+        return Err(of_query(12, parsed.user.span));
+    }
+    let Some(role) = policy.role(parsed.role.text) else { return Err(of_query(12, parsed.role.span)) };
+    let Some(purpose) = policy.purpose(parsed.purpose.text) else { return Err(of_query(12, parsed.purpose.span)) };
+
+    // "13 role not given to the user".
+    let Some(user) = policy.user_in_role(parsed.user.text, role) else { return Err(of_query(13, parsed.role.span)) };
+
+    // "14 purpose not authorised".
+    let Some(grant) = first_grant(&policy, user, purpose, clock) else {
+        return Err(of_query(14, parsed.purpose.span));
+    };
+
+    // "15 table or named column unknown".
+    let Some(table) = policy.table(parsed.table.text) else { return Err(of_query(15, parsed.table.span)) };
+    let named = parsed.named_columns();
+    if let Some(part) = leftmost(&unknown_columns(&policy, table, &named)) {
+        return Err(of_query(15, part));
+    }
+
+    // "16 wrong type in the condition".
+    if let Some(condition) = &parsed.condition {
+        let wrong = condition.wrong_types(&|name| {
+            column_place(&policy, table, name).map(|place| policy.tables[table].columns[place].kind)
+        });
+        if let Some(part) = leftmost(&wrong) {
+            return Err(of_query(16, part));
+        }
+    }
+
+    // "17 table or column closed".
+    if let Some(part) = leftmost(&closed_parts(&policy, &parsed, table, &named, purpose)) {
+        return Err(of_query(17, part));
+    }
+
+    // "18 answer longer than the lent buffer".
+    let places = |words: &[Word]| words.iter().filter_map(|word| column_place(&policy, table, word.text)).collect();
+    let request = Request {
+        purpose,
+        table,
+        selected: parsed.columns.as_ref().map(|columns| places(columns)),
+        named: places(&named),
+        condition: parsed.condition.as_ref(),
+    };
+    let written = write(&policy, &request);
+    let len = written.text.len();
+    let Some(room) = out.get_mut(..len) else { return Err(of_query(18, at_start)) };
+
+    // "An accepted answer fills the first bytes only".
+    room.copy_from_slice(&written.text);
+    Ok(Answer { len, grant, passed: written.passed, withheld: written.withheld, unmatched: written.unmatched })
+}
+
+/// 01: "the position, counted from 0, of the first grant that authorises it".
+fn first_grant(policy: &Policy, user: &User, purpose: usize, clock: Clock) -> Option<usize> {
+    policy.grants.iter().position(|grant| {
+        policy.tree.descends(purpose, grant.purpose) && belongs(policy, user, grant.cond_role, clock)
+    })
+}
+
+/// 01: "when ROLE descends from R and the condition holds for the user's values in ROLE".
+fn belongs(policy: &Policy, user: &User, cond_role: usize, clock: Clock) -> bool {
+    let Some(cond_role) = policy.cond_roles.get(cond_role) else { return false };
+    policy.role_descends(user.role, cond_role.role)
+        && cond_role.condition.holds(&|name| match clock.value(name) {
+            Some(value) => Some(value),
+            None => user.values.iter().find(|(attribute, _)| *attribute == name).map(|(_, value)| *value),
+        })
+}
+
+/// The place of a column of a table.
+fn column_place(policy: &Policy, table: usize, name: &[u8]) -> Option<usize> {
+    policy.tables[table].columns.iter().position(|column| column.name == name)
+}
+
+/// 01: "A query's condition is over T's columns only, clock names not included."
+fn unknown_columns(policy: &Policy, table: usize, named: &[Word]) -> Vec<Span> {
+    named.iter().filter(|word| column_place(policy, table, word.text).is_none()).map(|word| word.span).collect()
+}
+
+/// 01: "table label closed, or a named column's label closed, refuses the query".
+fn closed_parts(policy: &Policy, query: &Query, table: usize, named: &[Word], purpose: usize) -> Vec<Span> {
+    match policy.tables[table].labelling {
+        Labelling::Table(label) if !label_open(policy, label, purpose) => vec![query.table.span],
+        Labelling::Column => named
+            .iter()
+            .filter(|word| {
+                let column = column_place(policy, table, word.text);
+                let label = column.and_then(|place| policy.tables[table].columns[place].label);
+                label.is_some_and(|label| !label_open(policy, label, purpose))
+            })
+            .map(|word| word.span)
+            .collect(),
+        _ => Vec::new(),
+    }
+}

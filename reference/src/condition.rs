@@ -1,0 +1,141 @@
+//! 01: "A condition is a comparison, `(not c)`, or `and` or `or` over one or more conditions."
+
+use crate::forms::{given, word, Given, Type, Value, Word};
+use crate::text::{Item, Kind, Span};
+
+/// 01: "64 comparisons a condition".
+pub const MOST_COMPARISONS: usize = 64;
+
+/// 01: "Comparisons are `(eq A v)`, `ne`, `lt`, `le`, `gt`, `ge`".
+#[derive(Clone, Copy, Debug, PartialEq, Eq)]
+pub enum Operator {
+    Eq,
+    Ne,
+    Lt,
+    Le,
+    Gt,
+    Ge,
+}
+
+/// One comparison, with the places of its operator and value.
+#[derive(Clone, Debug)]
+pub struct Comparison<'a> {
+    pub operator: Operator,
+    pub operator_span: Span,
+    pub subject: Word<'a>,
+    pub value: Given<'a>,
+}
+
+/// A condition as it stands in a text.
+#[derive(Clone, Debug)]
+pub enum Condition<'a> {
+    Compare(Comparison<'a>),
+    Not(Box<Condition<'a>>),
+    And(Vec<Condition<'a>>),
+    Or(Vec<Condition<'a>>),
+}
+
+/// The operator that a keyword stands for.
+fn operator(keyword: &[u8]) -> Option<Operator> {
+    match keyword {
+        b"eq" => Some(Operator::Eq),
+        b"ne" => Some(Operator::Ne),
+        b"lt" => Some(Operator::Lt),
+        b"le" => Some(Operator::Le),
+        b"gt" => Some(Operator::Gt),
+        b"ge" => Some(Operator::Ge),
+        _ => None,
+    }
+}
+
+/// Reads one condition; the items nest at most 16 deep, so does this.
+pub fn read_condition<'a>(item: &Item<'a>) -> Option<Condition<'a>> {
+    let Kind::Bracket(items) = &item.kind else { return None };
+    let (head, rest) = items.split_first()?;
+    let Kind::Name(keyword) = head.kind else { return None };
+    match (keyword, rest) {
+        (b"not", [inner]) => Some(Condition::Not(Box::new(read_condition(inner)?))),
+        (b"and", list) => Some(Condition::And(read_conditions(list)?)),
+        (b"or", list) => Some(Condition::Or(read_conditions(list)?)),
+        (_, [subject, value]) => Some(Condition::Compare(Comparison {
+            operator: operator(keyword)?,
+            operator_span: head.span,
+            subject: word(subject)?,
+            value: given(value)?,
+        })),
+        _ => None,
+    }
+}
+
+/// 01: "over one or more conditions".
+fn read_conditions<'a>(items: &[Item<'a>]) -> Option<Vec<Condition<'a>>> {
+    if items.is_empty() {
+        return None;
+    }
+    items.iter().map(read_condition).collect()
+}
+
+impl<'a> Condition<'a> {
+    /// Every comparison, in the order of the text, evaluated or not.
+    pub fn comparisons(&self) -> Vec<&Comparison<'a>> {
+        match self {
+            Condition::Compare(comparison) => vec![comparison],
+            Condition::Not(inner) => inner.comparisons(),
+            Condition::And(list) | Condition::Or(list) => list.iter().flat_map(|c| c.comparisons()).collect(),
+        }
+    }
+
+    /// 01: "64 comparisons a condition".
+    pub fn over_bound(&self) -> bool {
+        self.comparisons().len() > MOST_COMPARISONS
+    }
+
+    /// 01, 8 and 16: "names take only `eq` and `ne`"; "for 8 the operator or the value".
+    pub fn wrong_types(&self, type_of: &dyn Fn(&[u8]) -> Option<Type>) -> Vec<Span> {
+        let mut wrong = Vec::new();
+        for comparison in self.comparisons() {
+            let Some(kind) = type_of(comparison.subject.text) else { continue };
+            let equality = matches!(comparison.operator, Operator::Eq | Operator::Ne);
+            if kind == Type::Name && !equality {
+                wrong.push(comparison.operator_span);
+            }
+            if comparison.value.value.kind() != kind {
+                wrong.push(comparison.value.span);
+            }
+        }
+        wrong
+    }
+
+    /// Whether the condition holds for the values that `value_of` gives to its names.
+    pub fn holds(&self, value_of: &dyn Fn(&[u8]) -> Option<Value<'a>>) -> bool {
+        match self {
+            Condition::Compare(comparison) => match value_of(comparison.subject.text) {
+                Some(left) => compare(comparison.operator, left, comparison.value.value),
+                None => false,
+            },
+            Condition::Not(inner) => !inner.holds(value_of),
+            Condition::And(list) => list.iter().all(|c| c.holds(value_of)),
+            Condition::Or(list) => list.iter().any(|c| c.holds(value_of)),
+        }
+    }
+}
+
+/// The meaning of the six operators; mixed types never come here (8 and 16).
+fn compare(operator: Operator, left: Value, right: Value) -> bool {
+    match (left, right) {
+        (Value::Number(l), Value::Number(r)) => match operator {
+            Operator::Eq => l == r,
+            Operator::Ne => l != r,
+            Operator::Lt => l < r,
+            Operator::Le => l <= r,
+            Operator::Gt => l > r,
+            Operator::Ge => l >= r,
+        },
+        (Value::Name(l), Value::Name(r)) => match operator {
+            Operator::Eq => l == r,
+            Operator::Ne => l != r,
+            _ => false,
+        },
+        _ => false,
+    }
+}

@@ -1,0 +1,21 @@
+//! A second, plain implementation of 01-scope.md, "The purpose gate".
+
+mod answer;
+mod ask;
+mod check;
+mod clock;
+mod condition;
+mod forms;
+mod policy;
+pub mod program;
+pub mod purpose;
+mod query;
+mod refusal;
+mod rules;
+mod text;
+
+pub use answer::Answer;
+pub use ask::ask;
+pub use check::{check, Accepted};
+pub use clock::Clock;
+pub use refusal::{Refusal, Source};

@@ -1,0 +1,53 @@
+//! 01, "Sample session": the asking program, over any input and output.
+
+use std::io::{self, BufRead, Write};
+
+use crate::ask::ask;
+use crate::check::check;
+use crate::clock::{read_clock_line, Clock};
+use crate::refusal::{Refusal, Source};
+
+/// 01: "Its answer buffer is 60,021 bytes."
+pub const BUFFER: usize = 60_021;
+
+/// 01: "its standard input is a line `(clock YEAR DAY HOUR)`, then queries".
+pub fn run(doc: &[u8], mut input: impl BufRead, mut output: impl Write) -> io::Result<()> {
+    // "for a refused document one such line with `document`, and stops".
+    if let Err(refusal) = check(doc) {
+        print_refusal(&mut output, refusal)?;
+        return output.flush();
+    }
+    let Some(first) = read_one_line(&mut input)? else { return output.flush() };
+    // "A first line not of that form gives every query 10": year 0 is out of range.
+    let clock = read_clock_line(&first).unwrap_or(Clock { year: 0, day: 0, hour: 0 });
+    let mut buffer = vec![0; BUFFER];
+    while let Some(query) = read_one_line(&mut input)? {
+        match ask(doc, &query, clock, &mut buffer) {
+            Ok(answer) => output.write_all(&buffer[..answer.len])?,
+            Err(refusal) => print_refusal(&mut output, refusal)?,
+        }
+        output.flush()?;
+    }
+    Ok(())
+}
+
+/// "The last line may lack its line feed."
+fn read_one_line(input: &mut impl BufRead) -> io::Result<Option<Vec<u8>>> {
+    let mut line = Vec::new();
+    if input.read_until(b'\n', &mut line)? == 0 {
+        return Ok(None);
+    }
+    if line.last() == Some(&b'\n') {
+        line.pop();
+    }
+    Ok(Some(line))
+}
+
+/// "`(refused NUMBER query START LENGTH)`, START in bytes from 0, LENGTH in bytes".
+fn print_refusal(output: &mut impl Write, refusal: Refusal) -> io::Result<()> {
+    let source = match refusal.source {
+        Source::Document => "document",
+        Source::Query => "query",
+    };
+    writeln!(output, "(refused {} {} {} {})", refusal.number, source, refusal.start, refusal.len)
+}

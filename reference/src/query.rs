@@ -1,0 +1,67 @@
+//! 01, "Queries": a query text as one of the two shapes.
+
+use crate::condition::{read_condition, Condition};
+use crate::forms::{bracket, word, Word};
+use crate::rules::MOST_COLUMNS;
+use crate::text::{read_form, Item, Kind};
+
+/// 01: "query 4,096" bytes.
+pub const LONGEST_QUERY: usize = 4_096;
+
+/// A query; `columns` is there for a select and not for a count.
+#[derive(Debug)]
+pub struct Query<'a> {
+    pub user: Word<'a>,
+    pub role: Word<'a>,
+    pub purpose: Word<'a>,
+    pub table: Word<'a>,
+    pub columns: Option<Vec<Word<'a>>>,
+    pub condition: Option<Condition<'a>>,
+}
+
+/// 01, 11: "query not one form of the two shapes, or over a bound" gives none.
+pub fn read_query(text: &[u8]) -> Option<Query<'_>> {
+    if text.len() > LONGEST_QUERY {
+        return None;
+    }
+    let items = read_form(text, 0)?;
+    let [head, user, role, purpose, table, rest @ ..] = &items[..] else { return None };
+    let Kind::Name(keyword) = head.kind else { return None };
+    let (columns, rest) = match keyword {
+        b"select" => {
+            let (columns, rest) = rest.split_first()?;
+            (Some(selected(columns)?), rest)
+        }
+        b"count" => (None, rest),
+        _ => return None,
+    };
+    let condition = match rest {
+        [] => None,
+        [condition] => Some(read_condition(condition)?),
+        _ => return None,
+    };
+    if condition.as_ref().is_some_and(|c| c.over_bound()) {
+        return None;
+    }
+    Some(Query { user: word(user)?, role: word(role)?, purpose: word(purpose)?, table: word(table)?, columns, condition })
+}
+
+/// 01: "1 to 16 columns, repeats allowed".
+fn selected<'a>(item: &Item<'a>) -> Option<Vec<Word<'a>>> {
+    let columns = bracket(item)?;
+    if columns.is_empty() || columns.len() > MOST_COLUMNS {
+        return None;
+    }
+    columns.iter().map(word).collect()
+}
+
+impl<'a> Query<'a> {
+    /// 01: "Named columns are those selected and every one in the condition, evaluated or not."
+    pub fn named_columns(&self) -> Vec<Word<'a>> {
+        let mut named = self.columns.clone().unwrap_or_default();
+        if let Some(condition) = &self.condition {
+            named.extend(condition.comparisons().iter().map(|comparison| comparison.subject));
+        }
+        named
+    }
+}

@@ -1,0 +1,34 @@
+//! 01, "Asking": "A refusal hands back its number and a part of the document or of the query".
+
+use crate::text::Span;
+
+/// The text that holds the part.
+#[derive(Clone, Copy, Debug, PartialEq, Eq)]
+pub enum Source {
+    Document,
+    Query,
+}
+
+/// A number of 01 and a part, in bytes from 0.
+#[derive(Clone, Copy, Debug, PartialEq, Eq)]
+pub struct Refusal {
+    pub number: u32,
+    pub source: Source,
+    pub start: usize,
+    pub len: usize,
+}
+
+/// A refusal whose part stands in the document (01, numbers 1 to 9).
+pub fn of_document(number: u32, part: Span) -> Refusal {
+    Refusal { number, source: Source::Document, start: part.start, len: part.len }
+}
+
+/// A refusal whose part stands in the query (01, numbers 10 to 18).
+pub fn of_query(number: u32, part: Span) -> Refusal {
+    Refusal { number, source: Source::Query, start: part.start, len: part.len }
+}
+
+/// 01: "leftmost offending item".
+pub fn leftmost(offending: &[Span]) -> Option<Span> {
+    offending.iter().copied().min_by_key(|part| part.start)
+}

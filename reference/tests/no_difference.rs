@@ -1,0 +1,66 @@
+//! 01, "The no-difference claim": pairs of documents alike for a query, chosen by hand.
+
+mod common;
+use common::*;
+use reference::{ask, Answer, Refusal};
+
+const TABLES: &str = "\
+(table n none (a num) (b name))
+(row n 1 x)
+(table t table nomid (a num))
+(row t 2)
+(table c column (a num open) (b num nomid))
+(row c 3 4)
+(table r row (a num))
+(row r shut 5)
+(row r nomid 6)
+(row r open 7)
+(table e cell (a num) (b name))
+(row e (8 nomid) (y open))
+(row e (9 open) (z shut))
+";
+
+/// What is handed back and every byte of a buffer of 200.
+fn outcome(doc: &str, query: &str) -> (Result<Answer, Refusal>, Vec<u8>) {
+    let mut out = vec![b'#'; 200];
+    let result = ask(doc.as_bytes(), query.as_bytes(), CLOCK, &mut out);
+    if let Err(refusal) = result {
+        assert!(refusal.number >= 10, "{refusal:?}");
+    }
+    (result, out)
+}
+
+#[test]
+fn exempt_cells_make_no_difference() {
+    let doc = format!("{BASE}{TABLES}");
+    for (line, other, queries) in [
+        // A column or a table that the query doesn't name, though open.
+        ("(row n 1 x)", "(row n 1 longer)", &["(select u r leaf n (a))", "(count u r leaf n)", "(count u r leaf n (gt a 0))", "(count u r leaf r)", "(select u r leaf e (a b))"][..]),
+        // A table closed to the purpose: 17, 16 and 15 alike.
+        ("(row t 2)", "(row t -22)", &["(select u r leaf t (a))", "(count u r mid t (eq a 2))", "(count u r root t (eq a x))", "(count u r leaf t (eq b 2))"][..]),
+        // A column closed to the purpose, named or not.
+        ("(row c 3 4)", "(row c 3 44)", &["(select u r leaf c (a))", "(select u r leaf c (b))", "(select u r leaf c (a) (or (gt a 0) (eq b 4)))", "(count u r leaf c)"][..]),
+        // Rows withheld.
+        ("(row r shut 5)", "(row r shut 55)", &["(select u r side r (a))", "(count u r leaf r)", "(count u r side r (eq a 5))"][..]),
+        ("(row r nomid 6)", "(row r nomid 7)", &["(select u r leaf r (a) (eq a 7))", "(count u r root r (eq a 6))"][..]),
+        // A closed cell, and an open one beside it in a row withheld.
+        ("(row e (8 nomid) (y open))", "(row e (88 nomid) (y open))", &["(select u r leaf e (b))", "(select u r leaf e (a))", "(count u r leaf e (eq a 8))", "(count u r leaf e)"][..]),
+        ("(row e (8 nomid) (y open))", "(row e (8 nomid) (Y2 open))", &["(select u r leaf e (a b))", "(select u r leaf e (b) (gt a 0))", "(count u r leaf e (or (eq b y) (eq a 8)))"][..]),
+        // Texts that are no query, and purposes unknown.
+        ("(row n 1 x)", "(row n 10 y)", &["(select", "", "(count u r nosuch n)"][..]),
+    ] {
+        let changed = doc.replace(line, other);
+        assert_ne!(doc, changed);
+        for query in queries {
+            assert_eq!(outcome(&doc, query), outcome(&changed, query), "{query}");
+        }
+    }
+}
+
+#[test]
+fn open_cells_do_make_a_difference() {
+    // So that the test above isn't empty.
+    let doc = format!("{BASE}{TABLES}");
+    let changed = doc.replace("(row r nomid 6)", "(row r nomid 66)");
+    assert_ne!(outcome(&doc, "(select u r side r (a))"), outcome(&changed, "(select u r side r (a))"));
+}
