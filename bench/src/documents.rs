@@ -1,0 +1,240 @@
+//! The documents and queries that are measured: one kind of document for each scheme, grown by its rows.
+
+/// The five schemes of a table.
+#[derive(Clone, Copy, Debug, PartialEq, Eq)]
+enum Scheme {
+    None,
+    Table,
+    Column,
+    Row,
+    Cell,
+}
+
+const SCHEMES: [Scheme; 5] = [Scheme::None, Scheme::Table, Scheme::Column, Scheme::Row, Scheme::Cell];
+
+/// Bytes of the documents; 60,000 is the longest that is taken.
+const SIZES: [(&str, usize); 3] = [("15", 15_000), ("30", 30_000), ("60", 60_000)];
+
+/// Rows of the main table; the second table has the rest of the 1,024.
+const MOST_ROWS: usize = 1_020;
+
+pub const CLOCK: (u64, u64, u64) = (2028, 366, 10);
+
+/// Two columns, two comparisons; the purpose is authorised by the third grant.
+const SELECT: &str = "(select ana desk post sub (who due) (and (gt due 5000) (ne town Ulm)))";
+const COUNT: &str = "(count ana desk post sub (and (gt due 5000) (ne town Ulm)))";
+
+impl Scheme {
+    fn word(self) -> &'static str {
+        match self {
+            Scheme::None => "none",
+            Scheme::Table => "table",
+            Scheme::Column => "column",
+            Scheme::Row => "row",
+            Scheme::Cell => "cell",
+        }
+    }
+}
+
+/// A repeatable sequence of numbers.
+struct Sequence(u64);
+
+impl Sequence {
+    fn below(&mut self, bound: u64) -> u64 {
+        self.0 ^= self.0 << 13;
+        self.0 ^= self.0 >> 7;
+        self.0 ^= self.0 << 17;
+        (self.0 >> 11) % bound
+    }
+}
+
+/// Purposes, roles, attributes, users, conditional roles, grants and labels, the same in each document.
+const POLICY: &str = "\
+(purpose all)
+(purpose bill all)
+(purpose invoice bill)
+(purpose remind bill)
+(purpose ads all)
+(purpose post ads)
+(purpose mail ads)
+(purpose phone ads)
+(purpose care all)
+(purpose repair care)
+(purpose survey care)
+(purpose audit all)
+(role staff)
+(role desk staff)
+(role night desk)
+(role clerk staff)
+(attr staff level num)
+(attr desk site name)
+(attr clerk grade num)
+(user ana desk (level 5) (site north))
+(user bo desk (level 3) (site south))
+(user cy night (level 7) (site north))
+(user dee clerk (level 4) (grade 2))
+(user ana clerk (level 5) (grade 3))
+(user eli staff (level 1))
+(cond-role senior staff (ge level 5))
+(cond-role north desk (and (eq site north) (lt hour 17)))
+(cond-role daytime staff (and (ge hour 8) (le hour 18) (not (lt level 2))))
+(cond-role graded clerk (or (gt grade 2) (ge level 6)))
+(grant bill graded)
+(grant care daytime)
+(grant ads north)
+(grant audit senior)
+(grant all graded)
+(label free (allow all) (deny))
+(label noads (allow all) (deny ads))
+(label onlybill (allow bill) (deny))
+(label adsonly (allow ads) (deny phone))
+(label nophone (allow all) (deny phone))
+(label shut (allow) (deny))
+(label nobill (allow all) (deny bill))
+(label caring (allow care audit) (deny survey))
+";
+
+const TOWNS: [&str; 8] = ["Ulm", "Bern", "Graz", "Oslo", "Kiel", "Lund", "Metz", "Pisa"];
+/// Under the purpose `post` these are open ..
+const OPEN: [&str; 4] = ["free", "adsonly", "nophone", "nobill"];
+/// .. and these are closed.
+const CLOSED: [&str; 4] = ["noads", "onlybill", "shut", "caring"];
+/// The columns: name, type and, under scheme column, label. Those that the queries name are open.
+const COLUMNS: [(&str, &str, &str); 6] = [
+    ("who", "name", "free"),
+    ("due", "num", "adsonly"),
+    ("town", "name", "nophone"),
+    ("since", "num", "noads"),
+    ("plan", "name", "onlybill"),
+    ("visits", "num", "shut"),
+];
+
+fn table_line(scheme: Scheme) -> String {
+    let mut line = format!("(table sub {}", scheme.word());
+    if scheme == Scheme::Table {
+        line.push_str(" nophone");
+    }
+    for (name, kind, label) in COLUMNS {
+        if scheme == Scheme::Column {
+            line.push_str(&format!(" ({name} {kind} {label})"));
+        } else {
+            line.push_str(&format!(" ({name} {kind})"));
+        }
+    }
+    line.push_str(")\n");
+    line
+}
+
+/// A label: one in `one_in` closed.
+fn label(sequence: &mut Sequence, one_in: u64) -> &'static str {
+    let place = sequence.below(4) as usize;
+    if sequence.below(one_in) == 0 {
+        CLOSED[place]
+    } else {
+        OPEN[place]
+    }
+}
+
+fn row_line(scheme: Scheme, sequence: &mut Sequence, number: usize) -> String {
+    let values = [
+        format!("Subscriber-{number:04}"),
+        format!("{}", sequence.below(10_000)),
+        TOWNS[sequence.below(8) as usize].to_string(),
+        format!("{}", 19_900_000 + sequence.below(300_000)),
+        format!("plan-{}", sequence.below(40)),
+        format!("{}", sequence.below(2_000) as i64 - 200),
+    ];
+    let mut line = String::from("(row sub");
+    if scheme == Scheme::Row {
+        line.push_str(&format!(" {}", label(sequence, 4)));
+    }
+    for value in values {
+        if scheme == Scheme::Cell {
+            line.push_str(&format!(" ({value} {})", label(sequence, 8)));
+        } else {
+            line.push_str(&format!(" {value}"));
+        }
+    }
+    line.push_str(")\n");
+    line
+}
+
+/// A document, the two queries that it is asked with, and what it is called.
+pub struct Case {
+    pub scheme: &'static str,
+    pub size: &'static str,
+    pub text: Vec<u8>,
+    pub select: String,
+    pub count: String,
+}
+
+impl Case {
+    /// How many row lines it has.
+    pub fn rows(&self) -> usize {
+        self.text.split(|&byte| byte == b'\n').filter(|line| line.starts_with(b"(row ")).count()
+    }
+}
+
+/// The document of a scheme with at most so many bytes, and as many rows as fit.
+fn document(scheme: Scheme, bytes: usize) -> Vec<u8> {
+    let mut text = String::from(POLICY);
+    text.push_str("(table sites none (site name) (seats num))\n");
+    text.push_str("(row sites north 14)\n(row sites south 9)\n");
+    text.push_str(&table_line(scheme));
+    let mut sequence = Sequence(0x9e37_79b9_7f4a_7c15);
+    for number in 0..MOST_ROWS {
+        let line = row_line(scheme, &mut sequence, number);
+        if text.len() + line.len() > bytes {
+            break;
+        }
+        text.push_str(&line);
+    }
+    text.into_bytes()
+}
+
+/// The fifteen cases of the table: five schemes, three sizes.
+pub fn cases() -> Vec<Case> {
+    let mut cases = Vec::new();
+    for scheme in SCHEMES {
+        for (size, bytes) in SIZES {
+            cases.push(Case { scheme: scheme.word(), size, text: document(scheme, bytes), select: SELECT.into(), count: COUNT.into() });
+        }
+    }
+    cases
+}
+
+/// A case that makes lookups dear: 64 labels of 24 bytes that differ in the last two, each of 16 cells in a row with the last.
+pub fn dear_lookups() -> Case {
+    let mut text = String::from("(purpose all)\n(role desk)\n(user ana desk)\n(cond-role any desk (ge hour 0))\n(grant all any)\n");
+    for number in 0..64 {
+        text.push_str(&format!("(label label-with-a-long-name{number:02} (allow all) (deny))\n"));
+    }
+    text.push_str("(table sub cell");
+    for column in 0..16 {
+        text.push_str(&format!(" (c{column:02} num)"));
+    }
+    text.push_str(")\n");
+    let row = format!("(row sub{})\n", " (1 label-with-a-long-name63)".repeat(16));
+    while text.len() + row.len() <= 60_000 {
+        text.push_str(&row);
+    }
+    Case {
+        scheme: "dear",
+        size: "60",
+        text: text.into_bytes(),
+        select: "(select ana desk all sub (c00 c01) (and (gt c14 0) (ne c15 7)))".into(),
+        count: "(count ana desk all sub (and (gt c14 0) (ne c15 7)))".into(),
+    }
+}
+
+/// A full document asked with a full condition: 64 comparisons, which hold of most rows.
+pub fn full_condition() -> Case {
+    let compared: String = (0..64).map(|number| format!(" (ne visits {})", 3_000 + number)).collect();
+    Case {
+        scheme: "full",
+        size: "60",
+        text: document(Scheme::None, 60_000),
+        select: format!("(select ana desk post sub (who due) (and{compared}))"),
+        count: format!("(count ana desk post sub (and{compared}))"),
+    }
+}

@@ -1,0 +1,98 @@
+//! The table: times, ratios of the same run, goals and noise.
+
+use crate::documents::Case;
+use crate::{Measured, Samples, CALLS};
+
+/// The largest of some ratios, and of which row.
+struct Largest(f64, String);
+
+impl Largest {
+    fn new() -> Largest {
+        Largest(0.0, String::new())
+    }
+
+    fn see(&mut self, ratio: f64, row: &str) {
+        if ratio > self.0 {
+            *self = Largest(ratio, row.to_string());
+        }
+    }
+
+    fn say(&self, goal: f64, what: &str) {
+        let verdict = if self.0 <= goal { "met" } else { "missed" };
+        println!("{what}: at most {goal:.1} wanted, largest {:.2} ({}): {verdict}", self.0, self.1);
+    }
+}
+
+/// The time of a document over that of the one half its size, where there is one.
+fn growth(cases: &[Case], measured: &[Measured], place: usize, time: impl Fn(&Measured) -> f64) -> Option<f64> {
+    let before = place.checked_sub(1)?;
+    if cases[before].scheme == cases[place].scheme {
+        Some(time(&measured[place]) / time(&measured[before]))
+    } else {
+        None
+    }
+}
+
+fn noise(name: &str, samples: &[&Samples]) {
+    let mut spreads: Vec<(f64, f64)> = samples.iter().map(|times| times.spread()).collect();
+    spreads.sort_by(|a, b| a.1.total_cmp(&b.1));
+    let middle = spreads[spreads.len() / 2];
+    let worst = spreads[spreads.len() - 1];
+    println!(
+        "  {name:10} median {:.2}, 90th {:.2} times the 10th percentile (the middle row); at worst {:.2} and {:.2}",
+        middle.0, middle.1, worst.0, worst.1
+    );
+}
+
+pub fn print(cases: &[Case], measured: &[Measured], turns: usize, in_a_row: usize) {
+    println!("Microseconds a call, 10th percentile of {} runs each ({turns} turns of {in_a_row}, all kinds in each turn; full and dear: a tenth).", turns * in_a_row);
+    println!("SQLite: the loading of the rows beside check, the query alone beside select and count. Growth: over the row of half its size.");
+    println!("bytes: one pass of two byte classes over the same text; nine: the same with nine classes.");
+    println!("full: scheme none, a condition of 64 comparisons. dear: made to be bad for lookups (64 labels alike but for the last two of 24 bytes).\n");
+    println!(
+        "{:7}{:>7}{:>6} {:7}{:>9}{:>10}{:>8}{:>8}{:>9}{:>10}{:>9}{:>8}{:>10}{:>8}",
+        "scheme", "bytes", "rows", "call", "gate", "reference", "bytes", "nine", "SQLite", "gate/ref", "g/bytes", "g/nine", "g/SQLite", "growth"
+    );
+    let (mut by_reference, mut by_pass, mut by_nine, mut grown) = (Largest::new(), Largest::new(), Largest::new(), Largest::new());
+    for (place, (case, times)) in cases.iter().zip(measured).enumerate() {
+        for (at, call) in CALLS.into_iter().enumerate() {
+            let row = format!("{} {} KB {}", case.scheme, case.size, call.word());
+            let this = &times.calls[at];
+            let (gate, reference, sqlite) = (this.gate.time(), this.reference.time(), this.sqlite.time());
+            let (pass, nine) = (times.pass.time(), times.pass_nine.time());
+            let growth = growth(cases, measured, place, |other| other.calls[at].gate.time());
+            if case.scheme != "dear" && case.scheme != "full" {
+                by_reference.see(gate / reference, &row);
+                if case.size == "60" {
+                    by_pass.see(gate / pass, &row);
+                    by_nine.see(gate / nine, &row);
+                }
+                grown.see(growth.unwrap_or(0.0), &row);
+            }
+            println!(
+                "{:7}{:>7}{:>6} {:7}{gate:>9.1}{reference:>10.1}{pass:>8.1}{nine:>8.1}{sqlite:>9.1}{:>10.2}{:>9.2}{:>8.2}{:>10.2}{:>8}",
+                case.scheme,
+                case.text.len(),
+                case.rows(),
+                call.word(),
+                gate / reference,
+                gate / pass,
+                gate / nine,
+                gate / sqlite,
+                growth.map(|ratio| format!("{ratio:.2}")).unwrap_or_default(),
+            );
+        }
+    }
+    println!("\nGoals (the rows full and dear apart)");
+    by_reference.say(1.0, "gate/reference");
+    by_pass.say(5.0, "gate/bytes of full documents");
+    by_nine.say(5.0, "gate/nine of full documents");
+    grown.say(2.2, "growth where the text doubles");
+    println!("\nNoise: spread of the runs");
+    let all = |choose: fn(&Measured) -> Vec<&Samples>| measured.iter().flat_map(choose).collect::<Vec<_>>();
+    noise("gate", &all(|times| times.calls.iter().map(|call| &call.gate).collect()));
+    noise("reference", &all(|times| times.calls.iter().map(|call| &call.reference).collect()));
+    noise("SQLite", &all(|times| times.calls.iter().map(|call| &call.sqlite).collect()));
+    noise("bytes", &all(|times| vec![&times.pass]));
+    noise("nine", &all(|times| vec![&times.pass_nine]));
+}

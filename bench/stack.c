@@ -1,0 +1,55 @@
+/* How deep gate_check and gate_ask go: the call runs on a stack that was painted before, and the paint that is left is counted.
+ *   stack check DOCUMENT | stack ask DOCUMENT QUERY      prints the outcome's number and the bytes of stack that were written */
+#include <pthread.h>
+#include <stdint.h>
+#include <stdio.h>
+#include <stdlib.h>
+#include <string.h>
+#include <sys/mman.h>
+
+uint64_t gate_check(const uint8_t *doc, size_t doc_len, uint64_t *figures);
+uint64_t gate_ask(const uint8_t *doc, size_t doc_len, const uint8_t *query, size_t query_len, uint64_t year, uint64_t day,
+                  uint64_t hour, uint8_t *out, size_t out_len, uint64_t *figures);
+
+enum { ROOM = 4 << 20, PAINT = 0xa5 };
+static uint8_t doc[1 << 20], query[1 << 20], out[60021];
+static size_t doc_len, query_len;
+static uint64_t number, figures[5];
+
+static size_t read_whole(const char *path, uint8_t *into, size_t room) {
+    FILE *file = fopen(path, "rb");
+    if (!file) { perror(path); exit(2); }
+    size_t len = fread(into, 1, room, file);
+    fclose(file);
+    return len;
+}
+static void *nothing(void *unused) { return unused; }
+static void *check(void *unused) { number = gate_check(doc, doc_len, figures); return unused; }
+static void *ask(void *unused) {
+    number = gate_ask(doc, doc_len, query, query_len, 2028, 366, 10, out, sizeof out, figures);
+    return unused;
+}
+static size_t written(void *(*call)(void *)) {
+    uint8_t *stack = mmap(0, ROOM, PROT_READ | PROT_WRITE, MAP_PRIVATE | MAP_ANONYMOUS, -1, 0);
+    memset(stack, PAINT, ROOM);
+    pthread_attr_t attributes;
+    pthread_t thread;
+    pthread_attr_init(&attributes);
+    pthread_attr_setstack(&attributes, stack, ROOM);
+    pthread_create(&thread, &attributes, call, 0);
+    pthread_join(thread, 0);
+    size_t left = 0;
+    while (left < ROOM && stack[left] == PAINT) left++;
+    munmap(stack, ROOM);
+    return ROOM - left;
+}
+int main(int count, char **words) {
+    if (count < 3) return 2;
+    doc_len = read_whole(words[2], doc, sizeof doc);
+    if (count > 3) query_len = read_whole(words[3], query, sizeof query);
+    written(nothing);
+    size_t thread_itself = written(nothing);
+    size_t deepest = written(count > 3 ? ask : check);
+    printf("%s: %llu, %zu bytes of stack (a thread itself: %zu)\n", words[1], (unsigned long long)number, deepest - thread_itself, thread_itself);
+    return 0;
+}

@@ -1,0 +1,202 @@
+/* A host in C: it lends texts and a buffer to the gate, and prints what it gets back. From the root of the repository:
+ *     rt staticlib gate
+ *     cc -std=c11 -I include -o host examples/host.c target/staticlib/libgate.a && ./host
+ * examples/host.expected is what it prints. examples/host.rs is the same in Rust.
+ */
+#include <inttypes.h>
+#include <stdio.h>
+#include <stdlib.h>
+#include <string.h>
+
+#include "gate.h"
+
+/* A text as the gate takes it. */
+struct text {
+    const uint8_t *bytes;
+    size_t len;
+};
+
+#define POLICY_BEFORE_BO                                        \
+    "(purpose all)\n"                                           \
+    "(purpose bill all)\n"                                      \
+    "(purpose ads all)\n"                                       \
+    "(purpose post ads)\n"                                      \
+    "(role desk)\n"                                             \
+    "(attr desk level num)\n"                                   \
+    "(user ana desk (level 5))\n"                               \
+    "(cond-role senior desk (and (ge level 5) (lt hour 17)))\n" \
+    "(grant ads senior)\n"                                      \
+    "(label free (allow all) (deny))\n"                         \
+    "(label noads (allow all) (deny ads))\n"                    \
+    "(table sub cell (who name) (due num))\n"                   \
+    "(row sub (Ida free) (40 free))\n"
+#define POLICY_BEHIND_BO "(row sub (Cy free) (60 free))\n"
+
+static const char policy[] = POLICY_BEFORE_BO "(row sub (Bo free) (75 noads))\n" POLICY_BEHIND_BO;
+/* Bo's 75 made 10: the cell is closed to what the query is for. */
+static const char policy10[] = POLICY_BEFORE_BO "(row sub (Bo free) (10 noads))\n" POLICY_BEHIND_BO;
+/* No conditional role is called junior. */
+static const char wrong_policy[] = POLICY_BEFORE_BO "(grant bill junior)\n";
+
+static const char query[] = "(select ana desk post sub (who) (gt due 50))";
+static const char query_bill[] = "(select ana desk bill sub (who) (gt due 50))";
+
+/* The clock of the sample: day 366 of a leap year, ten o'clock. */
+enum { YEAR = 2028, DAY = 366, HOUR = 10 };
+
+/* What stands in a buffer before it is lent, to see which bytes the gate leaves. */
+enum { MARK = 0xA5 };
+
+/* Static, so that the stack is left to the gate. No reserve is larger. */
+static uint8_t buffer[GATE_RESERVE_BYTES];
+static uint8_t buffer10[GATE_RESERVE_BYTES];
+
+/* A string constant as a text, without the zero byte at its end. */
+static struct text text_of(const char *s)
+{
+    struct text t = {(const uint8_t *)s, strlen(s)};
+    return t;
+}
+
+/* A figure, or the length that it must not exceed. The gate keeps to lengths; a host that holds it to them reads nothing
+ * outside even with another library. */
+static size_t least(uint64_t figure, size_t len)
+{
+    return figure < len ? (size_t)figure : len;
+}
+
+/* The part of a refusal, taken from the text that holds it. */
+static struct text part_of(struct text doc, struct text asked, const uint64_t figures[GATE_FIGURES])
+{
+    struct text t = figures[GATE_SOURCE] == GATE_IN_DOCUMENT ? doc : asked;
+    size_t start = least(figures[GATE_START], t.len);
+    struct text part = {t.bytes + start, least(figures[GATE_PART], t.len - start)};
+    return part;
+}
+
+static uint64_t check(struct text doc, uint64_t figures[GATE_FIGURES])
+{
+    return gate_check(doc.bytes, doc.len, figures);
+}
+
+static uint64_t ask(struct text doc, struct text asked, uint8_t *out, size_t out_len, uint64_t figures[GATE_FIGURES])
+{
+    return gate_ask(doc.bytes, doc.len, asked.bytes, asked.len, YEAR, DAY, HOUR, out, out_len, figures);
+}
+
+/* Bytes as they are; a text may hold any. */
+static void print_bytes(const uint8_t *bytes, size_t len)
+{
+    fwrite(bytes, 1, len, stdout);
+}
+
+static void print_refused(uint64_t number, struct text doc, struct text asked, const uint64_t figures[GATE_FIGURES])
+{
+    struct text part = part_of(doc, asked, figures);
+    printf("refused %" PRIu64 " %s %" PRIu64 " %" PRIu64 ": [", number,
+           figures[GATE_SOURCE] == GATE_IN_DOCUMENT ? "document" : "query", figures[GATE_START], figures[GATE_PART]);
+    print_bytes(part.bytes, part.len);
+    printf("]\n");
+}
+
+static void print_checked(uint64_t number, struct text doc, const uint64_t figures[GATE_FIGURES])
+{
+    if (number != GATE_ACCEPTED) {
+        /* No query was there: a part can only stand in the document. */
+        print_refused(number, doc, text_of(""), figures);
+        return;
+    }
+    /* The reserve itself may change from one version to the next; its bound does not. */
+    printf("accepted: %" PRIu64 " lines, a reserve %s 60021\n", figures[GATE_LINES],
+           figures[GATE_RESERVE] <= GATE_RESERVE_BYTES ? "of at most" : "over");
+}
+
+static void print_answered(uint64_t number, struct text doc, struct text asked, const uint8_t *out, size_t out_len,
+                           const uint64_t figures[GATE_FIGURES])
+{
+    if (number != GATE_ACCEPTED) {
+        print_refused(number, doc, asked, figures);
+        return;
+    }
+    print_bytes(out, least(figures[GATE_LENGTH], out_len));
+    printf("%" PRIu64 " bytes by grant %" PRIu64 "; passed %" PRIu64 ", withheld %" PRIu64 ", unmatched %" PRIu64 "\n",
+           figures[GATE_LENGTH], figures[GATE_GRANT], figures[GATE_PASSED], figures[GATE_WITHHELD], figures[GATE_UNMATCHED]);
+}
+
+static const char *yes(int b)
+{
+    return b ? "yes" : "no";
+}
+
+/* All the bytes from `at` on are still the mark. */
+static int untouched(const uint8_t *bytes, size_t at, size_t len)
+{
+    for (; at < len; at++)
+        if (bytes[at] != MARK)
+            return 0;
+    return 1;
+}
+
+int main(void)
+{
+    struct text doc = text_of(policy);
+    struct text doc10 = text_of(policy10);
+    struct text wrong = text_of(wrong_policy);
+    struct text asked = text_of(query);
+    struct text asked_bill = text_of(query_bill);
+    struct text empty = text_of("");
+    uint64_t figures[GATE_FIGURES];
+    uint64_t figures10[GATE_FIGURES];
+    uint64_t number;
+    uint64_t number10;
+    size_t reserve;
+    size_t length;
+
+    printf("-- the sample policy, checked\n");
+    number = check(doc, figures);
+    print_checked(number, doc, figures);
+    if (number != GATE_ACCEPTED || figures[GATE_RESERVE] > sizeof buffer)
+        return EXIT_FAILURE;
+    /* A buffer of this length is never too short for a select that repeats no column. */
+    reserve = (size_t)figures[GATE_RESERVE];
+
+    printf("-- the sample query, asked\n");
+    memset(buffer, MARK, sizeof buffer);
+    number = ask(doc, asked, buffer, reserve, figures);
+    print_answered(number, doc, asked, buffer, reserve, figures);
+    if (number != GATE_ACCEPTED || figures[GATE_LENGTH] == 0)
+        return EXIT_FAILURE;
+    length = least(figures[GATE_LENGTH], reserve);
+    printf("the bytes behind the answer are as they were: %s\n", yes(untouched(buffer, length, sizeof buffer)));
+
+    printf("-- the same, with Bo's 75 made 10\n");
+    memset(buffer10, MARK, sizeof buffer10);
+    number10 = ask(doc10, asked, buffer10, reserve, figures10);
+    print_answered(number10, doc10, asked, buffer10, reserve, figures10);
+    printf("the same number and figures: %s\n", yes(number10 == number && memcmp(figures10, figures, sizeof figures) == 0));
+    printf("the same bytes in the buffer: %s\n", yes(memcmp(buffer10, buffer, sizeof buffer) == 0));
+
+    printf("-- a buffer one byte shorter than the answer\n");
+    memset(buffer, MARK, sizeof buffer);
+    number = ask(doc, asked, buffer, length - 1, figures);
+    print_answered(number, doc, asked, buffer, length - 1, figures);
+    printf("the buffer is as it was: %s\n", yes(untouched(buffer, 0, sizeof buffer)));
+
+    printf("-- a purpose that nothing authorises\n");
+    number = ask(doc, asked_bill, buffer, reserve, figures);
+    print_answered(number, doc, asked_bill, buffer, reserve, figures);
+
+    printf("-- an empty query\n");
+    number = ask(doc, empty, buffer, reserve, figures);
+    print_answered(number, doc, empty, buffer, reserve, figures);
+
+    printf("-- a policy with an unknown name, checked and asked\n");
+    number = check(wrong, figures);
+    print_checked(number, wrong, figures);
+    number = ask(wrong, asked, buffer, reserve, figures);
+    print_answered(number, wrong, asked, buffer, reserve, figures);
+    printf("the buffer is as it was: %s\n", yes(untouched(buffer, 0, sizeof buffer)));
+
+    /* A host that printed only half of it did not succeed. */
+    return fflush(stdout) == 0 && !ferror(stdout) ? EXIT_SUCCESS : EXIT_FAILURE;
+}

@@ -1,0 +1,271 @@
+//! A host in Rust: it lends texts and a buffer to the gate, and prints what it gets back. From the root of the repository:
+//!     rt staticlib gate
+//!     rustc --edition 2021 -L target/staticlib -l static=gate -o host examples/host.rs && ./host
+//! examples/host.expected is what it prints. examples/host.c is the same in C.
+
+use std::io::{self, Write};
+use std::process::ExitCode;
+
+/// The gate for programs in Rust: slices in, results out. A host may take this module as it stands.
+mod gate {
+    mod exported {
+        // As include/gate.h has them. The library stands in no crate, so rustc is told of it: -l static=gate.
+        extern "C" {
+            pub fn gate_check(doc: *const u8, doc_len: usize, figures: *mut u64) -> u64;
+            pub fn gate_ask(
+                doc: *const u8,
+                doc_len: usize,
+                query: *const u8,
+                query_len: usize,
+                year: u64,
+                day: u64,
+                hour: u64,
+                out: *mut u8,
+                out_len: usize,
+                figures: *mut u64,
+            ) -> u64;
+        }
+    }
+
+    /// No reserve is larger.
+    pub const RESERVE_BYTES: usize = 60_021;
+
+    /// The host's clock: year 1 to 9999, day 1 to 365 or in a leap year 366, hour 0 to 23. Another is refused with 10.
+    #[derive(Clone, Copy)]
+    pub struct Clock {
+        pub year: u64,
+        pub day: u64,
+        pub hour: u64,
+    }
+
+    /// An accepted document: its lines, and a length that no answer to a select exceeds which repeats no column.
+    pub struct Checked {
+        pub lines: usize,
+        pub reserve: usize,
+    }
+
+    /// An answer: how many of the buffer's first bytes it fills, the grant that authorised it, and the three counts.
+    #[derive(PartialEq)]
+    pub struct Answer {
+        pub len: usize,
+        pub grant: usize,
+        pub passed: usize,
+        pub withheld: usize,
+        pub unmatched: usize,
+    }
+
+    /// The text that holds the part of a refusal.
+    #[derive(Clone, Copy, PartialEq)]
+    pub enum Source {
+        Document,
+        Query,
+    }
+
+    /// A refusal: its number, and the place of its part.
+    #[derive(PartialEq)]
+    pub struct Refusal {
+        pub number: u64,
+        pub source: Source,
+        pub start: usize,
+        pub len: usize,
+    }
+
+    /// The refusal that the figures give.
+    fn refusal(number: u64, figures: [u64; 5]) -> Refusal {
+        Refusal {
+            number,
+            source: if figures[0] == 1 { Source::Document } else { Source::Query },
+            start: figures[1] as usize,
+            len: figures[2] as usize,
+        }
+    }
+
+    /// Checks a document. A refusal has a number from 1 to 9.
+    pub fn check(doc: &[u8]) -> Result<Checked, Refusal> {
+        let mut figures = [0; 5];
+        // SAFETY: a slice's pointer is valid for its length and never null, and `figures` are five numbers of our own.
+        let number = unsafe { exported::gate_check(doc.as_ptr(), doc.len(), figures.as_mut_ptr()) };
+        if number != 0 {
+            return Err(refusal(number, figures));
+        }
+        Ok(Checked { lines: figures[0] as usize, reserve: figures[1] as usize })
+    }
+
+    /// Asks a document. A refusal has a number from 1 to 18 and leaves `out`; an answer leaves the bytes behind it.
+    pub fn ask(doc: &[u8], query: &[u8], clock: Clock, out: &mut [u8]) -> Result<Answer, Refusal> {
+        let mut figures = [0; 5];
+        // SAFETY: as above; and `out` is lent mutably, so it overlaps neither text.
+        let number = unsafe {
+            exported::gate_ask(
+                doc.as_ptr(),
+                doc.len(),
+                query.as_ptr(),
+                query.len(),
+                clock.year,
+                clock.day,
+                clock.hour,
+                out.as_mut_ptr(),
+                out.len(),
+                figures.as_mut_ptr(),
+            )
+        };
+        if number != 0 {
+            return Err(refusal(number, figures));
+        }
+        let [len, grant, passed, withheld, unmatched] = figures.map(|n| n as usize);
+        Ok(Answer { len, grant, passed, withheld, unmatched })
+    }
+
+    /// The part of a refusal, from whichever text holds it. Cut at the text's end, so that with texts other than those asked
+    /// it doesn't panic.
+    pub fn part<'a>(doc: &'a [u8], query: &'a [u8], r: &Refusal) -> &'a [u8] {
+        let text = match r.source {
+            Source::Document => doc,
+            Source::Query => query,
+        };
+        let rest = &text[r.start.min(text.len())..];
+        &rest[..r.len.min(rest.len())]
+    }
+}
+
+use gate::{ask, check, part, Answer, Checked, Clock, Refusal, Source};
+
+const POLICY: &str = "\
+(purpose all)
+(purpose bill all)
+(purpose ads all)
+(purpose post ads)
+(role desk)
+(attr desk level num)
+(user ana desk (level 5))
+(cond-role senior desk (and (ge level 5) (lt hour 17)))
+(grant ads senior)
+(label free (allow all) (deny))
+(label noads (allow all) (deny ads))
+(table sub cell (who name) (due num))
+(row sub (Ida free) (40 free))
+(row sub (Bo free) (75 noads))
+(row sub (Cy free) (60 free))
+";
+
+const QUERY: &str = "(select ana desk post sub (who) (gt due 50))";
+const QUERY_BILL: &str = "(select ana desk bill sub (who) (gt due 50))";
+
+/// The clock of the sample: day 366 of a leap year, ten o'clock.
+const CLOCK: Clock = Clock { year: 2028, day: 366, hour: 10 };
+
+/// What stands in a buffer before it is lent, to see which bytes the gate leaves.
+const MARK: u8 = 0xA5;
+
+fn print_refused(to: &mut impl Write, doc: &[u8], query: &[u8], r: &Refusal) -> io::Result<()> {
+    let source = match r.source {
+        Source::Document => "document",
+        Source::Query => "query",
+    };
+    write!(to, "refused {} {} {} {}: [", r.number, source, r.start, r.len)?;
+    // Bytes as they are; a text may hold any.
+    to.write_all(part(doc, query, r))?;
+    writeln!(to, "]")
+}
+
+fn print_checked(to: &mut impl Write, doc: &[u8], r: &Result<Checked, Refusal>) -> io::Result<()> {
+    match r {
+        // The reserve itself may change from one version to the next; its bound does not.
+        Ok(c) => {
+            let bound = if c.reserve <= gate::RESERVE_BYTES { "of at most" } else { "over" };
+            writeln!(to, "accepted: {} lines, a reserve {} {}", c.lines, bound, gate::RESERVE_BYTES)
+        }
+        Err(x) => print_refused(to, doc, b"", x),
+    }
+}
+
+fn print_answered(to: &mut impl Write, doc: &[u8], query: &[u8], out: &[u8], r: &Result<Answer, Refusal>) -> io::Result<()> {
+    match r {
+        Ok(a) => {
+            to.write_all(&out[..a.len])?;
+            writeln!(
+                to,
+                "{} bytes by grant {}; passed {}, withheld {}, unmatched {}",
+                a.len, a.grant, a.passed, a.withheld, a.unmatched
+            )
+        }
+        Err(x) => print_refused(to, doc, query, x),
+    }
+}
+
+fn yes(b: bool) -> &'static str {
+    if b {
+        "yes"
+    } else {
+        "no"
+    }
+}
+
+/// All the bytes are still the mark.
+fn untouched(bytes: &[u8]) -> bool {
+    bytes.iter().all(|b| *b == MARK)
+}
+
+/// Gives whether the sample was accepted and answered; without that there is nothing to show.
+fn show(to: &mut impl Write) -> io::Result<bool> {
+    let doc = POLICY.as_bytes();
+    // Bo's 75 made 10: the cell is closed to what the query is for.
+    let policy10 = POLICY.replace("(75 noads)", "(10 noads)");
+    let doc10 = policy10.as_bytes();
+    // No conditional role is called junior.
+    let wrong_policy = POLICY.replace("(row sub (Bo free) (75 noads))\n(row sub (Cy free) (60 free))\n", "(grant bill junior)\n");
+    let wrong = wrong_policy.as_bytes();
+    let query = QUERY.as_bytes();
+    let query_bill = QUERY_BILL.as_bytes();
+
+    writeln!(to, "-- the sample policy, checked")?;
+    let checked = check(doc);
+    print_checked(to, doc, &checked)?;
+    let Ok(Checked { reserve, .. }) = checked else { return Ok(false) };
+
+    writeln!(to, "-- the sample query, asked")?;
+    // A buffer of this length is never too short for a select that repeats no column.
+    let mut buffer = vec![MARK; reserve];
+    let first = ask(doc, query, CLOCK, &mut buffer);
+    print_answered(to, doc, query, &buffer, &first)?;
+    let Ok(Answer { len, .. }) = first else { return Ok(false) };
+    writeln!(to, "the bytes behind the answer are as they were: {}", yes(untouched(&buffer[len..])))?;
+
+    writeln!(to, "-- the same, with Bo's 75 made 10")?;
+    let mut buffer10 = vec![MARK; reserve];
+    let second = ask(doc10, query, CLOCK, &mut buffer10);
+    print_answered(to, doc10, query, &buffer10, &second)?;
+    writeln!(to, "the same number and figures: {}", yes(second == first))?;
+    writeln!(to, "the same bytes in the buffer: {}", yes(buffer10 == buffer))?;
+
+    writeln!(to, "-- a buffer one byte shorter than the answer")?;
+    buffer.fill(MARK);
+    let short = ask(doc, query, CLOCK, &mut buffer[..len - 1]);
+    print_answered(to, doc, query, &buffer, &short)?;
+    writeln!(to, "the buffer is as it was: {}", yes(untouched(&buffer)))?;
+
+    writeln!(to, "-- a purpose that nothing authorises")?;
+    let refused = ask(doc, query_bill, CLOCK, &mut buffer);
+    print_answered(to, doc, query_bill, &buffer, &refused)?;
+
+    writeln!(to, "-- an empty query")?;
+    let refused = ask(doc, b"", CLOCK, &mut buffer);
+    print_answered(to, doc, b"", &buffer, &refused)?;
+
+    writeln!(to, "-- a policy with an unknown name, checked and asked")?;
+    print_checked(to, wrong, &check(wrong))?;
+    let refused = ask(wrong, query, CLOCK, &mut buffer);
+    print_answered(to, wrong, query, &buffer, &refused)?;
+    writeln!(to, "the buffer is as it was: {}", yes(untouched(&buffer)))?;
+    Ok(true)
+}
+
+fn main() -> ExitCode {
+    let mut to = io::stdout().lock();
+    let shown = show(&mut to);
+    // A host that printed only half of it did not succeed.
+    match (shown, to.flush()) {
+        (Ok(true), Ok(())) => ExitCode::SUCCESS,
+        _ => ExitCode::FAILURE,
+    }
+}

@@ -1,0 +1,105 @@
+/* The purpose gate, for hosts in C and C++ on x86-64 (libgate.a).
+ *
+ * A host lends a document, a query, a clock and a buffer, and gets back an answer or a refusal. The gate allocates nothing,
+ * keeps no state between calls, reads no file and no clock of its own, and may be called from several threads at once.
+ *
+ * What a caller owes, in every call:
+ * - A text or buffer is a pointer and a length in bytes. The pointer is valid for that length: readable for `doc` and
+ *   `query`, readable and writable for `out`. The length alone ends a text; a zero byte is a byte like any other.
+ * - `figures` points to GATE_FIGURES numbers, aligned as uint64_t is.
+ * - `out` overlaps neither text, and `figures` overlaps nothing else. The two texts are only read, so they may overlap.
+ * - No pointer is null. Where a length is 0, any other pointer will do; nothing is read or written through it.
+ * - Until the call returns, no other thread writes the texts, and none touches `out` or `figures`.
+ * - The calling thread has room on its stack: a call takes about 400 KB. Threads with small stacks need a larger one.
+ * Nothing is owed of what the texts, the clock and the buffer hold. Every input has an outcome, and every call returns.
+ *
+ * What the calls give is proved for every input, as crates/gate/specs/Exports.antt says it (ExportsCheck, ExportsAsk). That the
+ * caller keeps to the list above is not: a call that breaks it is undefined. Nothing outside the library is called but memset.
+ */
+#ifndef GATE_H
+#define GATE_H
+
+#include <stddef.h>
+#include <stdint.h>
+
+#ifdef __cplusplus
+extern "C" {
+#endif
+
+/* Sizes, in bytes. A longer document is refused with 1, a longer query with 11; no reserve is larger than the last. */
+#define GATE_DOCUMENT_BYTES 60000
+#define GATE_QUERY_BYTES 4096
+#define GATE_RESERVE_BYTES 60021
+
+/* How many figures a call hands back. It writes all of them, whatever the outcome. */
+#define GATE_FIGURES 5
+
+/* What the calls return: 0, or the number of a refusal. Where several hold, a document is refused for its first failing line
+ * and there with the lowest number, and a query with the lowest number. Each line says which part is handed back. */
+enum gate_outcome {
+    GATE_ACCEPTED = 0,             /* nothing is refused */
+
+    /* of the document, by gate_check and gate_ask */
+    GATE_TOO_LONG = 1,             /* a text over 60,000 bytes; part: empty, at the start */
+    GATE_WRONG_FORM = 2,           /* wrong form (line unfinished, blank, number out of range, too deep); part: the whole line */
+    GATE_OVER_BOUND = 3,           /* a bound exceeded; part: the whole line */
+    GATE_NAME_TAKEN = 4,           /* name taken; part: the later of two equal names; of a user and role given before,
+                                      the role */
+    GATE_NAME_UNKNOWN = 5,         /* name unknown; part: the name */
+    GATE_SECOND_ROOT = 6,          /* a second root purpose; part: the whole line */
+    GATE_WRONG_VALUES = 7,         /* a row or user without the right count or set of values, or row items not shaped for the
+                                      table's scheme; part: the whole line */
+    GATE_WRONG_TYPE = 8,           /* a value or operator of the wrong type; part: the operator or the value */
+    GATE_LATE_ATTRIBUTE = 9,       /* an attr line after any user line; part: the whole line */
+
+    /* of the query, by gate_ask alone */
+    GATE_CLOCK_OUT_OF_RANGE = 10,  /* clock out of range; part: empty, at the start */
+    GATE_NOT_A_QUERY = 11,         /* query not one form of the two shapes, or over a bound; part: the whole query */
+    GATE_UNKNOWN_PARTY = 12,       /* user, role or purpose unknown; part: that name */
+    GATE_ROLE_NOT_GIVEN = 13,      /* role not given to the user; part: the role */
+    GATE_NOT_AUTHORISED = 14,      /* purpose not authorised; part: the purpose */
+    GATE_UNKNOWN_COLUMN = 15,      /* table or named column unknown; part: that name */
+    GATE_MISTYPED_QUERY = 16,      /* wrong type in the condition; part: the operator or the value */
+    GATE_CLOSED = 17,              /* table or column closed; part: that table or column */
+    GATE_BUFFER_TOO_SHORT = 18     /* answer longer than the lent buffer; part: empty, at the start */
+};
+
+/* The text that holds the part of a refusal: figures[GATE_SOURCE]. */
+enum gate_source {
+    GATE_IN_DOCUMENT = 1,
+    GATE_IN_QUERY = 2
+};
+
+/* Where each figure stands. The rest are 0. */
+enum gate_checked_figure {         /* gate_check, accepted */
+    GATE_LINES = 0,                /* how many lines the document has */
+    GATE_RESERVE = 1               /* no answer to a select whose column bracket repeats no column is longer */
+};
+enum gate_answered_figure {        /* gate_ask, accepted */
+    GATE_LENGTH = 0,               /* how many bytes of the buffer the answer fills, from the first on */
+    GATE_GRANT = 1,                /* the position, counted from 0, of the first grant that authorises the query */
+    GATE_PASSED = 2,               /* the rows given */
+    GATE_WITHHELD = 3,             /* the rows withheld */
+    GATE_UNMATCHED = 4             /* the rows not withheld for which the condition fails */
+};
+enum gate_refused_figure {         /* either call, refused */
+    GATE_SOURCE = 0,               /* the text that holds the part: an enum gate_source */
+    GATE_START = 1,                /* where the part begins in that text, in bytes from 0 */
+    GATE_PART = 2                  /* how many bytes it has */
+};
+
+/* Checks a document. Returns GATE_ACCEPTED, or the number of a refusal, 1 to 9. */
+uint64_t gate_check(const uint8_t *doc, size_t doc_len, uint64_t *figures);
+
+/* Asks a document with a query at the time of the clock: year 1 to 9999, day 1 to 365 or in a leap year 366, hour 0 to 23.
+ * The document is checked each time, so gate_check need not come first.
+ * Returns GATE_ACCEPTED, the answer standing in the first bytes of `out` and the bytes behind it being as they were; or the
+ * number of a refusal, 1 to 18, every byte of `out` being as it was. */
+uint64_t gate_ask(const uint8_t *doc, size_t doc_len, const uint8_t *query, size_t query_len, uint64_t year, uint64_t day,
+                  uint64_t hour, uint8_t *out, size_t out_len, uint64_t *figures);
+
+#ifdef __cplusplus
+}
+#endif
+
+#endif
