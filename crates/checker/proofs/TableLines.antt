@@ -7,11 +7,10 @@ use native.Mathlib.Omega.{arith}
 use Rattle.checker.specs.Workspace.{labelPlace, schemeCoded}
 use Rattle.form.specs.Form.{table}
 use Rattle.form.specs.Places.{SchemeWithin, schemeAt, tableColumnsAt}
-use Rattle.index.specs.TableWords.{columnWords, schemeWords}
-use Rattle.storing.specs.Stored.{tableLine}
 use Rattle.text.specs.Words.{wordOf}
 use Rattle.form.specs.declared.lines.Scheme.{Scheme}
 use Rattle.form.specs.declared.lines.Scheme.the-variants as scheme
+use Rattle.index.specs.TableWords.{columnWords, schemeWords, tableLine}
 use Rattle.index.specs.declared.tables.SchemeCode.{SchemeCode}
 
 module _ (s : List ℕ) (t cs : ℕ) where

@@ -16,7 +16,7 @@ use Rattle.document.specs.NameFaults.{taken, unknown}
 use Rattle.document.specs.Policy.{Doc}
 use Rattle.document.specs.TypeFaults.{wrongType}
 use Rattle.document.specs.ValueFaults.{misfit}
-use Rattle.faults.specs.TableLine.{bracketEndBy, columnsBy, tripled}
+use Rattle.faults.specs.TableLine.{bracketEndBy, columnsBy}
 use Rattle.form.proofs.WalkSteps.{column-labels-more, column-labels-stop, columns-more, columns-stop, labelled-columns-more, labelled-columns-stop, pair-after, pair-inside, triple-after, triple-inside}
 use Rattle.form.specs.Form.{ColumnForm, Form, schemeLabels, table}
 use Rattle.form.specs.Walks.{columnAt, columnLabelAt, columnLabelsAt, firstIn, secondIn, thirdIn, tripleEndAt}
@@ -28,7 +28,7 @@ use Rattle.text.specs.Offending.{leftmost, missing, offendingIf, repeated, repe
 use Rattle.text.specs.Words.{Word, isCalled, wordOf}
 use Rattle.text.specs.declared.refusals.Reason.{Reason}
 use Rattle.faults.specs.declared.fault.Fault.the-variants.{Fine, Item, Whole}
-use Rattle.index.specs.TableWords.{columnWords, schemeWords}
+use Rattle.index.specs.TableWords.{columnWords, labelsColumns, schemeWords, tableLine}
 use Rattle.index.specs.declared.tables.SchemeCode.{SchemeCode}
 use Rattle.index.specs.declared.tables.SchemeCode.the-variants as code
 
@@ -37,7 +37,7 @@ abbrev pub columnNames : List ColumnForm → List Word
 columnNames cs = map (λ x. x .name) cs
 
 -- the columns of a line are those in the brackets of its scheme
-pub columns-words : (line : List ℕ) (scheme : SchemeCode) (cs : ℕ) → columnWords line scheme cs ≡ columnsBy (tripled scheme) line cs
+pub columns-words : (line : List ℕ) (scheme : SchemeCode) (cs : ℕ) → columnWords line scheme cs ≡ columnsBy (labelsColumns scheme) line cs
 unfolding columnWords columnsBy
 columns-words line code.Unlabelled cs = refl
 columns-words line code.ByTable cs = refl
@@ -201,10 +201,6 @@ module _ (s : List ℕ) (at : ℕ) (h : at < length s) where
 
 -- ---- the check of the line
 
--- the form of the line
-abbrev pub table-form : List ℕ → ℕ → SchemeCode → ℕ → ℕ → Form
-table-form line t scheme l cs = table (wordOf line t) (schemeWords line scheme l cs) (columnWords line scheme cs)
-
 -- a fault is not `Fine`
 pub fine-apart-whole : (x : Reason) {A : Type 0} → Whole x ≡ Fine → A
 fine-apart-whole x {A} h = let z : _≡_ {A = ℕ} 0 1 = cc in absurd (omega arith)
@@ -214,7 +210,7 @@ fine-apart-item x at {A} h = let z : _≡_ {A = ℕ} 0 1 = cc in absurd (omega a
 
 module _ (d : Doc) (line : List ℕ) (t : ℕ) (scheme : SchemeCode) (l cs : ℕ) where
   abbrev form : Form
-  form = table-form line t scheme l cs
+  form = tableLine line t scheme l cs
 
   pub table-many : 8 ≤ length (d .policy .tables) → overBound d form ≡ true
   unfolding overBound

@@ -6,22 +6,12 @@ use mathlib.Core.List.{List}
 use mathlib.Core.Path.{_≡_}
 use Rattle.document.specs.Policy.{Doc}
 use Rattle.faults.specs.Judged.{Judges}
-use Rattle.form.specs.Form.{ColumnForm, table}
+use Rattle.form.specs.Form.{ColumnForm}
 use Rattle.form.specs.Walks.{columnsAt, labelledColumnsAt, pairEndAt, tripleEndAt}
-use Rattle.index.specs.TableWords.{columnWords, schemeWords}
-use Rattle.text.specs.Words.{wordOf}
+use Rattle.index.specs.TableWords.{columnWords, tableLine}
 use Rattle.faults.specs.declared.fault.Fault.{Fault}
 use Rattle.faults.specs.declared.fault.Fault.the-variants.{Fine}
 use Rattle.index.specs.declared.tables.SchemeCode.{SchemeCode}
-use Rattle.index.specs.declared.tables.SchemeCode.the-variants as code
-
--- whether each column has its label, so that its bracket holds three words and not two
-abbrev pub tripled : SchemeCode → Bool
-tripled code.Unlabelled = false
-tripled code.ByTable = false
-tripled code.ByColumn = true
-tripled code.ByRow = false
-tripled code.ByCell = false
 
 -- the columns from a position on, in brackets of three words or of two
 unfoldable pub columnsBy : Bool → List ℕ → ℕ → List ColumnForm
@@ -35,5 +25,5 @@ bracketEndBy false s at = pairEndAt s at
 
 -- what the fault finder of a table line gives: the outcome of its check, and where nothing is wrong at most 16 columns
 pub record JudgesTable (Held : Doc → Type 0) (Placed : Type 0) (line : List ℕ) (t : ℕ) (scheme : SchemeCode) (l cs k : ℕ) (r : Fault) : Type 0 where
-  pub judges : Judges Held Placed line (table (wordOf line t) (schemeWords line scheme l cs) (columnWords line scheme cs)) k 8 r
+  pub judges : Judges Held Placed line (tableLine line t scheme l cs) k 8 r
   pub narrow : r ≡ Fine → length (columnWords line scheme cs) ≤ 16

@@ -8,6 +8,7 @@ use index::layout::TABLE_CELLS;
 use index::layout::TABLES;
 use index::tables::SchemeCode;
 use index::tables::find_table;
+use index::tables::labels_columns;
 use text::bytes::byte_at;
 use text::refusals::Reason;
 use text::walking::next_word;
@@ -20,7 +21,7 @@ ghost use mathlib.Core.List.{List, [], _∷_, map};
 ghost use mathlib.Core.Path.{_≡_};
 ghost use Rattle.document.specs.Policy.{Doc, Label};
 ghost use Rattle.faults.specs.Places.{Near, wordFound};
-ghost use Rattle.faults.specs.TableLine.{JudgesTable, bracketEndBy, columnsBy, tripled};
+ghost use Rattle.faults.specs.TableLine.{JudgesTable, bracketEndBy, columnsBy};
 ghost use Rattle.form.specs.Form.{schemeLabels};
 ghost use Rattle.form.specs.Walks.{columnLabelsAt};
 ghost use Rattle.index.specs.Index.{Labels, Tables};
@@ -28,19 +29,6 @@ ghost use Rattle.index.specs.TableWords.{schemeWords};
 ghost use Rattle.lists.specs.Lists.{anyOf, findIndex, there};
 ghost use Rattle.text.specs.Offending.{missing, repeated};
 ghost use Rattle.text.specs.Words.{isCalled, wordOf};
-
-// Whether each column has its label.
-fn has_triples(scheme: SchemeCode) -> bool
-    ensures { λ r. ⌜ r ≡ tripled scheme ⌝ }
-{
-    match scheme {
-        SchemeCode::Unlabelled => false,
-        SchemeCode::ByTable => false,
-        SchemeCode::ByColumn => true,
-        SchemeCode::ByRow => false,
-        SchemeCode::ByCell => false,
-    }
-}
 
 // Where the bracket of two or three words at a position ends.
 fn bracket_end(s: &[u8], at: usize, triple: bool) -> usize
@@ -194,7 +182,7 @@ pub fn table_fault(
     if TABLES <= k {
         return Fault::Whole(Reason::OverBound);
     }
-    let triple = has_triples(scheme);
+    let triple = labels_columns(scheme);
     if COLUMNS < count_columns(line, cs, triple) {
         return Fault::Whole(Reason::OverBound);
     }

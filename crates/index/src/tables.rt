@@ -20,6 +20,7 @@ ghost use Rattle.document.specs.Lookup.{columnOf};
 ghost use Rattle.document.specs.Policy.{Column, Table};
 ghost use Rattle.index.specs.Index.{ColumnStored, Cut, Filling, FoundBelow, Tables, columnIn, columnLabelIn, foundAs, kindOfCell, kindSaid, schemeBy, schemeIn, schemeOfCell};
 ghost use Rattle.index.specs.Listed.{listed};
+ghost use Rattle.index.specs.TableWords.{labelsColumns};
 ghost use Rattle.lists.specs.Lists.{findIndex};
 ghost use Rattle.text.specs.Words.{isCalled, wordAt, wordOf};
 
@@ -42,6 +43,19 @@ fn scheme_cell(s: SchemeCode) -> usize
         SchemeCode::ByColumn => 2,
         SchemeCode::ByRow => 3,
         SchemeCode::ByCell => 4,
+    }
+}
+
+// Whether the labels of a table of this scheme stand at its columns.
+pub fn labels_columns(s: SchemeCode) -> bool
+    ensures { λ r. ⌜ r ≡ labelsColumns s ⌝ }
+{
+    match s {
+        SchemeCode::Unlabelled => false,
+        SchemeCode::ByTable => false,
+        SchemeCode::ByColumn => true,
+        SchemeCode::ByRow => false,
+        SchemeCode::ByCell => false,
     }
 }
 

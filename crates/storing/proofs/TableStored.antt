@@ -14,20 +14,20 @@ use Rattle.form.specs.Form.{ColumnForm, byTable, mapScheme}
 use Rattle.form.specs.Walks.{columnLabelsAt, columnsAt, labelledColumnsAt}
 use Rattle.index.proofs.TableLaws.{tables-counted}
 use Rattle.index.specs.Index.{Filling, Tables, schemeBy}
-use Rattle.index.specs.TableWords.{columnWords, schemeWords}
+use Rattle.index.specs.TableWords.{columnWords, labelsColumns, schemeWords, tableLine}
 use Rattle.index.specs.declared.tables.SchemeCode.{SchemeCode}
 use Rattle.index.specs.declared.tables.SchemeCode.the-variants as code
 use Rattle.lists.proofs.Tests.{neither-left, neither-right, true-not-false}
 use Rattle.lists.specs.Lists.{known}
 use Rattle.storing.proofs.PassLaws.{Passed, passed}
 use Rattle.storing.proofs.PlaceLaws.{word-placed}
-use Rattle.storing.specs.Stored.{ColumnsFilled, LineAt, Passes, labelsColumns, tableLine}
+use Rattle.storing.specs.Stored.{ColumnsFilled, LineAt, Passes}
 use Rattle.text.specs.Words.{Word, wordAt, wordOf}
 
 -- what the line gives, by whether labels stand at the columns
 module _ (f : Word → ℕ) (line : List ℕ) (l cs : ℕ) where
   pub labelled-columns : (s : SchemeCode) → labelsColumns s ≡ true → columnWords line s cs ≡ labelledColumnsAt line cs
-  unfolding labelsColumns columnWords
+  unfolding columnWords
   labelled-columns code.Unlabelled h = true-not-false h refl
   labelled-columns code.ByTable h = true-not-false h refl
   labelled-columns code.ByColumn h = refl
@@ -35,7 +35,7 @@ module _ (f : Word → ℕ) (line : List ℕ) (l cs : ℕ) where
   labelled-columns code.ByCell h = true-not-false h refl
 
   pub plain-columns : (s : SchemeCode) → labelsColumns s ≡ false → columnWords line s cs ≡ columnsAt line cs
-  unfolding labelsColumns columnWords
+  unfolding columnWords
   plain-columns code.Unlabelled h = refl
   plain-columns code.ByTable h = refl
   plain-columns code.ByColumn h = true-not-false refl h
@@ -43,7 +43,7 @@ module _ (f : Word → ℕ) (line : List ℕ) (l cs : ℕ) where
   plain-columns code.ByCell h = refl
 
   pub labelled-scheme : (s : SchemeCode) (label : ℕ) → labelsColumns s ≡ true → schemeBy s label (map f (columnLabelsAt line cs)) ≡ mapScheme f (schemeWords line s l cs)
-  unfolding labelsColumns schemeBy mapScheme schemeWords
+  unfolding schemeBy mapScheme schemeWords
   labelled-scheme code.Unlabelled label h = true-not-false h refl
   labelled-scheme code.ByTable label h = true-not-false h refl
   labelled-scheme code.ByColumn label h = refl
@@ -51,7 +51,7 @@ module _ (f : Word → ℕ) (line : List ℕ) (l cs : ℕ) where
   labelled-scheme code.ByCell label h = true-not-false h refl
 
   pub plain-scheme : (s : SchemeCode) (label : ℕ) (ls : List ℕ) → label ≡ f (wordOf line l) → labelsColumns s ≡ false → schemeBy s label ls ≡ mapScheme f (schemeWords line s l cs)
-  unfolding labelsColumns schemeBy mapScheme schemeWords
+  unfolding schemeBy mapScheme schemeWords
   plain-scheme code.Unlabelled label ls e h = refl
   plain-scheme code.ByTable label ls e h = ap byTable e
   plain-scheme code.ByColumn label ls e h = true-not-false refl h

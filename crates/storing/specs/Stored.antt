@@ -1,20 +1,16 @@
 -- What storing an accepted line in the workspace takes: where the line stands in the text, and that its check finds nothing wrong.
 use Prim.Native.Nat.{_+_, _≤_, ℕ}
 use lib.ListN.{drop, length}
-use mathlib.Core.Bool.{Bool, false, true}
 use mathlib.Core.List.{List, [], _++_}
 use mathlib.Core.Path.{_≡_}
 use Rattle.document.specs.Check.{checkForm}
 use Rattle.document.specs.Meaning.{add}
 use Rattle.document.specs.Policy.{Column, Doc, Row, Table}
-use Rattle.form.specs.Form.{Form, table}
+use Rattle.form.specs.Form.{Form}
 use Rattle.index.specs.Index.{Filling, FillingRow, Rows, Tables}
-use Rattle.index.specs.TableWords.{columnWords, schemeWords}
-use Rattle.index.specs.declared.tables.SchemeCode.{SchemeCode}
-use Rattle.index.specs.declared.tables.SchemeCode.the-variants as code
 use Rattle.text.specs.Numbers.{Value}
 use Rattle.text.specs.Refusal.{accepted}
-use Rattle.text.specs.Words.{nameBytes, wordOf}
+use Rattle.text.specs.Words.{nameBytes}
 
 -- the line stands at a position of the text, and what stands behind it does not go on with a name
 pub record LineAt (text : List ℕ) (at : ℕ) (line : List ℕ) : Type 0 where
@@ -27,19 +23,7 @@ pub record LineAt (text : List ℕ) (at : ℕ) (line : List ℕ) : Type 0 where
 abbrev pub Passes : Doc → List ℕ → Form → Type 0
 Passes d line f = checkForm d line f ≡ accepted (add d f)
 
--- the table line whose name stands at t
-abbrev pub tableLine : List ℕ → ℕ → SchemeCode → ℕ → ℕ → Form
-tableLine s t k l cs = table (wordOf s t) (schemeWords s k l cs) (columnWords s k cs)
-
 -- ---- for the functions that are not called from outside
-
--- the labels of a table of this scheme stand at its columns
-unfoldable pub labelsColumns : SchemeCode → Bool
-labelsColumns code.Unlabelled = false
-labelsColumns code.ByTable = false
-labelsColumns code.ByColumn = true
-labelsColumns code.ByRow = false
-labelsColumns code.ByCell = false
 
 -- the columns of table k stand in the workspace, r of them with these labels, and the tables before it stay
 pub record ColumnsFilled (text before after : List ℕ) (k r : ℕ) (cs : List Column) (ls : List ℕ) : Type 0 where

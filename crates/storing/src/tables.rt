@@ -6,6 +6,7 @@ use index::layout::LABELS;
 use index::layout::TABLE_CELLS;
 use index::tables::SchemeCode;
 use index::tables::add_table;
+use index::tables::labels_columns;
 use index::tables::set_column;
 use text::bytes::byte_at;
 use text::walking::next_word;
@@ -21,8 +22,9 @@ ghost use Rattle.document.specs.Meaning.{add, columnMeant};
 ghost use Rattle.document.specs.Policy.{Doc, Policy};
 ghost use Rattle.form.specs.Walks.{columnLabelsAt, columnsAt, kindAt, labelledColumnsAt};
 ghost use Rattle.index.specs.Index.{Labels, Tables, kindSaid};
+ghost use Rattle.index.specs.TableWords.{tableLine};
 ghost use Rattle.lists.specs.Lists.{known};
-ghost use Rattle.storing.specs.Stored.{ColumnsFilled, LineAt, Passes, labelsColumns, tableLine};
+ghost use Rattle.storing.specs.Stored.{ColumnsFilled, LineAt, Passes};
 
 // Whether the type at a place of the line is that of names.
 fn kind_named(line: &[u8], q: usize) -> bool
@@ -85,19 +87,6 @@ fn store_labelled_columns(
     c
 }
 
-// Whether the labels stand at the columns.
-fn by_column(scheme: SchemeCode) -> bool
-    ensures { λ r. ⌜ r ≡ labelsColumns scheme ⌝ }
-{
-    match scheme {
-        SchemeCode::ByColumn => true,
-        SchemeCode::Unlabelled => false,
-        SchemeCode::ByTable => false,
-        SchemeCode::ByRow => false,
-        SchemeCode::ByCell => false,
-    }
-}
-
 // Stores the table of the name at t of the line, behind k of them: its scheme, the table's label of the name at l where the scheme has
 // one, and its columns from cs on.
 pub fn store_table(
@@ -117,7 +106,7 @@ pub fn store_table(
 {
     let label = number(find_label(text, labels, labels_count, line, l));
     let pos = place(text, at, t);
-    if by_column(scheme) {
+    if labels_columns(scheme) {
         let width = store_labelled_columns(text, labels, labels_count, tables, k, at, line, cs);
         add_table(tables, k, pos, scheme, label, width);
         return;

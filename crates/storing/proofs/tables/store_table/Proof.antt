@@ -16,8 +16,8 @@ number-requires c κs = search needs
 place-requires : tie.Need-place-requires
 place-requires c κs = search needs
 
-by-column-requires : tie.Need-by-column-requires
-by-column-requires c κs = search needs
+labels-columns-requires : tie.Need-labels-columns-requires
+labels-columns-requires c κs = search needs
 
 store-labelled-columns-requires : tie.Need-store-labelled-columns-requires
 store-labelled-columns-requires c κs = search needs
@@ -30,8 +30,8 @@ unfolding labelOf
 returns c d sets l L N ok h =
     let a = c .before .before .before .before .before .before .before .before .before .before .before .args in
     table-stored l d (a .t) _ h (c .before .before .before .before .before .before .place .ensures) (a .scheme) (a .l) (a .cs) _ _ _ N ok
-    (labelled-columns (λ w. known (labelOf (d .policy) w)) (a .line .now) (a .l) (a .cs) (a .scheme) (sym (c .before .before .before .before .before .by-column .ensures) ∙ c .before .before .before .before .if1 .taken))
-    (labelled-scheme (λ w. known (labelOf (d .policy) w)) (a .line .now) (a .l) (a .cs) (a .scheme) _ (sym (c .before .before .before .before .before .by-column .ensures) ∙ c .before .before .before .before .if1 .taken))
+    (labelled-columns (λ w. known (labelOf (d .policy) w)) (a .line .now) (a .l) (a .cs) (a .scheme) (sym (c .before .before .before .before .before .labels-columns .ensures) ∙ c .before .before .before .before .if1 .taken))
+    (labelled-scheme (λ w. known (labelOf (d .policy) w)) (a .line .now) (a .l) (a .cs) (a .scheme) _ (sym (c .before .before .before .before .before .labels-columns .ensures) ∙ c .before .before .before .before .if1 .taken))
     (λ small few. c .before .before .store-labelled-columns .ensures (d .policy) sets l L small few)
     (c .add-table .ensures (a .text .now))
 
@@ -46,8 +46,8 @@ unfolding labelOf
 returns-2 c d sets l L N ok h =
     let a = c .before .before .before .before .before .before .before .before .before .before .before .args in
     table-stored l d (a .t) _ h (c .before .before .before .before .before .before .place .ensures) (a .scheme) (a .l) (a .cs) _ _ _ N ok
-    (plain-columns (λ w. known (labelOf (d .policy) w)) (a .line .now) (a .l) (a .cs) (a .scheme) (sym (c .before .before .before .before .before .by-column .ensures) ∙ c .before .before .before .before .if1 .left))
-    (plain-scheme (λ w. known (labelOf (d .policy) w)) (a .line .now) (a .l) (a .cs) (a .scheme) _ _ (c .before .before .before .before .before .before .before .number .ensures ∙ ap known (c .before .before .before .before .before .before .before .before .find-label .ensures .0 sets _ L)) (sym (c .before .before .before .before .before .by-column .ensures) ∙ c .before .before .before .before .if1 .left))
+    (plain-columns (λ w. known (labelOf (d .policy) w)) (a .line .now) (a .l) (a .cs) (a .scheme) (sym (c .before .before .before .before .before .labels-columns .ensures) ∙ c .before .before .before .before .if1 .left))
+    (plain-scheme (λ w. known (labelOf (d .policy) w)) (a .line .now) (a .l) (a .cs) (a .scheme) _ _ (c .before .before .before .before .before .before .before .number .ensures ∙ ap known (c .before .before .before .before .before .before .before .before .find-label .ensures .0 sets _ L)) (sym (c .before .before .before .before .before .labels-columns .ensures) ∙ c .before .before .before .before .if1 .left))
     (λ small few. c .before .before .store-columns .ensures l small few)
     (c .add-table2 .ensures (a .text .now))
 
@@ -58,7 +58,7 @@ store-table-spec =
     find-label-requires
     number-requires
     place-requires
-    by-column-requires
+    labels-columns-requires
     store-labelled-columns-requires
     add-table-requires
     returns
