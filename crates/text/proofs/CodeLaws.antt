@@ -1,6 +1,6 @@
 -- What the code's answers tell: which case of an enum says what of the reader or of the number that it stands for. Assumes nothing.
 use Prim.Native.Nat.{_*_, _+_, _-_, _<_, _^_, _≤_, ℕ}
-use borrow.Author.Tests.{eqb-false, eqb-true, leb-false, leb-true, lt-leb}
+use borrow.Author.Tests.{eqb-false, eqb-true, le-leb, leb-false, leb-true, lt-leb}
 use lib.Dec.{eqb, leb}
 use lib.ListN.{getD, length}
 use mathlib.Core.Bool.{Bool, false, true}
@@ -9,19 +9,21 @@ use mathlib.Core.Option.{Option, bind, none, some}
 use mathlib.Core.Path.{_∙_, _≡_, ap, refl, sym}
 use native.Mathlib.Omega.{arith}
 use Rattle.text.proofs.AnswerLaws.{Answer, answerOf, read-at, read-refused}
-use Rattle.text.proofs.NumberLaws.{rankDown-not, rankUp-not}
+use Rattle.text.proofs.ByteLaws.{digit-nameByte}
+use Rattle.text.proofs.NumberLaws.{digits-digit, digits-other, number-read, number-refused, rankDown-not, rankUp-not}
 use Rattle.text.proofs.ReaderLaws.{eats-number}
 use Rattle.text.proofs.Spaces.{optional-here, optional-not}
-use Rattle.text.proofs.WordLaws.{word-read, word-refused}
+use Rattle.text.proofs.WordLaws.{word-more, word-read, word-refused, word-stop}
 use Rattle.text.specs.Brackets.{optional}
-use Rattle.text.specs.Bytes.{isDigit}
-use Rattle.text.specs.CodeEnds.{amountOf, limited, numberOf, optionalOf, wordEnd}
+use Rattle.text.specs.Bytes.{isDigit, isNameByte}
+use Rattle.text.specs.CodeEnds.{amountOf, endedAt, limited, numberOf, optionalOf, wordEnd}
 use Rattle.text.specs.Names.{isName}
-use Rattle.text.specs.Numbers.{digitsFrom, rankDown, rankUp}
+use Rattle.text.specs.Numbers.{digitsFrom, rank, rankDown, rankUp}
 use Rattle.text.specs.Reader.{Left, andThen, from, give}
 use Rattle.text.specs.Words.{Word, name, readNumber, wordAt, wordOf, wordThat}
 use Rattle.text.specs.declared.brackets.Optional.{Optional}
 use Rattle.text.specs.declared.brackets.Optional.the-variants as optionalName
+use Rattle.text.specs.declared.numbers.Amount.{Amount}
 use Rattle.text.specs.declared.numbers.Amount.the-variants as amount
 use Rattle.text.specs.declared.numbers.Number.{Number}
 use Rattle.text.specs.declared.numbers.Number.the-variants as number
@@ -40,7 +42,7 @@ large n (d ∷ ds) h = go (isDigit d) refl (large (n * 10 + (d - 48)) ds (omega 
     go false e r = rw e
 
 -- so the code may stop before n * 10 is too large for 64 bits
-pub too-large : (n d : ℕ) (ds : List ℕ) → 922337203685477580 < n → limited (digitsFrom (n * 10 + d) ds) ≡ amount.Nothing
+too-large : (n d : ℕ) (ds : List ℕ) → 922337203685477580 < n → limited (digitsFrom (n * 10 + d) ds) ≡ amount.Nothing
 too-large n d ds h = large (n * 10 + d) ds (omega arith)
 
 -- a number up to 2^63 that is there
@@ -73,6 +75,50 @@ limited-nothing (some m) h = go (leb m (2 ^ 63)) refl
         let l = leb-false m (2 ^ 63) e in
         (rankUp-not m (omega arith), rankDown-not m l)
 
+-- the code's answer for the digits from a position on, behind a part that spells n
+abbrev pub digitsEnd : List ℕ → ℕ → ℕ → Number
+digitsEnd s at n = endedAt (at + length (wordAt s at)) (limited (digitsFrom n (wordAt s at)))
+
+module _ (s : List ℕ) (at n : ℕ) where
+  -- a digit: the answer is that from the next position on
+  pub digits-on : isDigit (getD s at 0) ≡ true → digitsEnd s at n ≡ digitsEnd s (at + 1) (n * 10 + (getD s at 0 - 48))
+  digits-on d =
+      let e : at + length (wordAt s at) ≡ at + 1 + length (wordAt s (at + 1)) = omega (arith, ap length (word-more s at (digit-nameByte _ d))) in
+      rw (digits-digit s at n d, e)
+
+  -- a digit behind a part that is too large already
+  pub digits-large : isDigit (getD s at 0) ≡ true → 922337203685477580 < n → digitsEnd s at n ≡ number.Nothing
+  digits-large d h = rw (digits-digit s at n d, too-large n (getD s at 0 - 48) (wordAt s (at + 1)) h)
+
+  -- another name byte
+  pub digits-wrong : isDigit (getD s at 0) ≡ false → isNameByte (getD s at 0) ≡ true → digitsEnd s at n ≡ number.Nothing
+  digits-wrong d h = rw (digits-other s at n h d)
+
+  -- the end, at a number up to 2^63 and at a greater one
+  pub digits-done : isNameByte (getD s at 0) ≡ false → n ≤ 2 ^ 63 → digitsEnd s at n ≡ number.At at n
+  unfolding digitsFrom
+  digits-done h l = rw (word-stop s at h, le-leb n (2 ^ 63) l, limited) (ap (λ (e : ℕ). number.At e n) (omega arith))
+
+  pub digits-over : isNameByte (getD s at 0) ≡ false → 2 ^ 63 < n → digitsEnd s at n ≡ number.Nothing
+  unfolding digitsFrom
+  digits-over h l = rw (word-stop s at h, lt-leb n (2 ^ 63) l, limited)
+
+-- the end and the number of digits, and that there is none
+module _ (e : ℕ) where
+  pub ended-at : (a : Amount) {f n : ℕ} → endedAt e a ≡ number.At f n → (f ≡ e) × (a ≡ amount.Is n)
+  ended-at amount.Nothing h = let z : _≡_ {A = ℕ} 0 1 = cc in absurd (omega arith)
+  ended-at (amount.Is m) h = (cc, cc)
+
+  pub ended-is : (o : Option ℕ) {f n : ℕ} → endedAt e (limited o) ≡ number.At f n → (f ≡ e) × (o ≡ some n) × (n ≤ 2 ^ 63)
+  ended-is o {f} {n} h =
+      let l = ended-at (limited o) h in
+      let i = limited-is o n (l .1) in
+      (l .0, i .0, i .1)
+
+  pub ended-nothing : (a : Amount) → endedAt e a ≡ number.Nothing → a ≡ amount.Nothing
+  ended-nothing amount.Nothing h = refl
+  ended-nothing (amount.Is m) h = let z : _≡_ {A = ℕ} 0 1 = cc in absurd (omega arith)
+
 -- ---- numbers
 
 -- a number that is there, and that there is none
@@ -83,6 +129,37 @@ amount-is (some m) n h = let q : m ≡ n = cc in ap some q
 pub amount-nothing : (o : Option ℕ) → amountOf o ≡ amount.Nothing → o ≡ none
 amount-nothing none h = refl
 amount-nothing (some m) h = let z : _≡_ {A = ℕ} 0 1 = cc in absurd (omega arith)
+
+module _ (s : List ℕ) (at : ℕ) where
+  -- an end and a rank: the word has that rank, and ends there
+  pub number-at : (e k : ℕ) → numberOf (readNumber (from s at)) ≡ number.At e k → (rank (wordAt s at) ≡ some k) × (e ≡ at + length (wordAt s at))
+  number-at e k h = go (rank (wordAt s at)) refl
+    where
+      go : (o : Option ℕ) → rank (wordAt s at) ≡ o → (rank (wordAt s at) ≡ some k) × (e ≡ at + length (wordAt s at))
+      go none q =
+          let r : number.Nothing ≡ number.At e k = rw (number-refused s at q) at h in
+          let z : _≡_ {A = ℕ} 0 1 = cc in
+          absurd (omega arith)
+      go (some m) q =
+          let r : number.At (at + length (wordAt s at)) m ≡ number.At e k = rw (number-read s at m q) at h in
+          let f : e ≡ at + length (wordAt s at) = cc in
+          let n : m ≡ k = cc in
+          (q ∙ ap some n, f)
+
+  -- so an end and a rank that are the word's are the answer
+  pub number-ended : {e k : ℕ} → e ≡ at + length (wordAt s at) → rank (wordAt s at) ≡ some k → number.At e k ≡ numberOf (readNumber (from s at))
+  number-ended {e} {k} q h = rw (number-read s at k h) (ap (λ (f : ℕ). number.At f k) q)
+
+  -- none: it has none
+  pub number-nothing : numberOf (readNumber (from s at)) ≡ number.Nothing → rank (wordAt s at) ≡ none
+  number-nothing h = go (rank (wordAt s at)) refl
+    where
+      go : (o : Option ℕ) → rank (wordAt s at) ≡ o → rank (wordAt s at) ≡ none
+      go none q = q
+      go (some m) q =
+          let r : number.At (at + length (wordAt s at)) m ≡ number.Nothing = rw (number-read s at m q) at h in
+          let z : _≡_ {A = ℕ} 0 1 = cc in
+          absurd (omega arith)
 
 -- ---- words
 

@@ -4,15 +4,16 @@ use borrow.Author.Tests.{le-leb, le-ltb, leb-true, lt-leb, lt-ltb, ne-eqb}
 use lib.Dec.{leb}
 use lib.ListN.{getD, length}
 use mathlib.Core.Bool.{Bool, false, not, true}
-use mathlib.Core.List.{List}
+use mathlib.Core.List.{List, _∷_}
 use mathlib.Core.Option.{bind, none, some}
-use mathlib.Core.Path.{_≡_, refl}
+use mathlib.Core.Path.{_≡_, ap, refl}
 use native.Mathlib.Omega.{arith}
 use Rattle.lists.proofs.Tests.{and-left, and-right, or-right}
 use Rattle.lists.specs.Lists.{there}
+use Rattle.text.proofs.ByteLaws.{digit-nameByte, minus-nameByte}
 use Rattle.text.proofs.Lefts.{skip-from}
 use Rattle.text.proofs.WordLaws.{word-more, word-stop}
-use Rattle.text.specs.Bytes.{isDigit, isLetter, isNameByte}
+use Rattle.text.specs.Bytes.{isDigit, isNameByte}
 use Rattle.text.specs.Names.{isName}
 use Rattle.text.specs.Numbers.{digitsFrom, isNumber, isValue, magnitude, noLeadingZero, rank, rankDown, rankOf, rankUp}
 use Rattle.text.specs.Reader.{from}
@@ -37,17 +38,13 @@ module _ (s : List ℕ) (at : ℕ) where
   zero-first false h e k = rw (word-more s at h, word-stop s (at + 1) k, e)
 
   module _ (n : ℕ) where
-    pub digits-digit : isNameByte (getD s at 0) ≡ true → isDigit (getD s at 0) ≡ true → digitsFrom n (wordAt s at) ≡ digitsFrom (n * 10 + (getD s at 0 - 48)) (wordAt s (at + 1))
+    pub digits-digit : isDigit (getD s at 0) ≡ true → digitsFrom n (wordAt s at) ≡ digitsFrom (n * 10 + (getD s at 0 - 48)) (wordAt s (at + 1))
     unfolding digitsFrom
-    digits-digit h d = rw (word-more s at h, d, digitsFrom)
+    digits-digit d = rw (word-more s at (digit-nameByte _ d), d, digitsFrom)
 
     pub digits-other : isNameByte (getD s at 0) ≡ true → isDigit (getD s at 0) ≡ false → digitsFrom n (wordAt s at) ≡ none
     unfolding digitsFrom
     digits-other h d = rw (word-more s at h, d, digitsFrom)
-
-    pub digits-stop : isNameByte (getD s at 0) ≡ false → digitsFrom n (wordAt s at) ≡ some n
-    unfolding digitsFrom
-    digits-stop h = rw (word-stop s at h)
 
 pub rankUp-is : (n : ℕ) → n < 2 ^ 63 → rankUp n ≡ some (2 ^ 63 + n)
 unfolding rankUp rankOf
@@ -70,9 +67,17 @@ unfolding rankDown
 rankDown-not n h = rw (lt-ltb 0 n (omega arith), lt-leb n (2 ^ 63) h)
 
 module _ (s : List ℕ) (at : ℕ) where
+  -- a word goes on behind its `-`
+  word-minus : getD s at 0 ≡ 45 → wordAt s at ≡ 45 ∷ wordAt s (at + 1)
+  word-minus e = rw (word-more s at (rw e minus-nameByte), e)
+
   pub rank-minus : getD s at 0 ≡ 45 → rank (wordAt s at) ≡ bind (magnitude (wordAt s (at + 1))) rankDown
-  unfolding rank isNameByte isLetter isDigit
-  rank-minus e = rw (word-more s at (rw e), e)
+  unfolding rank
+  rank-minus e = rw (word-minus e)
+
+  -- and ends where what stands behind it ends
+  pub end-minus : getD s at 0 ≡ 45 → at + 1 + length (wordAt s (at + 1)) ≡ at + length (wordAt s at)
+  end-minus e = omega (arith, ap length (word-minus e))
 
   pub rank-plain : (getD s at 0 ≡ 45 → ⊥) → rank (wordAt s at) ≡ bind (magnitude (wordAt s at)) rankUp
   unfolding rank magnitude noLeadingZero bind

@@ -44,6 +44,11 @@ abbrev pub limited : Option ℕ → Amount
 limited none = amount.Nothing
 limited (some n) = cond (leb n (2 ^ 63)) (amount.Is n) amount.Nothing
 
+-- the same with the end e of its digits
+abbrev pub endedAt : ℕ → Amount → Number
+endedAt e amount.Nothing = number.Nothing
+endedAt e (amount.Is n) = number.At e n
+
 -- where the reader of a number ends, and the number's rank; or that it refuses
 abbrev pub numberOf : Option (ℕ × Left) → Number
 numberOf none = number.Nothing

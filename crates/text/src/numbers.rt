@@ -2,12 +2,13 @@
 use crate::bytes::byte_at;
 use crate::bytes::is_digit;
 use crate::bytes::is_name_byte;
-use crate::words::word_end;
+ghost use Prim.Native.Nat.{_+_};
+ghost use lib.ListN.{length};
 ghost use mathlib.Core.Path.{_≡_};
 ghost use Rattle.text.specs.Reader.{from};
 ghost use Rattle.text.specs.Words.{wordAt, readNumber};
 ghost use Rattle.text.specs.Numbers.{digitsFrom, noLeadingZero, magnitude, rank};
-ghost use Rattle.text.specs.CodeEnds.{limited, amountOf, numberOf};
+ghost use Rattle.text.specs.CodeEnds.{limited, endedAt, amountOf, numberOf};
 
 // A number, where there is one.
 pub enum Amount {
@@ -35,69 +36,48 @@ pub fn is_canonical(s: &[u8], at: usize) -> bool
     !is_name_byte(byte_at(s, at + 1))
 }
 
-// The number that the digits at a position spell, if it is at most 2^63.
-pub fn digits(s: &[u8], at: usize) -> Amount
-    ensures { λ r. ⌜ r ≡ limited (digitsFrom 0 (wordAt (now (s .entry)) at)) ⌝ }
+// The end of the digits at a position, and the number that they spell, if it is at most 2^63.
+fn read_digits(s: &[u8], at: usize) -> Number
+    ensures { λ r. ⌜ r ≡ endedAt (at + length (wordAt (now (s .entry)) at)) (limited (digitsFrom 0 (wordAt (now (s .entry)) at))) ⌝ }
 {
     let mut i = at;
     let mut n: u64 = 0;
-    while is_name_byte(byte_at(s, i)) {
-        let d = byte_at(s, i);
-        if !is_digit(d) {
-            return Amount::Nothing;
-        }
+    while is_digit(byte_at(s, i)) {
         if n > 922337203685477580 {
-            return Amount::Nothing;
+            return Number::Nothing;
         }
-        n = n * 10 + ((d - 48) as u64);
+        n = n * 10 + ((byte_at(s, i) - 48) as u64);
         i += 1;
     }
+    if is_name_byte(byte_at(s, i)) {
+        return Number::Nothing;
+    }
     if n <= 9223372036854775808 {
-        Amount::Is(n)
+        Number::At(i, n)
     } else {
-        Amount::Nothing
+        Number::Nothing
     }
 }
 
 // The same, if they have no leading zero.
-pub fn magnitude_at(s: &[u8], at: usize) -> Amount
-    ensures { λ r. ⌜ r ≡ limited (magnitude (wordAt (now (s .entry)) at)) ⌝ }
+fn read_magnitude(s: &[u8], at: usize) -> Number
+    ensures { λ r. ⌜ r ≡ endedAt (at + length (wordAt (now (s .entry)) at)) (limited (magnitude (wordAt (now (s .entry)) at))) ⌝ }
 {
     if is_canonical(s, at) {
-        digits(s, at)
+        read_digits(s, at)
     } else {
-        Amount::Nothing
+        Number::Nothing
     }
 }
 
-// The rank of the number that the word at a position spells.
-pub fn rank_at(s: &[u8], at: usize) -> Amount
-    ensures { λ r. ⌜ r ≡ amountOf (rank (wordAt (now (s .entry)) at)) ⌝ }
+// The number alone.
+pub fn magnitude_at(s: &[u8], at: usize) -> Amount
+    ensures { λ r. ⌜ r ≡ limited (magnitude (wordAt (now (s .entry)) at)) ⌝ }
 {
-    if byte_at(s, at) == b'-' {
-        let m = magnitude_at(s, at + 1);
-        match m {
-            Amount::Is(n) => {
-                if n == 0 {
-                    Amount::Nothing
-                } else {
-                    Amount::Is(9223372036854775808 - n)
-                }
-            }
-            Amount::Nothing => Amount::Nothing,
-        }
-    } else {
-        let m = magnitude_at(s, at);
-        match m {
-            Amount::Is(n) => {
-                if n < 9223372036854775808 {
-                    Amount::Is(9223372036854775808 + n)
-                } else {
-                    Amount::Nothing
-                }
-            }
-            Amount::Nothing => Amount::Nothing,
-        }
+    let m = read_magnitude(s, at);
+    match m {
+        Number::At(_, n) => Amount::Is(n),
+        Number::Nothing => Amount::Nothing,
     }
 }
 
@@ -105,9 +85,40 @@ pub fn rank_at(s: &[u8], at: usize) -> Amount
 pub fn read_number(s: &[u8], at: usize) -> Number
     ensures { λ r. ⌜ r ≡ numberOf (readNumber (from (now (s .entry)) at)) ⌝ }
 {
-    let k = rank_at(s, at);
+    if byte_at(s, at) == b'-' {
+        let m = read_magnitude(s, at + 1);
+        match m {
+            Number::At(end, n) => {
+                if n == 0 {
+                    Number::Nothing
+                } else {
+                    Number::At(end, 9223372036854775808 - n)
+                }
+            }
+            Number::Nothing => Number::Nothing,
+        }
+    } else {
+        let m = read_magnitude(s, at);
+        match m {
+            Number::At(end, n) => {
+                if n < 9223372036854775808 {
+                    Number::At(end, 9223372036854775808 + n)
+                } else {
+                    Number::Nothing
+                }
+            }
+            Number::Nothing => Number::Nothing,
+        }
+    }
+}
+
+// The rank of the number that the word at a position spells.
+pub fn rank_at(s: &[u8], at: usize) -> Amount
+    ensures { λ r. ⌜ r ≡ amountOf (rank (wordAt (now (s .entry)) at)) ⌝ }
+{
+    let k = read_number(s, at);
     match k {
-        Amount::Is(n) => Number::At(word_end(s, at), n),
-        Amount::Nothing => Number::Nothing,
+        Number::At(_, n) => Amount::Is(n),
+        Number::Nothing => Amount::Nothing,
     }
 }

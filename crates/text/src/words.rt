@@ -2,8 +2,8 @@
 use crate::bytes::byte_at;
 use crate::bytes::is_letter;
 use crate::bytes::is_name_byte;
-use crate::numbers::Amount;
-use crate::numbers::rank_at;
+use crate::numbers::Number;
+use crate::numbers::read_number;
 ghost use mathlib.Core.Path.{_≡_};
 ghost use Rattle.text.specs.Reader.{from};
 ghost use Rattle.text.specs.Words.{wordAt, name, value};
@@ -50,10 +50,10 @@ pub fn value_end(s: &[u8], at: usize) -> End
     match n {
         End::At(e) => End::At(e),
         End::Nothing => {
-            let k = rank_at(s, at);
+            let k = read_number(s, at);
             match k {
-                Amount::Is(_) => End::At(word_end(s, at)),
-                Amount::Nothing => End::Nothing,
+                Number::At(e, _) => End::At(e),
+                Number::Nothing => End::Nothing,
             }
         }
     }
