@@ -1,5 +1,6 @@
 -- Laws of the workspace, which the proofs of this crate and of the crates above cite. Assumes nothing.
 pub mod ListedLaws
+pub mod SameLaws
 pub mod Finding
 pub mod NodeLaws
 pub mod Stores

@@ -1,17 +1,46 @@
 // Looking a name up among the first n positions of an array.
-use text::words::same_name;
+use text::bytes::byte_at;
+use text::bytes::is_name_byte;
+use text::words::same_byte;
+use text::words::word_end;
 ghost use Prim.Native.Nat.{_+_, _≤_};
 ghost use lib.ListN.{getD, length};
 ghost use mathlib.Core.Path.{_≡_};
 ghost use Rattle.index.specs.Index.{FoundBelow, foundAs};
 ghost use Rattle.index.specs.Listed.{listed};
 ghost use Rattle.lists.specs.Lists.{findIndex};
+ghost use Rattle.text.specs.Names.{sameName};
 ghost use Rattle.text.specs.Words.{isCalled, wordAt, wordOf};
 
 // A number among names, or that there is none.
 pub enum Found {
     At(usize),
     Nothing,
+}
+
+// Whether the name of len bytes at i of the line is the word at p of the text. Where that word ends is looked at first, and then the
+// bytes from the last on: names that are much alike tend to differ there.
+fn same_length_name(line: &[u8], i: usize, len: usize, text: &[u8], p: usize) -> bool
+    requires { ⌜ len ≡ length (wordAt (now line) i) ⌝ }
+    ensures { λ r. ⌜ r ≡ sameName (wordAt (now (line .entry)) i) (wordAt (now (text .entry)) p) ⌝ }
+{
+    if text.len() < len {
+        return false;
+    }
+    if text.len() - len < p {
+        return len == 0;
+    }
+    if is_name_byte(byte_at(text, p + len)) {
+        return false;
+    }
+    let mut q = len;
+    while 0 < q {
+        q -= 1;
+        if !same_byte(line[i + q], text[p + q]) {
+            return false;
+        }
+    }
+    true
 }
 
 // The first of the n names at the positions from `base` on that is the name at i of the line.
@@ -26,9 +55,10 @@ pub(crate) fn find_name(
     requires { ⌜ base + n ≤ length (now ws) ⌝ }
     ensures { λ r. ⌜ (foundAs r ≡ findIndex (λ p. isCalled (wordOf (now (line .entry)) i) (wordAt (now (text .entry)) p)) (listed (λ k. getD (now (ws .entry)) (base + k) 0) n)) × FoundBelow r n ⌝ }
 {
+    let len = word_end(line, i) - i;
     let mut k = 0;
     while k < n {
-        if same_name(line, i, text, ws[base + k]) {
+        if same_length_name(line, i, len, text, ws[base + k]) {
             return Found::At(k);
         }
         k += 1;

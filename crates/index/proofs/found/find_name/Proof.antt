@@ -12,33 +12,39 @@ use Rattle.index.proofs.found.find_name.Statement.{statement}
 use Rattle.index.proofs.found.find_name.Tie as tie
 
 abbrev Inv-loop : tie.InvT-loop
-Inv-loop text ws base n line i k₀ k = (k ≤ n) × ((j : ℕ) → j < k → isCalled (wordOf line i) (wordAt text (getD ws (base + j) 0)) ≡ false)
+Inv-loop text ws base n line i len k₀ k = (k ≤ n) × ((j : ℕ) → j < k → isCalled (wordOf line i) (wordAt text (getD ws (base + j) 0)) ≡ false)
 
 abbrev μ-loop : tie.MeasureT-loop
-μ-loop text ws base n line i k₀ k = n - k
+μ-loop text ws base n line i len k₀ k = n - k
+
+word-end-requires : tie.Need-word-end-requires Inv-loop μ-loop
+word-end-requires c κs = search needs
+
+sub-len : tie.Need-sub-len Inv-loop μ-loop
+sub-len c = omega arith
 
 loop-holds : tie.Need-loop-holds Inv-loop μ-loop
 loop-holds c = (omega arith, below-none _)
 
-add-same-name : tie.Need-add-same-name Inv-loop μ-loop
-add-same-name c = omega arith
+add-same-length-name : tie.Need-add-same-length-name Inv-loop μ-loop
+add-same-length-name c = omega arith
 
-mul-same-name : tie.Need-mul-same-name Inv-loop μ-loop
-mul-same-name c = omega arith
+mul-same-length-name : tie.Need-mul-same-length-name Inv-loop μ-loop
+mul-same-length-name c = omega arith
 
-shared-slice-read-same-name : tie.Need-shared-slice-read-same-name Inv-loop μ-loop
-shared-slice-read-same-name c = omega arith
+shared-slice-read-same-length-name : tie.Need-shared-slice-read-same-length-name Inv-loop μ-loop
+shared-slice-read-same-length-name c = omega arith
 
-same-name-requires : tie.Need-same-name-requires Inv-loop μ-loop
-same-name-requires c κs = search needs
+same-length-name-requires : tie.Need-same-length-name-requires Inv-loop μ-loop
+same-length-name-requires c κs = omega arith
 
 returns : tie.Need-returns Inv-loop μ-loop
 unfolding isCalled
 returns c =
-    let a = c .before .before .before .before .before .before .before .before .args in
+    let a = c .before .before .before .before .before .before .before .before .before .args in
     let l = c .before .before .before .before .loop in
-    let small : c .before .before .before .before .loop .k < c .before .before .before .before .before .before .before .before .args .n = omega arith in
-    (sym (listed-found (λ p. isCalled (wordOf (a .line .now) (a .i)) (wordAt (a .text .now) p)) (λ j. getD (a .ws .now) (a .base + j) 0) (a .n) (l .k) small (l .inv .1) (sym (c .before .same-name .ensures) ∙ c .if1 .taken)), small)
+    let small : c .before .before .before .before .loop .k < c .before .before .before .before .before .before .before .before .before .args .n = omega arith in
+    (sym (listed-found (λ p. isCalled (wordOf (a .line .now) (a .i)) (wordAt (a .text .now) p)) (λ j. getD (a .ws .now) (a .base + j) 0) (a .n) (l .k) small (l .inv .1) (sym (c .before .same-length-name .ensures) ∙ c .if1 .taken)), small)
 
 add-k : tie.Need-add-k Inv-loop μ-loop
 add-k c = omega arith
@@ -49,11 +55,11 @@ loop-less c = omega arith
 loop-again : tie.Need-loop-again Inv-loop μ-loop
 unfolding isCalled
 loop-again c =
-    (omega arith, below-more _ (c .before .before .before .before .loop .k) (c .before .before .before .before .loop .inv .1) (sym (c .before .same-name .ensures) ∙ c .if1 .left))
+    (omega arith, below-more _ (c .before .before .before .before .loop .k) (c .before .before .before .before .loop .inv .1) (sym (c .before .same-length-name .ensures) ∙ c .if1 .left))
 
 returns-2 : tie.Need-returns-2 Inv-loop μ-loop
 returns-2 c =
-    let a = c .before .before .before .before .before .args in
+    let a = c .before .before .before .before .before .before .args in
     let inv = c .before .loop .inv in
     (sym (listed-none (λ p. isCalled (wordOf (a .line .now) (a .i)) (wordAt (a .text .now) p)) (λ j. getD (a .ws .now) (a .base + j) 0) (a .n) (λ j l. inv .1 j (omega (arith, l)))), tt)
 
@@ -63,11 +69,13 @@ find-name-spec =
     (tie.spec
     Inv-loop
     μ-loop
+    word-end-requires
+    sub-len
     loop-holds
-    add-same-name
-    mul-same-name
-    shared-slice-read-same-name
-    same-name-requires
+    add-same-length-name
+    mul-same-length-name
+    shared-slice-read-same-length-name
+    same-length-name-requires
     returns
     add-k
     loop-less
