@@ -52,33 +52,42 @@ rowed-marked {text} {ws} {k} {m} {ls} all h = record {
   labelled = sym (append-nil ls);
 }
 
+-- one value more is stored, where it has room
+pub value-added : {text before ws after : List ℕ} {k c m pos : ℕ} {all left : List Value} {labels behind : List ℕ} (x : Value) → Rowed text before ws k c m all (x ∷ left) labels behind → k < 1024 → c < 16
+    → ValueStored ws after k c pos → wordAt text pos ≡ x → Rowed text before after k (c + 1) m all left labels behind
+value-added {text} {before} {ws} {after} {k} {c} {m} {pos} {all} {left} x g small room s n = record {
+  kept = λ rs h. s .kept text k rs (omega arith) (g .kept rs h);
+  passed = g .passed ++ (x ∷ []);
+  marked = g .marked;
+  filling = subst (λ z. FillingRow text after k (c + 1) m (g .passed ++ (z ∷ [])) (g .marked)) n (s .grown text m (g .passed) (g .marked) small room (g .filling));
+  values = g .values ∙ sym (append-assoc (g .passed) (x ∷ []) left);
+  labelled = g .labelled;
+}
+
+-- it has room where all have
 pub rowed-value : {text before ws after : List ℕ} {k c m pos : ℕ} {all left : List Value} {labels behind : List ℕ} (x : Value) → Rowed text before ws k c m all (x ∷ left) labels behind → k < 1024 → length all ≤ 16
     → ValueStored ws after k c pos → wordAt text pos ≡ x → Rowed text before after k (c + 1) m all left labels behind
-rowed-value {text} {before} {ws} {after} {k} {c} {m} {pos} {all} {left} {labels} {behind} x g small few s n =
+rowed-value {text} {before} {ws} {after} {k} {c} {m} {pos} {all} {left} x g small few s n =
     let long : length (g .passed) ≡ c = sym (ap length (g .filling .values)) ∙ length-listed (valueIn text ws k) c in
-    let inside : c < 16 = omega (arith, ap length (g .values), length-append (g .passed) (x ∷ left), long, few) in
-    record {
-      kept = λ rs h. s .kept text k rs (omega arith) (g .kept rs h);
-      passed = g .passed ++ (x ∷ []);
-      marked = g .marked;
-      filling = subst (λ z. FillingRow text after k (c + 1) m (g .passed ++ (z ∷ [])) (g .marked)) n (s .grown text m (g .passed) (g .marked) small inside (g .filling));
-      values = g .values ∙ sym (append-assoc (g .passed) (x ∷ []) left);
-      labelled = g .labelled;
-    }
+    value-added x g small (omega (arith, ap length (g .values), length-append (g .passed) (x ∷ left), long, few)) s n
+
+-- one label more, likewise
+pub label-added : {text before ws after : List ℕ} {k c m label : ℕ} {all left : List Value} {labels behind : List ℕ} (y : ℕ) → Rowed text before ws k c m all left labels (y ∷ behind) → k < 1024 → m < 16
+    → LabelStored ws after k m label → label ≡ y → Rowed text before after k c (m + 1) all left labels behind
+label-added {text} {before} {ws} {after} {k} {c} {m} {label} {all} {left} {labels} {behind} y g small room s n = record {
+  kept = λ rs h. s .kept text k rs (omega arith) (g .kept rs h);
+  passed = g .passed;
+  marked = g .marked ++ (y ∷ []);
+  filling = subst (λ z. FillingRow text after k c (m + 1) (g .passed) (g .marked ++ (z ∷ []))) n (s .grown text c (g .passed) (g .marked) small room (g .filling));
+  values = g .values;
+  labelled = g .labelled ∙ sym (append-assoc (g .marked) (y ∷ []) behind);
+}
 
 pub rowed-label : {text before ws after : List ℕ} {k c m label : ℕ} {all left : List Value} {labels behind : List ℕ} (y : ℕ) → Rowed text before ws k c m all left labels (y ∷ behind) → k < 1024 → length labels ≤ 16
     → LabelStored ws after k m label → label ≡ y → Rowed text before after k c (m + 1) all left labels behind
 rowed-label {text} {before} {ws} {after} {k} {c} {m} {label} {all} {left} {labels} {behind} y g small few s n =
     let long : length (g .marked) ≡ m = sym (ap length (g .filling .labels)) ∙ length-listed (rowLabelIn ws k) m in
-    let inside : m < 16 = omega (arith, ap length (g .labelled), length-append (g .marked) (y ∷ behind), long, few) in
-    record {
-      kept = λ rs h. s .kept text k rs (omega arith) (g .kept rs h);
-      passed = g .passed;
-      marked = g .marked ++ (y ∷ []);
-      filling = subst (λ z. FillingRow text after k c (m + 1) (g .passed) (g .marked ++ (z ∷ []))) n (s .grown text c (g .passed) (g .marked) small inside (g .filling));
-      values = g .values;
-      labelled = g .labelled ∙ sym (append-assoc (g .marked) (y ∷ []) behind);
-    }
+    label-added y g small (omega (arith, ap length (g .labelled), length-append (g .marked) (y ∷ behind), long, few)) s n
 
 pub rowed-all : {text before after : List ℕ} {k c m : ℕ} {all left : List Value} {labels behind : List ℕ} → Rowed text before after k c m all left labels behind → left ≡ [] → behind ≡ [] → RowFilled text before after k c m all labels
 rowed-all {text} {before} {after} {k} {c} {m} g e f = record {
