@@ -187,6 +187,20 @@ module _ {text ps rs bs us cs gs ls ms ts ws : List ℕ} {c : Counts} {d : Doc} 
     rows = h;
   }
 
+  -- other places hold the same rows
+  pub keep-rows : (ws′ : List ℕ) → Rows text ws′ (c .rows) (d .rows) → Indexed text ps rs bs us cs gs ls ms ts ws′ c d
+  keep-rows ws′ h = record {
+    purposes = I .purposes;
+    roles = I .roles;
+    attributes = I .attributes;
+    users = I .users;
+    conds = I .conds;
+    grants = I .grants;
+    labels = I .labels;
+    tables = I .tables;
+    rows = h;
+  }
+
 -- how many grants and rows there are
 pub grants-count : {gs : List ℕ} {k : ℕ} {xs : List Grant} → Grants gs k xs → k ≡ length xs
 grants-count {gs} {k} n = sym (length-listed (grantIn gs) k) ∙ ap length (n .are)

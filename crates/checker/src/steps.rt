@@ -28,6 +28,7 @@ use index::layout::SET_WORDS;
 use index::layout::TABLE_CELLS;
 use index::layout::USER_CELLS;
 use index::tables::SchemeCode;
+use rows::lines::take_row;
 use storing::attributes::store_attr;
 use storing::conds::store_cond_role;
 use storing::grants::store_grant;
@@ -552,8 +553,8 @@ fn step_row(
     Step::Fails(f)
 }
 
-// The line that stands at a position of the text.
-pub(crate) fn step_line(
+// The line that stands at a position of the text, by its form.
+fn step_form(
     text: &[u8],
     at: usize,
     line: &[u8],
@@ -597,4 +598,55 @@ pub(crate) fn step_line(
         Line::Table(t, k, cs) => step_table(text, at, line, labels, tables, c, t, k, cs),
         Line::Row(t, items) => step_row(text, at, line, labels, tables, rows, c, t, items),
     }
+}
+
+// The line that stands at a position of the text: most are rows without a fault, which one walk takes.
+pub(crate) fn step_line(
+    text: &[u8],
+    at: usize,
+    line: &[u8],
+    purposes: &mut [usize; PURPOSE_CELLS],
+    roles: &mut [usize; ROLE_CELLS],
+    attributes: &mut [usize; ATTRIBUTE_CELLS],
+    users: &mut [usize; USER_CELLS],
+    conds: &mut [usize; COND_ROLE_CELLS],
+    grants: &mut [usize; GRANT_CELLS],
+    labels: &mut [usize; LABELS],
+    sets: &mut [u64; SET_WORDS],
+    tables: &mut [usize; TABLE_CELLS],
+    rows: &mut [usize; ROW_CELLS],
+    c: Counts,
+) -> Step
+    ensures { λ s. ⌜ ((d : Doc) → LineAt (now (text .entry)) at (now (line .entry)) → Indexed (now (text .entry)) (now (purposes .entry)) (now (roles .entry)) (now (attributes .entry)) (now (users .entry)) (now (conds .entry)) (now (grants .entry)) (now (labels .entry)) (now (sets .entry)) (now (tables .entry)) (now (rows .entry)) c d → UniqueNames (d .policy) → Follows (Indexed (now (text .entry)) (now (purposes .exit)) (now (roles .exit)) (now (attributes .exit)) (now (users .exit)) (now (conds .exit)) (now (grants .exit)) (now (labels .exit)) (now (sets .exit)) (now (tables .exit)) (now (rows .exit))) (now (line .entry)) (checkLine d (now (line .entry))) s) ⌝ }
+{
+    let k = c.rows;
+    if take_row(text, at, line, labels, c.labels, tables, c.tables, rows, k) {
+        return Step::Goes(Counts {
+            purposes: c.purposes,
+            roles: c.roles,
+            attributes: c.attributes,
+            users: c.users,
+            conds: c.conds,
+            grants: c.grants,
+            labels: c.labels,
+            tables: c.tables,
+            rows: k + 1,
+        });
+    }
+    step_form(
+        text,
+        at,
+        line,
+        purposes,
+        roles,
+        attributes,
+        users,
+        conds,
+        grants,
+        labels,
+        sets,
+        tables,
+        rows,
+        c,
+    )
 }
