@@ -1,10 +1,8 @@
 // What becomes of each row: it is withheld, or given, or its condition does not hold.
-use crate::cells::value_place;
+use crate::comparing::read_comparisons;
+use crate::comparing::store_truths;
 use crate::tally::Tally;
-use condition::comparisons::values_meet;
 use condition::conditions::holds_condition;
-use condition::kinds::Kind;
-use condition::kinds::op_at;
 use index::layout::LABELS;
 use index::layout::ROW_CELLS;
 use index::layout::ROWS;
@@ -14,22 +12,19 @@ use index::rows::row_labels;
 use index::rows::row_table;
 use index::rows::row_values;
 use index::tables::SchemeCode;
-use index::tables::column_kind;
 use index::tables::table_scheme;
 use query::reading::Test;
-use text::walking::next_word;
-ghost use Prim.Native.Nat.{_*_, _+_, _<_, _≤_, ℕ};
+ghost use Prim.Native.Nat.{_+_, _<_, _≤_, ℕ};
 ghost use lib.ListN.{getD, length, take};
-ghost use mathlib.Core.Bool.{Bool, false, not};
+ghost use mathlib.Core.Bool.{Bool, false, not, true};
 ghost use mathlib.Core.List.{List};
 ghost use mathlib.Core.Path.{_≡_};
 ghost use Rattle.answer.specs.Answer.{matches};
-ghost use Rattle.answering.specs.Judging.{JudgedTo, SchemeOf, countedBy, fateOf, labelsIn, openIn, passedBy, truthIn};
+ghost use Rattle.answering.specs.Judging.{AllReady, JudgedTo, Outcome, OutcomeOf, Remembered, SchemeOf, countedBy, fateOf, labelsIn, lastBy, openIn, passedBy};
 ghost use Rattle.answering.specs.Prepared.{Judged, Prepared};
-ghost use Rattle.condition.specs.Answers.{kindOf};
 ghost use Rattle.document.specs.Open.{labelOpen, rowWithheld};
 ghost use Rattle.document.specs.Policy.{Doc, Policy};
-ghost use Rattle.index.specs.Index.{Opened, kindOfCell, rowIn, schemeBy};
+ghost use Rattle.index.specs.Index.{Opened, rowIn, schemeBy};
 ghost use Rattle.lists.specs.Lists.{anyOf};
 ghost use Rattle.query.specs.Query.{Query};
 
@@ -39,6 +34,12 @@ pub enum Fate {
     Withheld,
     Passed,
     Unmatched,
+}
+
+// Whether the condition held at the row judged last, if one was.
+enum Last {
+    Unknown,
+    Was(bool),
 }
 
 // Whether label c of row r is open; a label that the row has not is closed.
@@ -104,91 +105,42 @@ fn is_withheld(
     }
 }
 
-// The type of column c of table t.
-fn kind_at(tables: &[usize; TABLE_CELLS], t: usize, c: usize) -> Kind
-    ensures { λ x. ⌜ (t < 8 → c < 16 → kindOf x ≡ kindOfCell (getD (now (tables .entry)) (160 + 16 * t + c) 0)) ⌝ }
+// Whether the condition at a place of the query holds by the truths: what it was where they are the `same`, and else by a walk.
+fn outcome_by(query: &[u8], at: usize, truths: &[bool; 64], same: bool, last: Last) -> bool
+    requires { ⌜ (same ≡ true → (b : Bool) → last ≡ Last.Was b → Outcome (now query) at (now truths) b) ⌝ }
+    ensures { λ x. ⌜ Outcome (now (query .entry)) at (now (truths .entry)) x ⌝ }
 {
-    if column_kind(tables, t, c) {
-        return Kind::Name;
-    }
-    Kind::Num
-}
-
-// Whether the comparison of column c whose operator stands at op holds of row r, which has `width` values.
-fn compared_holds(
-    text: &[u8],
-    tables: &[usize; TABLE_CELLS],
-    t: usize,
-    rows: &[usize; ROW_CELLS],
-    r: usize,
-    width: usize,
-    query: &[u8],
-    op: usize,
-    c: usize,
-) -> bool
-    ensures { λ x. ⌜ (r < 1024 → width ≡ getD (now (rows .entry)) (1024 + r) 0 → width ≤ 16 → t < 8 → c < 16 → x ≡ truthIn (now (text .entry)) (now (tables .entry)) (now (rows .entry)) t r (now (query .entry)) op c) ⌝ }
-{
-    let kind = kind_at(tables, t, c);
-    let operator = op_at(query, op);
-    let name = next_word(query, op);
-    let value = next_word(query, name);
-    let place = value_place(text, rows, r, width, c);
-    values_meet(kind, operator, text, place, query, value)
-}
-
-// Stores which of the m comparisons hold of row r, which has `width` values; their columns stand behind the first `chosen`.
-fn store_truths(
-    text: &[u8],
-    tables: &[usize; TABLE_CELLS],
-    t: usize,
-    rows: &[usize; ROW_CELLS],
-    r: usize,
-    width: usize,
-    query: &[u8],
-    ops: &[usize],
-    m: usize,
-    columns: &[usize],
-    chosen: usize,
-    truths: &mut [bool],
-)
-    requires { ⌜ (m ≤ length (now ops)) × (chosen + m ≤ length (now columns)) × (m ≤ length (now truths)) × (chosen ≤ 16) × (m ≤ 64) ⌝ }
-    ensures { λ _. ⌜ (m ≤ length (now (truths .exit))) × (r < 1024 → width ≡ getD (now (rows .entry)) (1024 + r) 0 → width ≤ 16 → t < 8 → (j : ℕ) → j < m → getD (now (columns .entry)) (chosen + j) 0 < 16 → getD (now (truths .exit)) j false ≡ truthIn (now (text .entry)) (now (tables .entry)) (now (rows .entry)) t r (now (query .entry)) (getD (now (ops .entry)) j 0) (getD (now (columns .entry)) (chosen + j) 0)) ⌝ }
-{
-    let mut j = 0;
-    while j < m {
-        truths[j] = compared_holds(
-            text,
-            tables,
-            t,
-            rows,
-            r,
-            width,
-            query,
-            ops[j],
-            columns[chosen + j],
-        );
-        j += 1;
+    match last {
+        Last::Unknown => holds_condition(query, at, truths),
+        Last::Was(b) => {
+            if same {
+                return b;
+            }
+            holds_condition(query, at, truths)
+        }
     }
 }
 
-// Whether the condition, where there is one, holds of row r. A condition has one comparison at least. The truths are lent as
-// room.
+// Whether the condition, where there is one, holds of row r. A condition has one comparison at least. The truths are those of
+// the row judged before, and become those of this one.
 fn row_matches(
     text: &[u8],
-    tables: &[usize; TABLE_CELLS],
-    t: usize,
     rows: &[usize; ROW_CELLS],
     r: usize,
     query: &[u8],
     test: Test,
-    ops: &[usize; 64],
     m: usize,
     columns: &[usize; 80],
     chosen: usize,
+    kinds: &[bool; 64],
+    operators: &[usize; 64],
+    values: &[usize; 64],
+    ranks: &[u64; 64],
     truths: &mut [bool; 64],
+    last: Last,
 ) -> bool
-    requires { ⌜ (chosen ≤ 16) × (m ≤ 64) ⌝ }
-    ensures { λ x. ⌜ ((count : ℕ) (os : List Bool) (d : Doc) (q : Query) (selecting : Bool) → Prepared (now (text .entry)) (now (tables .entry)) (now (rows .entry)) t count os (now (query .entry)) test (now (ops .entry)) m (now (columns .entry)) selecting chosen d q → r < count → x ≡ matches (q .condition) (rowIn (now (text .entry)) (now (rows .entry)) r .values)) ⌝ }
+    requires { ⌜ (chosen ≤ 16) × (m ≤ 64) × Remembered (now query) test m (now truths) last ⌝ }
+    ensures { λ x. ⌜ ((ts ops : List ℕ) (t count : ℕ) (os : List Bool) (d : Doc) (q : Query) (selecting : Bool) → AllReady ts t (now (query .entry)) ops m (now (columns .entry)) chosen (now (kinds .entry)) (now (operators .entry)) (now (values .entry)) (now (ranks .entry)) → Prepared (now (text .entry)) ts (now (rows .entry)) t count os (now (query .entry)) test ops m (now (columns .entry)) selecting chosen d q → r < count → x ≡ matches (q .condition) (rowIn (now (text .entry)) (now (rows .entry)) r .values)) × OutcomeOf (now (query .entry)) test m (now (truths .exit)) x ⌝ }
 {
     match test {
         Test::Always => true,
@@ -197,21 +149,22 @@ fn row_matches(
                 return true;
             }
             let width = row_values(rows, r);
-            store_truths(
+            let same = store_truths(
                 text,
-                tables,
-                t,
                 rows,
                 r,
                 width,
                 query,
-                ops,
                 m,
                 columns,
                 chosen,
+                kinds,
+                operators,
+                values,
+                ranks,
                 truths,
             );
-            holds_condition(query, at, truths)
+            outcome_by(query, at, truths, same, last)
         }
     }
 }
@@ -219,7 +172,6 @@ fn row_matches(
 // What becomes of row r of a document, where table t has this scheme.
 fn fate_of(
     text: &[u8],
-    tables: &[usize; TABLE_CELLS],
     t: usize,
     scheme: SchemeCode,
     rows: &[usize; ROW_CELLS],
@@ -227,14 +179,18 @@ fn fate_of(
     opened: &[bool; LABELS],
     query: &[u8],
     test: Test,
-    ops: &[usize; 64],
     m: usize,
     columns: &[usize; 80],
     chosen: usize,
+    kinds: &[bool; 64],
+    operators: &[usize; 64],
+    values: &[usize; 64],
+    ranks: &[u64; 64],
     truths: &mut [bool; 64],
+    last: Last,
 ) -> Fate
-    requires { ⌜ (chosen ≤ 16) × (m ≤ 64) × SchemeOf (now tables) t scheme ⌝ }
-    ensures { λ x. ⌜ ((count : ℕ) (d : Doc) (q : Query) (selecting : Bool) → Prepared (now (text .entry)) (now (tables .entry)) (now (rows .entry)) t count (now (opened .entry)) (now (query .entry)) test (now (ops .entry)) m (now (columns .entry)) selecting chosen d q → r < count → x ≡ fateOf d q (rowIn (now (text .entry)) (now (rows .entry)) r)) ⌝ }
+    requires { ⌜ (chosen ≤ 16) × (m ≤ 64) × Remembered (now query) test m (now truths) last ⌝ }
+    ensures { λ x. ⌜ ((ts ops : List ℕ) (count : ℕ) (d : Doc) (q : Query) (selecting : Bool) → SchemeOf ts t scheme → AllReady ts t (now (query .entry)) ops m (now (columns .entry)) chosen (now (kinds .entry)) (now (operators .entry)) (now (values .entry)) (now (ranks .entry)) → Prepared (now (text .entry)) ts (now (rows .entry)) t count (now (opened .entry)) (now (query .entry)) test ops m (now (columns .entry)) selecting chosen d q → r < count → x ≡ fateOf d q (rowIn (now (text .entry)) (now (rows .entry)) r)) × Remembered (now (query .entry)) test m (now (truths .exit)) (lastBy last x) ⌝ }
 {
     if row_table(rows, r) != t {
         return Fate::Elsewhere;
@@ -244,21 +200,35 @@ fn fate_of(
     }
     if row_matches(
         text,
-        tables,
-        t,
         rows,
         r,
         query,
         test,
-        ops,
         m,
         columns,
         chosen,
+        kinds,
+        operators,
+        values,
+        ranks,
         truths,
+        last,
     ) {
         return Fate::Passed;
     }
     Fate::Unmatched
+}
+
+// The outcome to remember behind a row of this fate.
+fn last_by(last: Last, f: Fate) -> Last
+    ensures { λ x. ⌜ x ≡ lastBy last f ⌝ }
+{
+    match f {
+        Fate::Elsewhere => last,
+        Fate::Withheld => last,
+        Fate::Passed => Last::Was(true),
+        Fate::Unmatched => Last::Was(false),
+    }
 }
 
 // Whether the row passes.
@@ -301,10 +271,9 @@ fn count_row(x: Tally, f: Fate) -> Tally
     }
 }
 
-// Judges each row once, where there is room for the marks.
+// Judges each row once by the comparisons that were read, where there is room for the marks.
 fn judge_each(
     text: &[u8],
-    tables: &[usize; TABLE_CELLS],
     t: usize,
     scheme: SchemeCode,
     rows: &[usize; ROW_CELLS],
@@ -312,16 +281,20 @@ fn judge_each(
     opened: &[bool; LABELS],
     query: &[u8],
     test: Test,
-    ops: &[usize; 64],
     m: usize,
     columns: &[usize; 80],
     chosen: usize,
+    kinds: &[bool; 64],
+    operators: &[usize; 64],
+    values: &[usize; 64],
+    ranks: &[u64; 64],
     marks: &mut [bool],
 ) -> Tally
-    requires { ⌜ (chosen ≤ 16) × (m ≤ 64) × (count ≤ 1024) × (count ≤ length (now marks)) × SchemeOf (now tables) t scheme ⌝ }
-    ensures { λ x. ⌜ ((d : Doc) (q : Query) (selecting : Bool) → Prepared (now (text .entry)) (now (tables .entry)) (now (rows .entry)) t count (now (opened .entry)) (now (query .entry)) test (now (ops .entry)) m (now (columns .entry)) selecting chosen d q → JudgedTo d q (rowIn (now (text .entry)) (now (rows .entry))) count (now (marks .exit)) x) ⌝ }
+    requires { ⌜ (chosen ≤ 16) × (m ≤ 64) × (count ≤ 1024) × (count ≤ length (now marks)) ⌝ }
+    ensures { λ x. ⌜ ((ts ops : List ℕ) (d : Doc) (q : Query) (selecting : Bool) → SchemeOf ts t scheme → AllReady ts t (now (query .entry)) ops m (now (columns .entry)) chosen (now (kinds .entry)) (now (operators .entry)) (now (values .entry)) (now (ranks .entry)) → Prepared (now (text .entry)) ts (now (rows .entry)) t count (now (opened .entry)) (now (query .entry)) test ops m (now (columns .entry)) selecting chosen d q → JudgedTo d q (rowIn (now (text .entry)) (now (rows .entry))) count (now (marks .exit)) x) ⌝ }
 {
     let mut truths = [false; 64];
+    let mut last = Last::Unknown;
     let mut x = Tally {
         passed: 0,
         withheld: 0,
@@ -331,7 +304,6 @@ fn judge_each(
     while r < count {
         let f = fate_of(
             text,
-            tables,
             t,
             scheme,
             rows,
@@ -339,17 +311,79 @@ fn judge_each(
             opened,
             query,
             test,
-            ops,
             m,
             columns,
             chosen,
+            kinds,
+            operators,
+            values,
+            ranks,
             &mut truths,
+            last,
         );
+        last = last_by(last, f);
         marks[r] = is_passed(f);
         x = count_row(x, f);
         r += 1;
     }
     x
+}
+
+// Reads the comparisons, and judges each row once.
+fn judge_bounded(
+    text: &[u8],
+    tables: &[usize; TABLE_CELLS],
+    t: usize,
+    rows: &[usize; ROW_CELLS],
+    count: usize,
+    opened: &[bool; LABELS],
+    query: &[u8],
+    test: Test,
+    ops: &[usize; 64],
+    m: usize,
+    columns: &[usize; 80],
+    chosen: usize,
+    marks: &mut [bool; ROWS],
+) -> Tally
+    requires { ⌜ (chosen ≤ 16) × (m ≤ 64) × (count ≤ 1024) ⌝ }
+    ensures { λ x. ⌜ ((d : Doc) (q : Query) (selecting : Bool) → Prepared (now (text .entry)) (now (tables .entry)) (now (rows .entry)) t count (now (opened .entry)) (now (query .entry)) test (now (ops .entry)) m (now (columns .entry)) selecting chosen d q → JudgedTo d q (rowIn (now (text .entry)) (now (rows .entry))) count (now (marks .exit)) x) ⌝ }
+{
+    let mut kinds = [false; 64];
+    let mut operators = [0usize; 64];
+    let mut values = [0usize; 64];
+    let mut ranks = [0u64; 64];
+    read_comparisons(
+        tables,
+        t,
+        query,
+        ops,
+        m,
+        columns,
+        chosen,
+        &mut kinds,
+        &mut operators,
+        &mut values,
+        &mut ranks,
+    );
+    let scheme = table_scheme(tables, t);
+    judge_each(
+        text,
+        t,
+        scheme,
+        rows,
+        count,
+        opened,
+        query,
+        test,
+        m,
+        columns,
+        chosen,
+        &kinds,
+        &operators,
+        &values,
+        &ranks,
+        marks,
+    )
 }
 
 // Judges each row once: marks those that are given, and counts.
@@ -373,12 +407,10 @@ pub(crate) fn judge_rows(
     if chosen <= 16 {
         if m <= 64 {
             if count <= ROWS {
-                let scheme = table_scheme(tables, t);
-                return judge_each(
+                return judge_bounded(
                     text,
                     tables,
                     t,
-                    scheme,
                     rows,
                     count,
                     opened,

@@ -1,18 +1,15 @@
 -- `answering::judging::judge_rows` meets its contract: a prepared query is within the bounds. Assumes nothing.
+use Rattle.answering.proofs.FateLaws.{judged-all}
 use borrow.Author.Needs.{needs}
 use native.Mathlib.Omega.{arith}
-use Rattle.answering.proofs.FateLaws.{judged-all}
 use Rattle.answering.proofs.judging.judge_rows.Statement.{statement}
 use Rattle.answering.proofs.judging.judge_rows.Tie as tie
 
-table-scheme-requires : tie.Need-table-scheme-requires
-table-scheme-requires c κs = search needs
-
-judge-each-requires : tie.Need-judge-each-requires
-judge-each-requires c κs = search needs
+judge-bounded-requires : tie.Need-judge-bounded-requires
+judge-bounded-requires c κs = search needs
 
 returns : tie.Need-returns
-returns c = λ d q u pr. judged-all (c .before .before .before .before .before .before .before .before .args .text .now) (c .before .before .before .before .before .before .before .before .args .rows .now) (c .before .before .before .before .before .before .before .before .args .count) d q _ _ (pr .rows) (c .judge-each .ensures d q u pr)
+returns c = let a = c .before .before .before .before .before .before .before .args in λ d q u pr. judged-all (a .text .now) (a .rows .now) (a .count) d q _ _ (pr .rows) (c .judge-bounded .ensures d q u pr)
 
 returns-2 : tie.Need-returns-2
 returns-2 c = λ d q u pr. absurd (omega (arith, pr .rows .few, c .if3 .left))
@@ -26,4 +23,9 @@ returns-4 c = λ d q u pr. absurd (omega (arith, pr .fewChosen, c .if1 .left))
 pub judge-rows-spec : {M : Type 1} → statement M
 judge-rows-spec =
     tie.close
-    (tie.spec table-scheme-requires judge-each-requires returns returns-2 returns-3 returns-4)
+    (tie.spec
+    judge-bounded-requires
+    returns
+    returns-2
+    returns-3
+    returns-4)
