@@ -203,23 +203,39 @@ pub fn cases() -> Vec<Case> {
     cases
 }
 
-/// A case that makes lookups dear: 64 labels of 24 bytes that differ in the last two, each of 16 cells in a row with the last.
+/// The cases that are made to be bad, which the goals leave out.
+pub const BAD: [&str; 4] = ["full", "turns", "dear", "front"];
+
+/// Lookups that are dear: 64 labels of 24 bytes that differ in the last two, each of 16 cells in a row with the last of them.
 pub fn dear_lookups() -> Case {
+    lookups("dear", |number| format!("label-with-a-long-name{number:02}"))
+}
+
+/// The same with labels that differ in the first two bytes.
+pub fn front_lookups() -> Case {
+    lookups("front", |number| format!("{}{}-name-of-a-label-long", letter(number / 8), letter(number % 8)))
+}
+
+fn letter(place: usize) -> char {
+    (b'a' + place as u8) as char
+}
+
+fn lookups(scheme: &'static str, named: fn(usize) -> String) -> Case {
     let mut text = String::from("(purpose all)\n(role desk)\n(user ana desk)\n(cond-role any desk (ge hour 0))\n(grant all any)\n");
     for number in 0..64 {
-        text.push_str(&format!("(label label-with-a-long-name{number:02} (allow all) (deny))\n"));
+        text.push_str(&format!("(label {} (allow all) (deny))\n", named(number)));
     }
     text.push_str("(table sub cell");
     for column in 0..16 {
         text.push_str(&format!(" (c{column:02} num)"));
     }
     text.push_str(")\n");
-    let row = format!("(row sub{})\n", " (1 label-with-a-long-name63)".repeat(16));
+    let row = format!("(row sub{})\n", format!(" (1 {})", named(63)).repeat(16));
     while text.len() + row.len() <= 60_000 {
         text.push_str(&row);
     }
     Case {
-        scheme: "dear",
+        scheme,
         size: "60",
         text: text.into_bytes(),
         select: "(select ana desk all sub (c00 c01) (and (gt c14 0) (ne c15 7)))".into(),
@@ -227,14 +243,23 @@ pub fn dear_lookups() -> Case {
     }
 }
 
-/// A full document asked with a full condition: 64 comparisons, which hold of most rows.
+/// A full document asked with a full condition: 64 comparisons, which come out alike in most rows.
 pub fn full_condition() -> Case {
-    let compared: String = (0..64).map(|number| format!(" (ne visits {})", 3_000 + number)).collect();
+    condition("full", "and", |number| format!(" (ne visits {})", 3_000 + number))
+}
+
+/// The same with comparisons that come out otherwise in nearly every row.
+pub fn turning_condition() -> Case {
+    condition("turns", "or", |number| format!(" (lt visits {})", 156 * (number + 1)))
+}
+
+fn condition(scheme: &'static str, joined: &str, compared: fn(usize) -> String) -> Case {
+    let compared: String = (0..64).map(compared).collect();
     Case {
-        scheme: "full",
+        scheme,
         size: "60",
         text: document(Scheme::None, 60_000),
-        select: format!("(select ana desk post sub (who due) (and{compared}))"),
-        count: format!("(count ana desk post sub (and{compared}))"),
+        select: format!("(select ana desk post sub (who due) ({joined}{compared}))"),
+        count: format!("(count ana desk post sub ({joined}{compared}))"),
     }
 }

@@ -197,7 +197,9 @@ fn once(what: &str, case: &Case) {
 fn main() -> std::io::Result<()> {
     let mut cases = documents::cases();
     cases.push(documents::full_condition());
+    cases.push(documents::turning_condition());
     cases.push(documents::dear_lookups());
+    cases.push(documents::front_lookups());
     let words: Vec<String> = std::env::args().skip(1).collect();
     let words: Vec<&str> = words.iter().map(String::as_str).collect();
     let named = |wanted: &str| cases.iter().find(|case| key(case) == wanted).expect("a key that `bench keys` prints");

@@ -1,6 +1,6 @@
 //! The table: times, ratios of the same run, goals and noise.
 
-use crate::documents::Case;
+use crate::documents::{BAD, Case};
 use crate::{Measured, Samples, CALLS};
 
 /// The largest of some ratios, and of which row.
@@ -45,10 +45,11 @@ fn noise(name: &str, samples: &[&Samples]) {
 }
 
 pub fn print(cases: &[Case], measured: &[Measured], turns: usize, in_a_row: usize) {
-    println!("Microseconds a call, 10th percentile of {} runs each ({turns} turns of {in_a_row}, all kinds in each turn; full and dear: a tenth).", turns * in_a_row);
+    println!("Microseconds a call, 10th percentile of {} runs each ({turns} turns of {in_a_row}, all kinds in each turn; the bad inputs: a tenth).", turns * in_a_row);
     println!("SQLite: the loading of the rows beside check, the query alone beside select and count. Growth: over the row of half its size.");
     println!("bytes: one pass of two byte classes over the same text; nine: the same with nine classes.");
-    println!("full: scheme none, a condition of 64 comparisons. dear: made to be bad for lookups (64 labels alike but for the last two of 24 bytes).\n");
+    println!("Bad inputs. full: scheme none, a condition of 64 comparisons that come out alike in most rows; turns: that come out otherwise in nearly every row.");
+    println!("dear: 64 labels of 24 bytes alike but for the last two; front: but for the first two.\n");
     println!(
         "{:7}{:>7}{:>6} {:7}{:>9}{:>10}{:>8}{:>8}{:>9}{:>10}{:>9}{:>8}{:>10}{:>8}",
         "scheme", "bytes", "rows", "call", "gate", "reference", "bytes", "nine", "SQLite", "gate/ref", "g/bytes", "g/nine", "g/SQLite", "growth"
@@ -61,7 +62,7 @@ pub fn print(cases: &[Case], measured: &[Measured], turns: usize, in_a_row: usiz
             let (gate, reference, sqlite) = (this.gate.time(), this.reference.time(), this.sqlite.time());
             let (pass, nine) = (times.pass.time(), times.pass_nine.time());
             let growth = growth(cases, measured, place, |other| other.calls[at].gate.time());
-            if case.scheme != "dear" && case.scheme != "full" {
+            if !BAD.contains(&case.scheme) {
                 by_reference.see(gate / reference, &row);
                 if case.size == "60" {
                     by_pass.see(gate / pass, &row);
@@ -83,7 +84,7 @@ pub fn print(cases: &[Case], measured: &[Measured], turns: usize, in_a_row: usiz
             );
         }
     }
-    println!("\nGoals (the rows full and dear apart)");
+    println!("\nGoals (the bad inputs apart)");
     by_reference.say(1.0, "gate/reference");
     by_pass.say(5.0, "gate/bytes of full documents");
     by_nine.say(5.0, "gate/nine of full documents");
