@@ -41,7 +41,7 @@ word-byte s at q h = go (isNameByte (getD s (at + q) 0)) refl
     go false k = absurd (omega (arith, word-left s at q (omega arith), ap length (word-stop s (at + q) k)))
 
 -- which stand in the text
-pub byte-within : (s : List ℕ) (at q : ℕ) → q < length (wordAt s at) → at + q < length s
+byte-within : (s : List ℕ) (at q : ℕ) → q < length (wordAt s at) → at + q < length s
 byte-within s at q h = name-byte-here s (at + q) (word-byte s at q h)
 
 -- and the byte behind it is none
@@ -112,3 +112,16 @@ module _ (a : List ℕ) (x n : ℕ) (b : List ℕ) (y : ℕ) (sized : n ≡ leng
       go false k =
           let longer : 0 < n = omega (arith, eqb-false n 0 k) in
           differ-short (n - 1) (omega arith) (omega arith)
+
+  -- where its own text ends before the word would, the word is empty, and the same as the other if that is empty too
+  pub same-empty : length a < x + n → isNameByte (getD b (y + n) 0) ≡ false → sameName (wordAt a x) (wordAt b y) ≡ eqb n 0
+  same-empty short h = go (eqb n 0) refl
+    where
+      go : (t : Bool) → eqb n 0 ≡ t → sameName (wordAt a x) (wordAt b y) ≡ t
+      go true k =
+          let first : x ≡ x + n = omega (arith, eqb-true n 0 k) in
+          let first-of-other : y ≡ y + n = omega (arith, eqb-true n 0 k) in
+          ap₂ (λ (i j : ℕ). sameName (wordAt a i) (wordAt b j)) first first-of-other ∙ same-behind h
+      go false k =
+          let longer : 0 < n = omega (arith, eqb-false n 0 k) in
+          absurd (omega (arith, byte-within a x (n - 1) (omega arith)))

@@ -19,10 +19,9 @@ pub enum Found {
 }
 
 // Whether the name of len bytes at i of the line is the word at p of the text. Where that word ends is looked at first, and then the
-// bytes from the last on: names that are much alike tend to differ there.
+// bytes from the last on: names that are much alike tend to differ there. A length that does not fit the line is no name's.
 fn same_length_name(line: &[u8], i: usize, len: usize, text: &[u8], p: usize) -> bool
-    requires { ⌜ len ≡ length (wordAt (now line) i) ⌝ }
-    ensures { λ r. ⌜ r ≡ sameName (wordAt (now (line .entry)) i) (wordAt (now (text .entry)) p) ⌝ }
+    ensures { λ r. ⌜ ((len ≡ length (wordAt (now (line .entry)) i)) → r ≡ sameName (wordAt (now (line .entry)) i) (wordAt (now (text .entry)) p)) ⌝ }
 {
     if text.len() < len {
         return false;
@@ -32,6 +31,12 @@ fn same_length_name(line: &[u8], i: usize, len: usize, text: &[u8], p: usize) ->
     }
     if is_name_byte(byte_at(text, p + len)) {
         return false;
+    }
+    if line.len() < len {
+        return false;
+    }
+    if line.len() - len < i {
+        return len == 0;
     }
     let mut q = len;
     while 0 < q {
@@ -43,7 +48,34 @@ fn same_length_name(line: &[u8], i: usize, len: usize, text: &[u8], p: usize) ->
     true
 }
 
-// The first of the n names at the positions from `base` on that is the name at i of the line.
+// The first of the n names at the positions from `base` on that is the name from i to e of the line.
+pub(crate) fn find_name_to(
+    text: &[u8],
+    ws: &[usize],
+    base: usize,
+    n: usize,
+    line: &[u8],
+    i: usize,
+    e: usize,
+) -> Found
+    requires { ⌜ base + n ≤ length (now ws) ⌝ }
+    ensures { λ r. ⌜ (e ≡ i + length (wordAt (now (line .entry)) i) → foundAs r ≡ findIndex (λ p. isCalled (wordOf (now (line .entry)) i) (wordAt (now (text .entry)) p)) (listed (λ k. getD (now (ws .entry)) (base + k) 0) n)) × FoundBelow r n ⌝ }
+{
+    if e < i {
+        return Found::Nothing;
+    }
+    let len = e - i;
+    let mut k = 0;
+    while k < n {
+        if same_length_name(line, i, len, text, ws[base + k]) {
+            return Found::At(k);
+        }
+        k += 1;
+    }
+    Found::Nothing
+}
+
+// The same for a name whose end is not known yet.
 pub(crate) fn find_name(
     text: &[u8],
     ws: &[usize],
@@ -55,13 +87,5 @@ pub(crate) fn find_name(
     requires { ⌜ base + n ≤ length (now ws) ⌝ }
     ensures { λ r. ⌜ (foundAs r ≡ findIndex (λ p. isCalled (wordOf (now (line .entry)) i) (wordAt (now (text .entry)) p)) (listed (λ k. getD (now (ws .entry)) (base + k) 0) n)) × FoundBelow r n ⌝ }
 {
-    let len = word_end(line, i) - i;
-    let mut k = 0;
-    while k < n {
-        if same_length_name(line, i, len, text, ws[base + k]) {
-            return Found::At(k);
-        }
-        k += 1;
-    }
-    Found::Nothing
+    find_name_to(text, ws, base, n, line, i, word_end(line, i))
 }

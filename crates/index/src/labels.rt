@@ -1,13 +1,14 @@
 // Labels: names from 0 in one array. In an array of words, WORDS for a set, the sets of allowed purposes stand from 0 and those
 // of denied ones behind 64 of them.
 use crate::found::Found;
-use crate::found::find_name;
+use crate::found::find_name_to;
 use crate::layout::LABELS;
 use crate::layout::SET_WORDS;
 use crate::store::put;
 use purpose::Closure;
 use purpose::WORDS;
 use purpose::admits;
+use text::words::word_end;
 ghost use Prim.Native.Nat.{_+_, _<_, _≤_, ℕ};
 ghost use lib.ListN.{drop, getElem?, length, take};
 ghost use lib.Seq.{paste};
@@ -23,14 +24,28 @@ ghost use Rattle.purpose.specs.Meaning.{ClosureOf};
 ghost use Rattle.purpose.specs.Members.{words};
 ghost use Rattle.text.specs.Words.{isCalled, wordAt, wordOf};
 
-// The label of the name at u of the line, among the first k.
-pub fn find_label(text: &[u8], ws: &[usize; LABELS], k: usize, line: &[u8], u: usize) -> Found
-    ensures { λ r. ⌜ ((sets : List ℕ) (ls : List Label) → Labels (now (text .entry)) (now (ws .entry)) sets k ls → foundAs r ≡ findIndex (λ x. isCalled (wordOf (now (line .entry)) u) (x .name)) ls) × FoundBelow r k ⌝ }
+// The label of the name from u to e of the line, among the first k.
+pub fn find_label_to(
+    text: &[u8],
+    ws: &[usize; LABELS],
+    k: usize,
+    line: &[u8],
+    u: usize,
+    e: usize,
+) -> Found
+    ensures { λ r. ⌜ ((sets : List ℕ) (ls : List Label) → e ≡ u + length (wordAt (now (line .entry)) u) → Labels (now (text .entry)) (now (ws .entry)) sets k ls → foundAs r ≡ findIndex (λ x. isCalled (wordOf (now (line .entry)) u) (x .name)) ls) × FoundBelow r k ⌝ }
 {
     if LABELS < k {
         return Found::Nothing;
     }
-    find_name(text, ws, 0, k, line, u)
+    find_name_to(text, ws, 0, k, line, u, e)
+}
+
+// The label of the name at u of the line, among the first k.
+pub fn find_label(text: &[u8], ws: &[usize; LABELS], k: usize, line: &[u8], u: usize) -> Found
+    ensures { λ r. ⌜ ((sets : List ℕ) (ls : List Label) → Labels (now (text .entry)) (now (ws .entry)) sets k ls → foundAs r ≡ findIndex (λ x. isCalled (wordOf (now (line .entry)) u) (x .name)) ls) × FoundBelow r k ⌝ }
+{
+    find_label_to(text, ws, k, line, u, word_end(line, u))
 }
 
 // The words of a set that stand from a place on.

@@ -2,6 +2,7 @@
 // A store goes through the array as a slice: of a slice the proof knows the length.
 use crate::found::Found;
 use crate::found::find_name;
+use crate::found::find_name_to;
 use crate::layout::COLUMN_KINDS;
 use crate::layout::COLUMN_LABELS;
 use crate::layout::COLUMN_NAMES;
@@ -12,8 +13,9 @@ use crate::layout::TABLE_SCHEMES;
 use crate::layout::TABLE_WIDTHS;
 use crate::layout::TABLES;
 use crate::store::kind_cell;
+use text::words::word_end;
 ghost use Prim.Native.Nat.{_*_, _+_, _<_, ℕ};
-ghost use lib.ListN.{getD};
+ghost use lib.ListN.{getD, length};
 ghost use mathlib.Core.List.{List, _++_, _∷_, []};
 ghost use mathlib.Core.Path.{_≡_};
 ghost use Rattle.document.specs.Lookup.{columnOf};
@@ -165,14 +167,28 @@ pub fn column_label(ws: &[usize; TABLE_CELLS], t: usize, c: usize) -> usize
     0
 }
 
-// The table of the name at i of the line, among the first k.
-pub fn find_table(text: &[u8], ws: &[usize; TABLE_CELLS], k: usize, line: &[u8], i: usize) -> Found
-    ensures { λ r. ⌜ ((ts : List Table) → Tables (now (text .entry)) (now (ws .entry)) k ts → foundAs r ≡ findIndex (λ x. isCalled (wordOf (now (line .entry)) i) (x .name)) ts) × FoundBelow r k ⌝ }
+// The table of the name from i to e of the line, among the first k.
+pub fn find_table_to(
+    text: &[u8],
+    ws: &[usize; TABLE_CELLS],
+    k: usize,
+    line: &[u8],
+    i: usize,
+    e: usize,
+) -> Found
+    ensures { λ r. ⌜ ((ts : List Table) → e ≡ i + length (wordAt (now (line .entry)) i) → Tables (now (text .entry)) (now (ws .entry)) k ts → foundAs r ≡ findIndex (λ x. isCalled (wordOf (now (line .entry)) i) (x .name)) ts) × FoundBelow r k ⌝ }
 {
     if TABLES < k {
         return Found::Nothing;
     }
-    find_name(text, ws, 0, k, line, i)
+    find_name_to(text, ws, 0, k, line, i, e)
+}
+
+// The table of the name at i of the line, among the first k.
+pub fn find_table(text: &[u8], ws: &[usize; TABLE_CELLS], k: usize, line: &[u8], i: usize) -> Found
+    ensures { λ r. ⌜ ((ts : List Table) → Tables (now (text .entry)) (now (ws .entry)) k ts → foundAs r ≡ findIndex (λ x. isCalled (wordOf (now (line .entry)) i) (x .name)) ts) × FoundBelow r k ⌝ }
+{
+    find_table_to(text, ws, k, line, i, word_end(line, i))
 }
 
 // The column of the name at i of the line, among those of table t.

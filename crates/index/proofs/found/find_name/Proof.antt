@@ -1,83 +1,16 @@
--- `index::found::find_name` meets its contract. The loop's invariant: no name that was passed is the one looked for. Assumes nothing.
-use Prim.Native.Nat.{_+_, _-_, _<_, _≤_, ℕ}
-use borrow.Author.Count.{below-more, below-none}
+-- `index::found::find_name` meets its contract: the word's end is found first. Assumes nothing.
 use borrow.Author.Needs.{needs}
-use lib.ListN.{getD}
-use mathlib.Core.Bool.{false}
-use mathlib.Core.Path.{_∙_, _≡_, sym}
-use native.Mathlib.Omega.{arith}
-use Rattle.index.proofs.ListedLaws.{listed-found, listed-none}
-use Rattle.text.specs.Words.{isCalled, wordAt, wordOf}
 use Rattle.index.proofs.found.find_name.Statement.{statement}
 use Rattle.index.proofs.found.find_name.Tie as tie
 
-abbrev Inv-loop : tie.InvT-loop
-Inv-loop text ws base n line i len k₀ k = (k ≤ n) × ((j : ℕ) → j < k → isCalled (wordOf line i) (wordAt text (getD ws (base + j) 0)) ≡ false)
-
-abbrev μ-loop : tie.MeasureT-loop
-μ-loop text ws base n line i len k₀ k = n - k
-
-word-end-requires : tie.Need-word-end-requires Inv-loop μ-loop
+word-end-requires : tie.Need-word-end-requires
 word-end-requires c κs = search needs
 
-sub-len : tie.Need-sub-len Inv-loop μ-loop
-sub-len c = omega arith
+find-name-to-requires : tie.Need-find-name-to-requires
+find-name-to-requires c κs = search needs
 
-loop-holds : tie.Need-loop-holds Inv-loop μ-loop
-loop-holds c = (omega arith, below-none _)
-
-add-same-length-name : tie.Need-add-same-length-name Inv-loop μ-loop
-add-same-length-name c = omega arith
-
-mul-same-length-name : tie.Need-mul-same-length-name Inv-loop μ-loop
-mul-same-length-name c = omega arith
-
-shared-slice-read-same-length-name : tie.Need-shared-slice-read-same-length-name Inv-loop μ-loop
-shared-slice-read-same-length-name c = omega arith
-
-same-length-name-requires : tie.Need-same-length-name-requires Inv-loop μ-loop
-same-length-name-requires c κs = omega arith
-
-returns : tie.Need-returns Inv-loop μ-loop
-unfolding isCalled
-returns c =
-    let a = c .before .before .before .before .before .before .before .before .before .args in
-    let l = c .before .before .before .before .loop in
-    let small : c .before .before .before .before .loop .k < c .before .before .before .before .before .before .before .before .before .args .n = omega arith in
-    (sym (listed-found (λ p. isCalled (wordOf (a .line .now) (a .i)) (wordAt (a .text .now) p)) (λ j. getD (a .ws .now) (a .base + j) 0) (a .n) (l .k) small (l .inv .1) (sym (c .before .same-length-name .ensures) ∙ c .if1 .taken)), small)
-
-add-k : tie.Need-add-k Inv-loop μ-loop
-add-k c = omega arith
-
-loop-less : tie.Need-loop-less Inv-loop μ-loop
-loop-less c = omega arith
-
-loop-again : tie.Need-loop-again Inv-loop μ-loop
-unfolding isCalled
-loop-again c =
-    (omega arith, below-more _ (c .before .before .before .before .loop .k) (c .before .before .before .before .loop .inv .1) (sym (c .before .same-length-name .ensures) ∙ c .if1 .left))
-
-returns-2 : tie.Need-returns-2 Inv-loop μ-loop
-returns-2 c =
-    let a = c .before .before .before .before .before .before .args in
-    let inv = c .before .loop .inv in
-    (sym (listed-none (λ p. isCalled (wordOf (a .line .now) (a .i)) (wordAt (a .text .now) p)) (λ j. getD (a .ws .now) (a .base + j) 0) (a .n) (λ j l. inv .1 j (omega (arith, l)))), tt)
+returns : tie.Need-returns
+returns c = (c .find-name-to .ensures .0 (c .before .word-end .ensures), c .find-name-to .ensures .1)
 
 pub find-name-spec : {M : Type 1} → statement M
-find-name-spec =
-    tie.close
-    (tie.spec
-    Inv-loop
-    μ-loop
-    word-end-requires
-    sub-len
-    loop-holds
-    add-same-length-name
-    mul-same-length-name
-    shared-slice-read-same-length-name
-    same-length-name-requires
-    returns
-    add-k
-    loop-less
-    loop-again
-    returns-2)
+find-name-spec = tie.close (tie.spec word-end-requires find-name-to-requires returns)
