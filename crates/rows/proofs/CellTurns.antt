@@ -46,11 +46,12 @@ use Rattle.text.specs.declared.words.End.the-variants.{At}
 
 -- ---- the label of a known name behind a space
 
-pub label-taken : {before after line : List ℕ} {d : Policy} {k m at e y : ℕ} → getD line at 0 ≡ 32 → wordEnd (name (from line (at + 1))) ≡ At e → some y ≡ labelOf d (wordOf line (at + 1))
-    → LabelStored before after k m y → LabelTaken before after line d k m at e
+pub label-taken : {before after line : List ℕ} {d : Policy} {k m at e y : ℕ} → getD line at 0 ≡ 32 → wordEnd (name (from line (at + 1))) ≡ At e
+    → (e ≡ at + 1 + length (wordAt line (at + 1)) → some y ≡ labelOf d (wordOf line (at + 1))) → LabelStored before after k m y → LabelTaken before after line d k m at e
 unfolding wordEndAt there known
-label-taken {before} {after} {line} {d} {k} {m} {at} {e} {y} space read found s =
+label-taken {before} {after} {line} {d} {k} {m} {at} {e} {y} space read to s =
     let w = word-at line (at + 1) isName e read in
+    let found = to (w .1) in
     record {
       space = space;
       named = w .0;

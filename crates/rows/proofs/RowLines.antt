@@ -104,7 +104,8 @@ module _ (line : List ℕ) (is : ℕ) (h : tableEnd line ≡ At is) where
   pub row-form : ItemsClose line is → formOf line ≡ some (rowAt line is)
   row-form c = line-read line opens (c .end) (some (rowAt line is)) (body (c .end) (c .read)) (closes-here line (c .end) (c .closed)) (closes-last line (c .end) (c .closed))
 
-  name-ends : is ≡ wordEndAt line 5
+  -- where the table's name ends
+  pub name-ends : is ≡ wordEndAt line 5
   unfolding wordEndAt
   name-ends = word-at line 5 isName is (tests .1) .1
 

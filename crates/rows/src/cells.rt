@@ -1,6 +1,6 @@
 // The values and labels of a row line: judged while they are read, and stored while they are judged.
 use index::found::Found;
-use index::labels::find_label;
+use index::labels::find_label_to;
 use index::layout::LABELS;
 use index::layout::ROW_CELLS;
 use index::layout::TABLE_CELLS;
@@ -91,7 +91,7 @@ pub(crate) fn take_label(
     let End::At(e) = r else {
         return End::Nothing;
     };
-    let found = find_label(text, labels, labels_count, line, at + 1);
+    let found = find_label_to(text, labels, labels_count, line, at + 1, e);
     let Found::At(y) = found else {
         return End::Nothing;
     };

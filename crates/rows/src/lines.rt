@@ -9,7 +9,7 @@ use index::layout::ROWS;
 use index::layout::TABLE_CELLS;
 use index::rows::add_row;
 use index::tables::SchemeCode;
-use index::tables::find_table;
+use index::tables::find_table_to;
 use index::tables::table_scheme;
 use index::tables::table_width;
 use text::bytes::byte_at;
@@ -172,7 +172,7 @@ pub fn take_row(
     let End::At(is) = t else {
         return false;
     };
-    let found = find_table(text, tables, tables_count, line, 5);
+    let found = find_table_to(text, tables, tables_count, line, 5, is);
     let Found::At(x) = found else {
         return false;
     };

@@ -30,11 +30,11 @@ enum-told c = search needs
 returns-2 : tie.Need-returns-2
 returns-2 c = (λ rs h. h, λ d sets N. tt)
 
-add-find-label : tie.Need-add-find-label
-add-find-label c = omega (arith, space-here (c .before .before .before .before .before .before .before .before .args .line .now) (c .before .before .before .before .before .before .before .before .args .at) _ (c .before .before .before .before .before .byte-at .ensures) (c .before .before .before .before .if1 .left) .1)
+add-find-label-to : tie.Need-add-find-label-to
+add-find-label-to c = omega (arith, space-here (c .before .before .before .before .before .before .before .before .args .line .now) (c .before .before .before .before .before .before .before .before .args .at) _ (c .before .before .before .before .before .byte-at .ensures) (c .before .before .before .before .if1 .left) .1)
 
-find-label-requires : tie.Need-find-label-requires
-find-label-requires c κs = search needs
+find-label-to-requires : tie.Need-find-label-to-requires
+find-label-to-requires c κs = search needs
 
 enum-known-found : tie.Need-enum-known-found
 enum-known-found c = search needs
@@ -52,7 +52,7 @@ returns-4 : tie.Need-returns-4
 unfolding labelOf
 returns-4 c = (
   λ rs h. c .set-label .ensures .kept _ _ rs (omega arith) h,
-  λ d sets N. label-taken (sym (c .before .before .before .before .before .before .before .before .before .before .before .byte-at .ensures) ∙ c .before .before .before .before .before .before .before .before .before .before .if1 .left) (sym (c .before .before .before .before .before .before .before .before .before .name-end .ensures) ∙ c .before .before .before .before .before .before .before .r .given .1) (sym (ap foundAs (c .before .before .before .found .given .1)) ∙ c .before .before .before .before .before .find-label .ensures .0 sets _ N) (c .set-label .ensures),
+  λ d sets N. label-taken (sym (c .before .before .before .before .before .before .before .before .before .before .before .byte-at .ensures) ∙ c .before .before .before .before .before .before .before .before .before .before .if1 .left) (sym (c .before .before .before .before .before .before .before .before .before .name-end .ensures) ∙ c .before .before .before .before .before .before .before .r .given .1) (λ ended. sym (ap foundAs (c .before .before .before .found .given .1)) ∙ c .before .before .before .before .before .find-label-to .ensures .0 sets _ ended N) (c .set-label .ensures),
 )
 
 pub take-label-spec : {M : Type 1} → statement M
@@ -66,8 +66,8 @@ take-label-spec =
     enum-known-r
     enum-told
     returns-2
-    add-find-label
-    find-label-requires
+    add-find-label-to
+    find-label-to-requires
     enum-known-found
     enum-told-2
     returns-3

@@ -11,10 +11,12 @@ use Rattle.document.specs.ValueFaults.{rowValues}
 use Rattle.index.specs.Index.{Tables, schemeBy}
 use Rattle.index.specs.declared.tables.SchemeCode.{SchemeCode}
 use Rattle.lists.proofs.Tests.{true-not-false}
-use Rattle.rows.proofs.RowLines.{line-taken}
+use Rattle.rows.proofs.RowLines.{line-taken, name-ends}
 use Rattle.rows.proofs.RowsTaken.{TableTold, table-told}
-use Rattle.rows.specs.Taken.{NoLabels, TakesItems, TakesRow}
+use Rattle.rows.specs.Taken.{NoLabels, TakesItems, TakesRow, tableEnd}
+use Rattle.text.specs.Walking.{wordEndAt}
 use Rattle.text.specs.Words.{wordOf}
+use Rattle.text.specs.declared.words.End.the-variants.{At}
 use Rattle.rows.proofs.lines.take_row.Statement.{statement}
 use Rattle.rows.proofs.lines.take_row.Tie as tie
 
@@ -22,13 +24,16 @@ use Rattle.rows.proofs.lines.take_row.Tie as tie
 room : (c : tie.After-table-scheme) → c .before .before .before .before .before .before .before .before .before .before .before .before .args .k < 1024
 room c = c .before .before .before .before .before .before .before .before .before .if1 .left
 
+ends : (c : tie.After-table-scheme) → tableEnd (c .before .before .before .before .before .before .before .before .before .before .before .before .args .line .now) ≡ At (c .before .before .before .before .before .before .t .given .0 .0)
+ends c = sym (c .before .before .before .before .before .before .before .before .table-end .ensures) ∙ c .before .before .before .before .before .before .t .given .1
+
 found : (c : tie.After-table-scheme) (d : Doc) {s : SchemeCode} → Tables (c .before .before .before .before .before .before .before .before .before .before .before .before .args .text .now) (c .before .before .before .before .before .before .before .before .before .before .before .before .args .tables .now) (c .before .before .before .before .before .before .before .before .before .before .before .before .args .tables-count) (d .policy .tables) → c .table-scheme .result ≡ s
     → TableTold (c .before .before .before .before .before .before .before .before .before .before .before .before .args .tables .now) (c .before .before .before .before .before .before .before .before .before .before .before .before .args .tables-count) (c .before .before .found .given .0 .0) s (wordOf (c .before .before .before .before .before .before .before .before .before .before .before .before .args .line .now) 5) (d .policy)
-unfolding tableOf
-found c d T told = table-told (wordOf (c .before .before .before .before .before .before .before .before .before .before .before .before .args .line .now) 5) (d .policy) T (c .before .before .found .given .1) (c .before .before .before .before .find-table .ensures .0 _ T) (c .before .before .before .before .find-table .ensures .1) told (c .table-scheme .ensures)
+unfolding tableOf wordEndAt
+found c d T told = table-told (wordOf (c .before .before .before .before .before .before .before .before .before .before .before .before .args .line .now) 5) (d .policy) T (c .before .before .found .given .1) (c .before .before .before .before .find-table-to .ensures .0 _ (name-ends (c .before .before .before .before .before .before .before .before .before .before .before .before .args .line .now) (c .before .before .before .before .before .before .t .given .0 .0) (ends c)) T) (c .before .before .before .before .find-table-to .ensures .1) told (c .table-scheme .ensures)
 
 as-line : (c : tie.After-table-scheme) (after : List ℕ) (d : Doc) (r : Bool) → TakesItems (c .before .before .before .before .before .before .before .before .before .before .before .before .args .text .now) (c .before .before .before .before .before .before .before .before .before .before .before .before .args .line .now) after (c .before .before .before .before .before .before .before .before .before .before .before .before .args .k) (c .before .before .before .before .before .before .t .given .0 .0) d r → TakesRow (c .before .before .before .before .before .before .before .before .before .before .before .before .args .text .now) (c .before .before .before .before .before .before .before .before .before .before .before .before .args .line .now) after (c .before .before .before .before .before .before .before .before .before .before .before .before .args .k) d r
-as-line c after d r = line-taken (c .before .before .before .before .before .before .before .before .before .before .before .before .args .line .now) (c .before .before .before .before .before .before .t .given .0 .0) (sym (c .before .before .before .before .before .before .before .before .table-end .ensures) ∙ c .before .before .before .before .before .before .t .given .1) (c .before .before .before .before .before .before .before .before .before .before .before .before .args .text .now) after (c .before .before .before .before .before .before .before .before .before .before .before .before .args .k) d r
+as-line c after d r = line-taken (c .before .before .before .before .before .before .before .before .before .before .before .before .args .line .now) (c .before .before .before .before .before .before .t .given .0 .0) (ends c) (c .before .before .before .before .before .before .before .before .before .before .before .before .args .text .now) after (c .before .before .before .before .before .before .before .before .before .before .before .before .args .k) d r
 
 returns : tie.Need-returns
 returns c = (λ d sets l L T N. N, λ e. true-not-false e refl)
@@ -45,8 +50,8 @@ enum-told c = search needs
 returns-2 : tie.Need-returns-2
 returns-2 c = search needs
 
-find-table-requires : tie.Need-find-table-requires
-find-table-requires c κs = search needs
+find-table-to-requires : tie.Need-find-table-to-requires
+find-table-to-requires c κs = search needs
 
 enum-known-found : tie.Need-enum-known-found
 enum-known-found c = search needs
@@ -119,7 +124,7 @@ take-row-spec =
     enum-known-t
     enum-told
     returns-2
-    find-table-requires
+    find-table-to-requires
     enum-known-found
     enum-told-2
     returns-3
