@@ -1,6 +1,6 @@
 -- The code's walk through a condition: its answer, lists of conditions as a loop goes through them, and that evaluation by
 -- numbered truths is evaluation. Assumes nothing.
-use Prim.Native.Nat.{_+_, ℕ}
+use Prim.Native.Nat.{_+_, _<_, _≤_, suc, zero, ℕ}
 use lib.ListN.{drop, getD, length, length-map, take, take-append-drop}
 use lib.Seq.{drop-drop, getD-drop}
 use mathlib.Core.Bool.{Bool, _&&_, _||_, and-true, cond, false, not, or-false, true}
@@ -11,9 +11,9 @@ use native.Mathlib.Nat.{add-assoc, add-zero, zero-add}
 use native.Mathlib.Omega.{arith}
 use Rattle.condition.proofs.CondEats.{size}
 use Rattle.condition.proofs.CondLaws.{comparisonsOf-more, size-more}
-use Rattle.condition.specs.Answers.{comparedIn, counted, heldRead, joining, numbered, numberedAll, walked}
+use Rattle.condition.specs.Answers.{Jumps, Onward, comparedIn, counted, heldRead, joining, numbered, numberedAll, walked}
 use Rattle.condition.specs.Cond.{Cond, Conds, both, comparisons, comparisonsOf, either, holdAll, holdAny, holds, last, more, negate, test}
-use Rattle.condition.specs.CondForm.{Compared, conditions, inRow}
+use Rattle.condition.specs.CondForm.{Compared, condition, conditions, inRow}
 use Rattle.lists.proofs.ListLaws.{drop-append, map-append}
 use Rattle.text.proofs.AnswerLaws.{Answer, answer-map, answerOf}
 use Rattle.text.proofs.ManyLaws.{many-more, many-stop, many-wrong}
@@ -54,6 +54,28 @@ truth ts n = getD ts n false
 -- what the walk makes of a condition: the number of the comparison behind it, and whether it holds
 abbrev pub walkOf : List Bool → ℕ → Cond Compared → ℕ × Bool
 walkOf ts k c = (k + size c, holds (truth ts) (numbered k c))
+
+pub onward-refused : (at : ℕ) → Onward at walk.Refused
+onward-refused at = record { past = λ e n b h. absurd (walk-apart e (n, b) (sym h)) }
+
+pub onward-at : (at e n : ℕ) (b : Bool) → at ≤ e → n ≤ e → Onward at (walk.At e n b)
+onward-at at e n b h g = record {
+  past = λ e′ n′ b′ q.
+      let p = same-end e e′ (n, b) (n′, b′) q in
+      let r = same-number e e′ (n, b) (n′, b′) q in
+      (omega (arith, p), omega (arith, p, r));
+}
+
+-- a comparison whose end is known
+pub jumped : (s ops ends : List ℕ) (m : ℕ) → Jumps s ops ends m → (ts : List Bool) (k at d to : ℕ) → (d ≡ 0 → ⊥) → 0 < to → (k < m) × (getD ops k 0 ≡ at + 1) × (getD ends k 0 ≡ to)
+    → walked ts k (condition d (from s at)) ≡ walk.At to (k + 1) (truth ts k)
+unfolding comparisons holds numbered
+jumped s ops ends m j ts k at zero to nz p f = absurd (nz refl)
+jumped s ops ends m j ts k at (suc d) to nz p f = ap (walked ts k) (j .to k at (f .0) (f .1) (omega (arith, f .2)) d) ∙ ap (λ (e : ℕ). walk.At e (k + 1) (truth ts k)) (f .2)
+
+-- no ends are known
+pub no-jumps : (s ops ends : List ℕ) → Jumps s ops ends 0
+no-jumps s ops ends = record { to = λ k at h. absurd (omega arith) }
 
 -- ---- lists of conditions
 
