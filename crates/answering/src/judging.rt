@@ -2,7 +2,7 @@
 use crate::comparing::read_comparisons;
 use crate::comparing::store_truths;
 use crate::tally::Tally;
-use condition::conditions::holds_condition;
+use condition::conditions::holds_placed;
 use index::layout::LABELS;
 use index::layout::ROW_CELLS;
 use index::layout::ROWS;
@@ -22,6 +22,7 @@ ghost use mathlib.Core.Path.{_≡_};
 ghost use Rattle.answer.specs.Answer.{matches};
 ghost use Rattle.answering.specs.Judging.{AllReady, JudgedTo, Outcome, OutcomeOf, Remembered, SchemeOf, countedBy, fateOf, labelsIn, lastBy, openIn, passedBy};
 ghost use Rattle.answering.specs.Prepared.{Judged, Prepared};
+ghost use Rattle.condition.specs.Answers.{Jumps};
 ghost use Rattle.document.specs.Open.{labelOpen, rowWithheld};
 ghost use Rattle.document.specs.Policy.{Doc, Policy};
 ghost use Rattle.index.specs.Index.{Opened, rowIn, schemeBy};
@@ -105,18 +106,28 @@ fn is_withheld(
     }
 }
 
-// Whether the condition at a place of the query holds by the truths: what it was where they are the `same`, and else by a walk.
-fn outcome_by(query: &[u8], at: usize, truths: &[bool; 64], same: bool, last: Last) -> bool
-    requires { ⌜ (same ≡ true → (b : Bool) → last ≡ Last.Was b → Outcome (now query) at (now truths) b) ⌝ }
+// Whether the condition at a place of the query holds by the truths: what it was where they are the `same`, and else by a walk,
+// which goes by where the m comparisons stand and end.
+fn outcome_by(
+    query: &[u8],
+    at: usize,
+    ops: &[usize; 64],
+    ends: &[usize; 64],
+    m: usize,
+    truths: &[bool; 64],
+    same: bool,
+    last: Last,
+) -> bool
+    requires { ⌜ (same ≡ true → (b : Bool) → last ≡ Last.Was b → Outcome (now query) at (now truths) b) × Jumps (now query) (now ops) (now ends) m ⌝ }
     ensures { λ x. ⌜ Outcome (now (query .entry)) at (now (truths .entry)) x ⌝ }
 {
     match last {
-        Last::Unknown => holds_condition(query, at, truths),
+        Last::Unknown => holds_placed(query, at, truths, ops, ends, m),
         Last::Was(b) => {
             if same {
                 return b;
             }
-            holds_condition(query, at, truths)
+            holds_placed(query, at, truths, ops, ends, m)
         }
     }
 }
@@ -129,6 +140,7 @@ fn row_matches(
     r: usize,
     query: &[u8],
     test: Test,
+    ops: &[usize; 64],
     m: usize,
     columns: &[usize; 80],
     chosen: usize,
@@ -136,11 +148,12 @@ fn row_matches(
     operators: &[usize; 64],
     values: &[usize; 64],
     ranks: &[u64; 64],
+    ends: &[usize; 64],
     truths: &mut [bool; 64],
     last: Last,
 ) -> bool
-    requires { ⌜ (chosen ≤ 16) × (m ≤ 64) × Remembered (now query) test m (now truths) last ⌝ }
-    ensures { λ x. ⌜ ((ts ops : List ℕ) (t count : ℕ) (os : List Bool) (d : Doc) (q : Query) (selecting : Bool) → AllReady ts t (now (query .entry)) ops m (now (columns .entry)) chosen (now (kinds .entry)) (now (operators .entry)) (now (values .entry)) (now (ranks .entry)) → Prepared (now (text .entry)) ts (now (rows .entry)) t count os (now (query .entry)) test ops m (now (columns .entry)) selecting chosen d q → r < count → x ≡ matches (q .condition) (rowIn (now (text .entry)) (now (rows .entry)) r .values)) × OutcomeOf (now (query .entry)) test m (now (truths .exit)) x ⌝ }
+    requires { ⌜ (chosen ≤ 16) × (m ≤ 64) × Remembered (now query) test m (now truths) last × Jumps (now query) (now ops) (now ends) m ⌝ }
+    ensures { λ x. ⌜ ((ts : List ℕ) (t count : ℕ) (os : List Bool) (d : Doc) (q : Query) (selecting : Bool) → AllReady ts t (now (query .entry)) (now (ops .entry)) m (now (columns .entry)) chosen (now (kinds .entry)) (now (operators .entry)) (now (values .entry)) (now (ranks .entry)) → Prepared (now (text .entry)) ts (now (rows .entry)) t count os (now (query .entry)) test (now (ops .entry)) m (now (columns .entry)) selecting chosen d q → r < count → x ≡ matches (q .condition) (rowIn (now (text .entry)) (now (rows .entry)) r .values)) × OutcomeOf (now (query .entry)) test m (now (truths .exit)) x ⌝ }
 {
     match test {
         Test::Always => true,
@@ -164,7 +177,7 @@ fn row_matches(
                 ranks,
                 truths,
             );
-            outcome_by(query, at, truths, same, last)
+            outcome_by(query, at, ops, ends, m, truths, same, last)
         }
     }
 }
@@ -179,6 +192,7 @@ fn fate_of(
     opened: &[bool; LABELS],
     query: &[u8],
     test: Test,
+    ops: &[usize; 64],
     m: usize,
     columns: &[usize; 80],
     chosen: usize,
@@ -186,11 +200,12 @@ fn fate_of(
     operators: &[usize; 64],
     values: &[usize; 64],
     ranks: &[u64; 64],
+    ends: &[usize; 64],
     truths: &mut [bool; 64],
     last: Last,
 ) -> Fate
-    requires { ⌜ (chosen ≤ 16) × (m ≤ 64) × Remembered (now query) test m (now truths) last ⌝ }
-    ensures { λ x. ⌜ ((ts ops : List ℕ) (count : ℕ) (d : Doc) (q : Query) (selecting : Bool) → SchemeOf ts t scheme → AllReady ts t (now (query .entry)) ops m (now (columns .entry)) chosen (now (kinds .entry)) (now (operators .entry)) (now (values .entry)) (now (ranks .entry)) → Prepared (now (text .entry)) ts (now (rows .entry)) t count (now (opened .entry)) (now (query .entry)) test ops m (now (columns .entry)) selecting chosen d q → r < count → x ≡ fateOf d q (rowIn (now (text .entry)) (now (rows .entry)) r)) × Remembered (now (query .entry)) test m (now (truths .exit)) (lastBy last x) ⌝ }
+    requires { ⌜ (chosen ≤ 16) × (m ≤ 64) × Remembered (now query) test m (now truths) last × Jumps (now query) (now ops) (now ends) m ⌝ }
+    ensures { λ x. ⌜ ((ts : List ℕ) (count : ℕ) (d : Doc) (q : Query) (selecting : Bool) → SchemeOf ts t scheme → AllReady ts t (now (query .entry)) (now (ops .entry)) m (now (columns .entry)) chosen (now (kinds .entry)) (now (operators .entry)) (now (values .entry)) (now (ranks .entry)) → Prepared (now (text .entry)) ts (now (rows .entry)) t count (now (opened .entry)) (now (query .entry)) test (now (ops .entry)) m (now (columns .entry)) selecting chosen d q → r < count → x ≡ fateOf d q (rowIn (now (text .entry)) (now (rows .entry)) r)) × Remembered (now (query .entry)) test m (now (truths .exit)) (lastBy last x) ⌝ }
 {
     if row_table(rows, r) != t {
         return Fate::Elsewhere;
@@ -204,6 +219,7 @@ fn fate_of(
         r,
         query,
         test,
+        ops,
         m,
         columns,
         chosen,
@@ -211,6 +227,7 @@ fn fate_of(
         operators,
         values,
         ranks,
+        ends,
         truths,
         last,
     ) {
@@ -281,6 +298,7 @@ fn judge_each(
     opened: &[bool; LABELS],
     query: &[u8],
     test: Test,
+    ops: &[usize; 64],
     m: usize,
     columns: &[usize; 80],
     chosen: usize,
@@ -288,10 +306,11 @@ fn judge_each(
     operators: &[usize; 64],
     values: &[usize; 64],
     ranks: &[u64; 64],
+    ends: &[usize; 64],
     marks: &mut [bool],
 ) -> Tally
-    requires { ⌜ (chosen ≤ 16) × (m ≤ 64) × (count ≤ 1024) × (count ≤ length (now marks)) ⌝ }
-    ensures { λ x. ⌜ ((ts ops : List ℕ) (d : Doc) (q : Query) (selecting : Bool) → SchemeOf ts t scheme → AllReady ts t (now (query .entry)) ops m (now (columns .entry)) chosen (now (kinds .entry)) (now (operators .entry)) (now (values .entry)) (now (ranks .entry)) → Prepared (now (text .entry)) ts (now (rows .entry)) t count (now (opened .entry)) (now (query .entry)) test ops m (now (columns .entry)) selecting chosen d q → JudgedTo d q (rowIn (now (text .entry)) (now (rows .entry))) count (now (marks .exit)) x) ⌝ }
+    requires { ⌜ (chosen ≤ 16) × (m ≤ 64) × (count ≤ 1024) × (count ≤ length (now marks)) × Jumps (now query) (now ops) (now ends) m ⌝ }
+    ensures { λ x. ⌜ ((ts : List ℕ) (d : Doc) (q : Query) (selecting : Bool) → SchemeOf ts t scheme → AllReady ts t (now (query .entry)) (now (ops .entry)) m (now (columns .entry)) chosen (now (kinds .entry)) (now (operators .entry)) (now (values .entry)) (now (ranks .entry)) → Prepared (now (text .entry)) ts (now (rows .entry)) t count (now (opened .entry)) (now (query .entry)) test (now (ops .entry)) m (now (columns .entry)) selecting chosen d q → JudgedTo d q (rowIn (now (text .entry)) (now (rows .entry))) count (now (marks .exit)) x) ⌝ }
 {
     let mut truths = [false; 64];
     let mut last = Last::Unknown;
@@ -311,6 +330,7 @@ fn judge_each(
             opened,
             query,
             test,
+            ops,
             m,
             columns,
             chosen,
@@ -318,6 +338,7 @@ fn judge_each(
             operators,
             values,
             ranks,
+            ends,
             &mut truths,
             last,
         );
@@ -352,6 +373,7 @@ fn judge_bounded(
     let mut operators = [0usize; 64];
     let mut values = [0usize; 64];
     let mut ranks = [0u64; 64];
+    let mut ends = [0usize; 64];
     read_comparisons(
         tables,
         t,
@@ -364,17 +386,18 @@ fn judge_bounded(
         &mut operators,
         &mut values,
         &mut ranks,
+        &mut ends,
     );
-    let scheme = table_scheme(tables, t);
     judge_each(
         text,
         t,
-        scheme,
+        table_scheme(tables, t),
         rows,
         count,
         opened,
         query,
         test,
+        ops,
         m,
         columns,
         chosen,
@@ -382,6 +405,7 @@ fn judge_bounded(
         &operators,
         &values,
         &ranks,
+        &ends,
         marks,
     )
 }
