@@ -4,7 +4,7 @@ use lib.Dec.{eqb}
 use lib.ListN.{getD, length}
 use mathlib.Core.Bool.{Bool, _&&_, cond, false, true}
 use mathlib.Core.List.{List, []}
-use mathlib.Core.Option.{Option, some}
+use mathlib.Core.Option.{some}
 use mathlib.Core.Path.{_≡_}
 use Rattle.document.specs.Meaning.{add}
 use Rattle.document.specs.NameFaults.{rowLabels}
@@ -66,6 +66,7 @@ pub record ItemsTaken (text line after : List ℕ) (k is : ℕ) (d : Doc) : Type
   pub passes : Passes d line (rowAt line is)
   pub rows : Rows text after (k + 1) (add d (rowAt line is) .rows)
 
+-- the code's answer for such a line: the row is taken, or the rows are as they were
 abbrev pub TakesItems : (text line after : List ℕ) → ℕ → ℕ → Doc → Bool → Type 0
 TakesItems text line after k is d true = ItemsTaken text line after k is d
 TakesItems text line after k is d false = Rows text after k (d .rows)

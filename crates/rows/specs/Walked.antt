@@ -22,7 +22,7 @@ use Rattle.text.specs.Names.{isName}
 use Rattle.text.specs.Offending.{missing}
 use Rattle.text.specs.Reader.{from}
 use Rattle.text.specs.Walking.{wordEndAt}
-use Rattle.text.specs.Words.{Word, wordAt, wordOf}
+use Rattle.text.specs.Words.{wordAt, wordOf}
 use Rattle.text.specs.declared.words.End.{End}
 use Rattle.text.specs.declared.words.End.the-variants.{At, Nothing}
 
@@ -59,15 +59,17 @@ pub record LabelTaken (before after line : List ℕ) (d : Policy) (k m at e : �
   pub found : there (labelOf d (wordOf line (at + 1))) ≡ true
   pub stored : LabelStored before after k m (known (labelOf d (wordOf line (at + 1))))
 
--- the code's answers: what was taken up to the end, or nothing
+-- the code's answer for values: they were taken up to an end, or nothing is said
 abbrev pub ValuesWalked : (text before after line : List ℕ) → ℕ → ℕ → ℕ → List ℕ → List Column → ℕ → End → Type 0
 ValuesWalked text before after line k n m ls cs is Nothing = Unit {0}
 ValuesWalked text before after line k n m ls cs is (At e) = ValuesTaken text before after line k n m ls cs is e
 
+-- its answer for cells
 abbrev pub CellsWalked : (text before after line : List ℕ) → ℕ → ℕ → Policy → List Column → ℕ → End → Type 0
 CellsWalked text before after line k n d cs is Nothing = Unit {0}
 CellsWalked text before after line k n d cs is (At e) = CellsTaken text before after line k n d cs is e
 
+-- its answer for a label
 abbrev pub LabelWalked : (before after line : List ℕ) → Policy → ℕ → ℕ → ℕ → End → Type 0
 LabelWalked before after line d k m at Nothing = Unit {0}
 LabelWalked before after line d k m at (At e) = LabelTaken before after line d k m at e

@@ -1,7 +1,6 @@
 -- `checker::steps::step_line` meets its contract: a row that one walk takes is added, and any other line is answered by its form.
 -- Assumes nothing.
 use Prim.Native.Nat.{ℕ}
-use borrow.Author.Needs.{needs}
 use mathlib.Core.Bool.{Bool, false, true}
 use mathlib.Core.List.{List}
 use mathlib.Core.Path.{_∙_, _≡_, subst}
