@@ -35,7 +35,8 @@ extern "C" {
 #define GATE_FIGURES 5
 
 /* What the calls return: 0, or the number of a refusal. Where several hold, a document is refused for its first failing line
- * and there with the lowest number, and a query with the lowest number. Each line says which part is handed back. */
+ * and there with the lowest number, and a query with the lowest number. Each line says which part is handed back.
+ * docs/refusals.tsv has the same with what to do about each; tests/refusals compares the two, and both with the definition. */
 enum gate_outcome {
     GATE_ACCEPTED = 0,             /* nothing is refused */
 
