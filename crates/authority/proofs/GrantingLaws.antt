@@ -13,10 +13,10 @@ use Rattle.index.proofs.ListedLaws.{listed-at, listed-found, listed-none, liste
 use Rattle.index.specs.Index.{CondRoles, Grants, Nodes, condRoleIn, grantIn}
 use Rattle.lists.proofs.ListLaws.{holdsOf-some}
 use Rattle.lists.proofs.Tests.{and-both}
-use Rattle.lists.specs.Lists.{findIndex, holdsOf, member}
+use Rattle.lists.specs.Lists.{findIndex, holdsOf}
+use Rattle.purpose.proofs.Compliance.{above-descends}
 use Rattle.purpose.specs.Compliance.{descends, inTree}
-use Rattle.purpose.specs.Meaning.{ClosureOf}
-use Rattle.purpose.specs.Members.{members}
+use Rattle.purpose.specs.Meaning.{ClosureOf, isAbove}
 use Rattle.purpose.specs.declared.Closure.{Closure}
 use Rattle.query.specs.Authority.{Clock, authorises, belongs}
 
@@ -70,7 +70,7 @@ module _ (d : Policy) (c : Clock) (u : User) (p : ℕ) (g : Grant) where
 -- ---- what the arrays hold
 
 -- what first_grant is told of the document
-pub record Told (ancestors roles : List ℕ) (rcount : ℕ) (conds : List ℕ) (ccount : ℕ) (grants : List ℕ) (gcount : ℕ) (held : List Bool) (role : ℕ) : Type 0 where
+pub record Told (closure : Closure) (roles : List ℕ) (rcount : ℕ) (conds : List ℕ) (ccount : ℕ) (grants : List ℕ) (gcount : ℕ) (held : List Bool) (role : ℕ) : Type 0 where
   pub d : Policy
   pub text : List ℕ
   pub clock : Clock
@@ -79,19 +79,19 @@ pub record Told (ancestors roles : List ℕ) (rcount : ℕ) (conds : List ℕ) (
   pub nodes : Nodes 64 text roles rcount (d .roles)
   pub conditions : CondRoles d text conds ccount (d .condRoles)
   pub given : Grants grants gcount (d .grants)
-  pub above : (a : ℕ) → member a (members ancestors) ≡ descends (treeOf (d .purposes)) p a
+  pub above : (a : ℕ) → isAbove closure a ≡ descends (treeOf (d .purposes)) p a
   pub truths : Held clock u (d .condRoles) held
   pub acting : role ≡ u .role
 
--- in the tree, the closure's ancestors are those above the purpose
-pub above-of : (tree : List ℕ) (p : ℕ) (c : Closure) → ClosureOf tree p c → inTree tree p ≡ true → (a : ℕ) → member a (members (c .ancestors)) ≡ descends tree p a
-above-of tree p c h e a = h .up a ∙ ap (λ (b : Bool). b && descends tree p a) e
+-- in the tree, what stands above by the closure is what the purpose descends from
+pub above-of : (tree : List ℕ) (p : ℕ) (c : Closure) → ClosureOf tree p c → inTree tree p ≡ true → (a : ℕ) → isAbove c a ≡ descends tree p a
+above-of tree p c h e a = above-descends tree p c a h ∙ ap (λ (b : Bool). b && descends tree p a) e
 
 -- what its contract is told is all of it
 abbrev pub told : {closure : Closure} {roles : List ℕ} {rcount : ℕ} {conds : List ℕ} {ccount : ℕ} {grants : List ℕ} {gcount : ℕ} {held : List Bool} {role : ℕ}
     (d : Policy) (text : List ℕ) (c : Clock) (u : User) (p : ℕ) → Nodes 64 text roles rcount (d .roles) → CondRoles d text conds ccount (d .condRoles)
     → Grants grants gcount (d .grants) → ClosureOf (treeOf (d .purposes)) p closure → inTree (treeOf (d .purposes)) p ≡ true → Held c u (d .condRoles) held
-    → role ≡ u .role → Told (closure .ancestors) roles rcount conds ccount grants gcount held role
+    → role ≡ u .role → Told closure roles rcount conds ccount grants gcount held role
 told {closure = k} d text c u p nodes conditions given near inside truths acting = record {
   d = d;
   text = text;
@@ -116,7 +116,7 @@ RoleRead ws i r = (k : ℕ) (gs : List Grant) (g : Grant) → Grants ws k gs →
 abbrev HeldRead : List Bool → ℕ → ℕ → Bool → Type 0
 HeldRead truths k r b = (c : Clock) (v : User) (rs : List CondRole) → length rs ≡ k → k ≤ 64 → Held c v rs truths → b ≡ holdsOf (conditionHolds c v) (getElem? rs r)
 
-module _ {ancestors roles : List ℕ} {rcount : ℕ} {conds : List ℕ} {ccount : ℕ} {grants : List ℕ} {gcount : ℕ} {held : List Bool} {role : ℕ} (t : Told ancestors roles rcount conds ccount grants gcount held role) where
+module _ {closure : Closure} {roles : List ℕ} {rcount : ℕ} {conds : List ℕ} {ccount : ℕ} {grants : List ℕ} {gcount : ℕ} {held : List Bool} {role : ℕ} (t : Told closure roles rcount conds ccount grants gcount held role) where
   -- grant i authorises the purpose
   abbrev pub passes : ℕ → Bool
   passes i = authorises (t .d) (t .clock) (t .u) (t .p) (grantIn grants i)
@@ -136,12 +136,12 @@ module _ {ancestors roles : List ℕ} {rcount : ℕ} {conds : List ℕ} {ccount 
     here : getElem? (t .d .grants) i ≡ some (grantIn grants i)
     here = ap (λ gs. getElem? gs i) (sym (t .given .are)) ∙ listed-at (grantIn grants) gcount i l
 
-    above-is : (q : ℕ) → PurposeRead grants i q → member q (members ancestors) ≡ descends (treeOf (t .d .purposes)) (t .p) (grantIn grants i .purpose)
+    above-is : (q : ℕ) → PurposeRead grants i q → isAbove closure q ≡ descends (treeOf (t .d .purposes)) (t .p) (grantIn grants i .purpose)
     above-is q of =
-        ap (λ x. member x (members ancestors)) (of gcount (t .d .grants) (grantIn grants i) (t .given) here) ∙ t .above (grantIn grants i .purpose)
+        ap (λ x. isAbove closure x) (of gcount (t .d .grants) (grantIn grants i) (t .given) here) ∙ t .above (grantIn grants i .purpose)
 
     -- its purpose is not above the one asked for
-    pub no-purpose : (q : ℕ) → PurposeRead grants i q → member q (members ancestors) ≡ false → passes i ≡ false
+    pub no-purpose : (q : ℕ) → PurposeRead grants i q → isAbove closure q ≡ false → passes i ≡ false
     no-purpose q of e = not-above (t .d) (t .clock) (t .u) (t .p) (grantIn grants i) (sym (above-is q of) ∙ e)
 
     module _ (r : ℕ) (of : RoleRead grants i r) where
@@ -172,7 +172,7 @@ module _ {ancestors roles : List ℕ} {rcount : ℕ} {conds : List ℕ} {ccount 
             (ap (λ x. descends (treeOf (t .d .roles)) x target) (sym (t .acting)) ∙ e)
 
         -- all of it is so
-        pub all-so : (q : ℕ) → PurposeRead grants i q → member q (members ancestors) ≡ true → (b : Bool) → HeldRead held ccount r b → b ≡ true
+        pub all-so : (q : ℕ) → PurposeRead grants i q → isAbove closure q ≡ true → (b : Bool) → HeldRead held ccount r b → b ≡ true
             → descends (treeOf (t .d .roles)) role target ≡ true → passes i ≡ true
         all-so q ofPurpose a b h held-so e =
             authorised (t .d) (t .clock) (t .u) (t .p) (grantIn grants i) target target-is

@@ -19,7 +19,7 @@ use index::users::user_place;
 use index::users::user_role;
 use index::users::user_start;
 use purpose::Closure;
-use purpose::contains;
+use purpose::is_above;
 use query::clock::Clock;
 ghost use Prim.Native.Nat.{_<_, _≤_, ℕ};
 ghost use lib.ListN.{getElem?, length};
@@ -71,11 +71,10 @@ fn first_grant(
 ) -> Found
     ensures { λ x. ⌜ ((d : Policy) (text : List ℕ) (c : authority.Clock) (u : User) (p : ℕ) → Nodes 64 text (now (roles .entry)) rcount (d .roles) → CondRoles d text (now (conds .entry)) ccount (d .condRoles) → Grants (now (grants .entry)) gcount (d .grants) → ClosureOf (treeOf (d .purposes)) p closure → inTree (treeOf (d .purposes)) p ≡ true → Held c u (d .condRoles) (now (held .entry)) → role ≡ u .role → foundAs x ≡ findIndex (authority.authorises d c u p) (d .grants)) ⌝ }
 {
-    let ancestors = closure.ancestors;
     let mut found = Found::Nothing;
     let mut i = 0;
     'grants: while i < gcount {
-        if contains(ancestors, grant_purpose(grants, i)) {
+        if is_above(closure, grant_purpose(grants, i)) {
             let c = grant_cond_role(grants, i);
             if holds_at(held, ccount, c) {
                 let target = cond_role_role(conds, c);

@@ -13,9 +13,10 @@ use Rattle.lists.specs.Lists.{anyOf, member}
 use Rattle.purpose.proofs.Ancestry.{ancestor-le, chain, descends-outside, descends-trans, root-above}
 use Rattle.purpose.proofs.Words.{Words, meet-overlap, overlap}
 use Rattle.purpose.specs.Compliance.{Grown, Marks, Same, descends, inTree, meet, opens, related}
-use Rattle.purpose.specs.Meaning.{ClosureOf}
+use Rattle.purpose.specs.Meaning.{ClosureOf, admitted, isAbove, marksOf}
 use Rattle.purpose.specs.Members.{members}
 use Rattle.purpose.specs.declared.Closure.{Closure}
+use Rattle.purpose.specs.declared.Label.{Label}
 
 -- a closure that is empty outside the tree: meeting it is being in the tree and passing its test
 meet-closure : (inside : Bool) (f : ℕ → Bool) (closure xs : List ℕ)
@@ -54,18 +55,15 @@ compliance-words tree p allowed denied c of small small′ =
     ap₂ (λ (x y : Bool). x && not y) (sym (meet-overlap (c .ancestors) allowed small)) (sym (meet-overlap (c .relatives) denied small′))
     ∙ compliance tree p (record { allowed = members allowed; denied = members denied }) (members (c .ancestors)) (members (c .relatives)) (of .up) (of .near)
 
--- the same, test by test: where the first fails the label is closed, and else the second decides
-pub admits-none : (tree : List ℕ) (p : ℕ) (l : Marks) (c : Closure) → ClosureOf tree p c
-    → meet (members (c .ancestors)) (l .allowed) ≡ false → false ≡ opens tree l p
-admits-none tree p l c of e =
-    ap (λ (b : Bool). b && not (meet (members (c .relatives)) (l .denied))) (sym e)
-    ∙ compliance tree p l (members (c .ancestors)) (members (c .relatives)) (of .up) (of .near)
+-- what a label test computes with the closure of p is whether the label is open to p
+pub admitted-opens : (tree : List ℕ) (p : ℕ) (c : Closure) (l : Label) → ClosureOf tree p c → admitted c l ≡ opens tree (marksOf l) p
+unfolding admitted
+admitted-opens tree p c l of = compliance tree p (marksOf l) (members (c .ancestors)) (members (c .relatives)) (of .up) (of .near)
 
-pub admits-some : (tree : List ℕ) (p : ℕ) (l : Marks) (c : Closure) → ClosureOf tree p c
-    → meet (members (c .ancestors)) (l .allowed) ≡ true → not (meet (members (c .relatives)) (l .denied)) ≡ opens tree l p
-admits-some tree p l c of e =
-    ap (λ (b : Bool). b && not (meet (members (c .relatives)) (l .denied))) (sym e)
-    ∙ compliance tree p l (members (c .ancestors)) (members (c .relatives)) (of .up) (of .near)
+-- what stands above by the closure of p is what p descends from, for a p of the tree
+pub above-descends : (tree : List ℕ) (p : ℕ) (c : Closure) (a : ℕ) → ClosureOf tree p c → isAbove c a ≡ (inTree tree p && descends tree p a)
+unfolding isAbove
+above-descends tree p c a of = of .up a
 
 -- a label goes by the members of its sets alone
 pub opens-same : (tree : List ℕ) (l m : Marks) (p : ℕ) → Same (l .allowed) (m .allowed) → Same (l .denied) (m .denied) → opens tree l p ≡ opens tree m p

@@ -1,14 +1,14 @@
 // Purpose trees, labels and compliance: a library that knows no texts and no tables.
 ghost use mathlib.Core.Path.{_≡_};
 ghost use mathlib.Core.Bool.{_&&_, _||_};
-ghost use mathlib.Core.List.{List, []};
+ghost use mathlib.Core.List.{[]};
 ghost use Prim.Native.Nat.{ℕ, _≤_, _<_};
 ghost use lib.ListN.{length, getD};
 ghost use lib.Dec.{eqb, ltb};
 ghost use Rattle.lists.specs.Lists.{member};
 ghost use Rattle.purpose.specs.Compliance.{meet, Same, descends, related, inTree, opens};
 ghost use Rattle.purpose.specs.Members.{limit, members, including};
-ghost use Rattle.purpose.specs.Meaning.{treeOf, marksOf, Grows, ClosureOf};
+ghost use Rattle.purpose.specs.Meaning.{treeOf, marksOf, Grows, ClosureOf, admitted, isAbove};
 
 // How many words of 64 bits hold a set of purposes, and the most purposes that a tree has.
 pub const WORDS: usize = 1;
@@ -212,9 +212,17 @@ pub fn closure_of(t: Tree, p: usize) -> Closure
     }
 }
 
+// Whether a is the purpose whose closure is given, or stands above it.
+pub fn is_above(c: Closure, a: usize) -> bool
+    ensures { λ r. ⌜ r ≡ isAbove c a ⌝ }
+{
+    let above = c.ancestors;
+    contains(above, a)
+}
+
 // Whether the purpose whose closure is given is open under the label: two ANDs for each word.
 pub fn admits(c: Closure, l: Label) -> bool
-    ensures { λ r. ⌜ ((tree : List ℕ) (p : ℕ) → ClosureOf tree p c → r ≡ opens tree (marksOf l) p) ⌝ }
+    ensures { λ r. ⌜ r ≡ admitted c l ⌝ }
 {
     let ancestors = c.ancestors;
     let allowed = l.allowed;

@@ -18,18 +18,18 @@ use Rattle.authority.proofs.grants.first_grant.Statement.{statement}
 use Rattle.authority.proofs.grants.first_grant.Tie as tie
 
 abbrev Inv-roles : tie.InvT-roles
-Inv-roles roles rcount conds ccount grants gcount held role ancestors found₀ i c target r₀ found r =
+Inv-roles closure roles rcount conds ccount grants gcount held role found₀ i c target r₀ found r =
     (found ≡ found₀) × ((text : List ℕ) (ns : List Node) → Nodes 64 text roles rcount ns → descends (treeOf ns) r target ≡ descends (treeOf ns) role target)
 
 abbrev μ-roles : tie.MeasureT-roles
-μ-roles roles rcount conds ccount grants gcount held role ancestors found₀ i c target r₀ found r = r
+μ-roles closure roles rcount conds ccount grants gcount held role found₀ i c target r₀ found r = r
 
 abbrev Inv-grants : tie.InvT-grants
-Inv-grants roles rcount conds ccount grants gcount held role ancestors found₀ i₀ found i =
-    (found ≡ variant.Nothing) × ((t : Told ancestors roles rcount conds ccount grants gcount held role) (j : ℕ) → j < i → passes t j ≡ false)
+Inv-grants closure roles rcount conds ccount grants gcount held role found₀ i₀ found i =
+    (found ≡ variant.Nothing) × ((t : Told closure roles rcount conds ccount grants gcount held role) (j : ℕ) → j < i → passes t j ≡ false)
 
 abbrev μ-grants : tie.MeasureT-grants
-μ-grants roles rcount conds ccount grants gcount held role ancestors found₀ i₀ found i = gcount - i
+μ-grants closure roles rcount conds ccount grants gcount held role found₀ i₀ found i = gcount - i
 
 grants-holds : tie.Need-grants-holds Inv-roles μ-roles Inv-grants μ-grants
 grants-holds c = (refl, λ t. below-none _)
@@ -37,8 +37,8 @@ grants-holds c = (refl, λ t. below-none _)
 grant-purpose-requires : tie.Need-grant-purpose-requires Inv-roles μ-roles Inv-grants μ-grants
 grant-purpose-requires c κs = search needs
 
-contains-requires : tie.Need-contains-requires Inv-roles μ-roles Inv-grants μ-grants
-contains-requires c κs = search needs
+is-above-requires : tie.Need-is-above-requires Inv-roles μ-roles Inv-grants μ-grants
+is-above-requires c κs = search needs
 
 grant-cond-role-requires : tie.Need-grant-cond-role-requires Inv-roles μ-roles Inv-grants μ-grants
 grant-cond-role-requires c κs = search needs
@@ -87,7 +87,7 @@ grants-again c =
           ∙ way-ends (treeOf (t .d .roles)) (w .5 .r) (w .4 .result) (w .6 .left) (subst (λ y. w .5 .r ≤ y) (w .7 .ensures (t .text) (t .d .roles) (t .nodes)) (w .8 .taken))))
           (λ v. ⊎-elim
           (λ w. no-holding t i small (w .1 .result) (w .1 .ensures) (w .2 .result) (w .2 .ensures) (w .3 .left))
-          (λ w. no-purpose t i small (c .before .before .grant-purpose .result) (c .before .before .grant-purpose .ensures) (sym (c .before .contains .ensures) ∙ w .0 .left))
+          (λ w. no-purpose t i small (c .before .before .grant-purpose .result) (c .before .before .grant-purpose .ensures) (sym (c .before .is-above .ensures) ∙ w .0 .left))
           v)
           (c .if1 .came)),
     )
@@ -104,7 +104,7 @@ returns-2 c d text k u p nodes conditions given near inside truths acting =
     let small = c .before .before .before .before .before .before .before .before .before .grants-test .taken in
     one-found t i small (c .before .before .before .before .before .before .before .before .before .before .grants .inv .1 t)
     (all-so t i small (c .before .before .before .before .before .grant-cond-role .result) (c .before .before .before .before .before .grant-cond-role .ensures) (c .before .before .cond-role-role .result) (c .before .before .cond-role-role .ensures)
-    (c .before .before .before .before .before .before .before .before .grant-purpose .result) (c .before .before .before .before .before .before .before .before .grant-purpose .ensures) (sym (c .before .before .before .before .before .before .before .contains .ensures) ∙ c .before .before .before .before .before .before .if1 .taken)
+    (c .before .before .before .before .before .before .before .before .grant-purpose .result) (c .before .before .before .before .before .before .before .before .grant-purpose .ensures) (sym (c .before .before .before .before .before .before .before .is-above .ensures) ∙ c .before .before .before .before .before .before .if1 .taken)
     (c .before .before .before .before .holds-at .result) (c .before .before .before .before .holds-at .ensures) (c .before .before .before .if2 .taken)
     (sym (c .before .roles .inv .1 text (d .roles) nodes) ∙ way-here (treeOf (d .roles)) (c .before .roles .r) (c .before .before .cond-role-role .result) (c .if3 .taken)))
 
@@ -118,7 +118,7 @@ first-grant-spec =
     μ-grants
     grants-holds
     grant-purpose-requires
-    contains-requires
+    is-above-requires
     grant-cond-role-requires
     holds-at-requires
     cond-role-role-requires

@@ -3,6 +3,7 @@ use borrow.Author.Needs.{needs}
 use mathlib.Core.Path.{_∙_}
 use native.Mathlib.Omega.{arith}
 use Rattle.index.proofs.LabelLaws.{label-below, label-opens}
+use Rattle.purpose.proofs.Compliance.{admitted-opens}
 use Rattle.index.proofs.labels.label_open.Statement.{statement}
 use Rattle.index.proofs.labels.label_open.Tie as tie
 
@@ -21,7 +22,8 @@ admits-requires c κs = search needs
 returns : tie.Need-returns
 returns c tree p text ws k ls l h e of =
     let a = c .before .before .before .before .args in
-    c .admits .ensures tree p of
+    c .admits .ensures
+    ∙ admitted-opens tree p (a .closure) (record { allowed = c .before .before .load-set .result; denied = c .before .load-set2 .result }) of
     ∙ label-opens text ws (a .sets .now) k ls h tree p (a .i) l (c .before .before .load-set .result) (c .before .load-set2 .result) e (c .before .before .load-set .ensures (omega arith)) (c .before .load-set2 .ensures (omega arith))
 
 returns-2 : tie.Need-returns-2
