@@ -27,7 +27,7 @@ ghost use mathlib.Core.Bool.{true};
 ghost use mathlib.Core.List.{List};
 ghost use mathlib.Core.Path.{_≡_};
 ghost use Rattle.authority.specs.Held.{Held, conditionHolds};
-ghost use Rattle.document.proofs.Formed.{Formed};
+ghost use Rattle.document.specs.Invariants.{Formed};
 ghost use Rattle.document.specs.Policy.{CondRole, Node, Policy, User, treeOf};
 ghost use Rattle.index.specs.Index.{Attributes, CondRoles, Grants, Nodes, Users, foundAs};
 ghost use Rattle.lists.specs.Lists.{findIndex, holdsOf};

@@ -11,8 +11,9 @@ use native.Mathlib.Nat.{add-zero}
 use native.Mathlib.Omega.{arith}
 use Rattle.checker.specs.Loading.{Holds, Loads}
 use Rattle.checker.specs.Workspace.{Grows, Indexed}
-use Rattle.document.proofs.UniqueNames.{UniqueNames, unique-empty, unique-line}
+use Rattle.document.proofs.UniqueNames.{unique-empty, unique-line}
 use Rattle.document.specs.Check.{check, checkFrom, checkLine}
+use Rattle.document.specs.Invariants.{UniqueNames}
 use Rattle.document.specs.Policy.{Doc, emptyDoc, emptyPolicy}
 use Rattle.index.proofs.IndexLaws.{attributes-start, conds-start, nodes-start, users-start}
 use Rattle.index.specs.Index.{lineIn}

@@ -1,5 +1,5 @@
--- What the code that answers queries needs of every accepted document: the purposes form one tree, each below an earlier one, and a
--- conditional role has at most 64 comparisons. Assumes nothing.
+-- Every accepted document is formed: the purposes form one tree, each below an earlier one, and a conditional role has at most 64
+-- comparisons. Assumes nothing.
 use Prim.Native.Nat.{_<_, _≤_, ℕ}
 use borrow.Author.Tests.{ltb-false}
 use lib.Dec.{leb, ltb}
@@ -17,6 +17,7 @@ use Rattle.document.proofs.Accepting.{check-accepted, last-accepted, li
 use Rattle.document.specs.Bounds.{overBound, secondRoot}
 use Rattle.document.specs.Check.{Accepted, check, checkFrom, checkLine}
 use Rattle.document.specs.Computing.{computing}
+use Rattle.document.specs.Invariants.{Formed}
 use Rattle.document.specs.Lookup.{purposeOf}
 use Rattle.document.specs.Meaning.{add, attributeComparison, define, nodeOf}
 use Rattle.document.specs.NameFaults.{unknown}
@@ -30,11 +31,6 @@ use Rattle.purpose.specs.Compliance.{Grown}
 use Rattle.text.proofs.OffendingLaws.{missing-none}
 use Rattle.text.specs.Refusal.{accepted}
 use Rattle.text.specs.Words.{Word}
-
-pub record Formed (d : Policy) : Type 0 where
-  pub grown : Grown (treeOf (d .purposes))
-  pub short : (i : ℕ) (r : CondRole) → getElem? (d .condRoles) i ≡ some r → length (comparisons (r .condition)) ≤ 64
-  pub rooted : (n : Node) → getElem? (d .purposes) 0 ≡ some n → n .parent ≡ 0
 
 -- ---- one more purpose
 

@@ -14,9 +14,10 @@ use native.Mathlib.Omega.{arith}
 use Rattle.document.specs.Lookup.{attributeNamed, attributeOf, hasAttribute}
 use Rattle.document.specs.Policy.{Attribute, Policy}
 use Rattle.document.specs.ValueFaults.{givenOnce, givesAll, isAttributeOf}
-use Rattle.lists.proofs.Distinct.{NoTwoSame, no-two-count}
+use Rattle.lists.proofs.Distinct.{no-two-count}
 use Rattle.lists.proofs.ListLaws.{all-everywhere, all-here, all-keep, count-apart, count-keep, count-least, findIndex-found, holdsOf-some, there-none, total, total-filled, total-ones, total-pairs}
 use Rattle.lists.proofs.Tests.{and-both, and-left, and-right, both, or-cases, true-not-false}
+use Rattle.lists.specs.Distinct.{NoTwoSame}
 use Rattle.lists.specs.Lists.{allOf, countOf, findIndex, holdsOf, keep, there}
 use Rattle.text.proofs.NameLaws.{called-other, called-same, sameName-sym, sameName-trans}
 use Rattle.text.proofs.OffendingLaws.{none-repeated, repeated-none, sameWord}

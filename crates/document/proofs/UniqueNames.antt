@@ -12,14 +12,16 @@ use mathlib.Core.Path.{_∙_, _≡_, ap, refl, subst, sym}
 use Rattle.document.proofs.Accepting.{check-accepted, last-accepted, line-accepted, more-accepted}
 use Rattle.document.specs.Check.{Accepted, check, checkFrom, checkLine}
 use Rattle.document.specs.Computing.{computing}
+use Rattle.document.specs.Invariants.{UniqueNames}
 use Rattle.document.specs.Lookup.{attributeOf, condRoleOf, labelOf, purposeOf, roleOf, tableOf, userOf}
 use Rattle.document.specs.Meaning.{add, columnMeant, define, marksOf, nodeOf}
 use Rattle.document.specs.NameFaults.{taken, unknown}
 use Rattle.document.specs.Policy.{Doc, Given, Label, Policy, Table, User, clockAttributes, emptyDoc}
 use Rattle.form.specs.Form.{ColumnForm, Form, attr, condRole, grant, label, purpose, role, row, table, user}
-use Rattle.lists.proofs.Distinct.{NoTwoSame, no-two-grown, no-two-images, no-two-nil, no-two-sources}
+use Rattle.lists.proofs.Distinct.{no-two-grown, no-two-images, no-two-nil, no-two-sources}
 use Rattle.lists.proofs.ListLaws.{all-here, all-parts, findIndex-none, getElem?-grown, there-some}
 use Rattle.lists.proofs.Tests.{and-both, and-left, and-right, never, true-not-false}
+use Rattle.lists.specs.Distinct.{NoTwoSame}
 use Rattle.lists.specs.Lists.{allOf, findIndex, holdsOf, known, there}
 use Rattle.text.proofs.NameLaws.{found-same, sameName-sym}
 use Rattle.text.proofs.OffendingLaws.{leftmost-head, leftmost-tail, missing-none, offendingIf-none, repeated-none, sameWord, unless-none}
@@ -27,19 +29,6 @@ use Rattle.text.specs.Names.{Name, sameName}
 use Rattle.text.specs.Offending.{offendingIf, repeated}
 use Rattle.text.specs.Refusal.{accepted}
 use Rattle.text.specs.Words.{Word, isCalled, plainWord}
-
--- no two definitions of a kind have the same name, the clock's attributes included; no two user forms have the same user and
--- role; no two columns of a table have the same name; no purpose stands twice in a set of a label
-pub record UniqueNames (d : Policy) : Type 0 where
-  pub purposes : NoTwoSame (λ x y. sameName (x .name) (y .name)) (d .purposes)
-  pub roles : NoTwoSame (λ x y. sameName (x .name) (y .name)) (d .roles)
-  pub attributes : NoTwoSame (λ x y. sameName (x .name) (y .name)) (d .attributes)
-  pub users : NoTwoSame (λ x y. sameName (x .name) (y .name) && eqb (x .role) (y .role)) (d .users)
-  pub condRoles : NoTwoSame (λ x y. sameName (x .name) (y .name)) (d .condRoles)
-  pub labels : NoTwoSame (λ x y. sameName (x .name) (y .name)) (d .labels)
-  pub tables : NoTwoSame (λ x y. sameName (x .name) (y .name)) (d .tables)
-  pub columns : (i : ℕ) (t : Table) → getElem? (d .tables) i ≡ some t → NoTwoSame (λ x y. sameName (x .name) (y .name)) (t .columns)
-  pub sets : (i : ℕ) (l : Label) → getElem? (d .labels) i ≡ some l → NoTwoSame eqb (l .marks .allowed) × NoTwoSame eqb (l .marks .denied)
 
 -- ---- one more of a kind
 

@@ -20,8 +20,8 @@ use Rattle.form.specs.Walks.{firstIn, givenAt, givensAt, pairEndAt, secondIn}
 use Rattle.index.proofs.ListedLaws.{listed-at, listed-more}
 use Rattle.index.specs.Index.{Attributes, attributeIn}
 use Rattle.index.specs.Listed.{listed}
-use Rattle.lists.proofs.Distinct.{NoTwoSame}
 use Rattle.lists.proofs.ListLaws.{count-less, count-more, count-nil, findIndex-found, holdsOf-some}
+use Rattle.lists.specs.Distinct.{NoTwoSame}
 use Rattle.lists.specs.Lists.{allOf, anyOf, countOf, holdsOf, keep, there}
 use Rattle.text.proofs.Lefts.{before-end}
 use Rattle.text.proofs.OffendingLaws.{missing-here, missing-next, missing-nil, sameWord}

@@ -26,7 +26,7 @@ ghost use Rattle.document.specs.ValueFaults.{givesAll, isAttributeOf};
 ghost use Rattle.faults.specs.Places.{Near, wordFound};
 ghost use Rattle.form.specs.Walks.{firstIn, givensAt, pairEndAt, secondIn};
 ghost use Rattle.index.specs.Index.{Attributes, Nodes};
-ghost use Rattle.lists.proofs.Distinct.{NoTwoSame};
+ghost use Rattle.lists.specs.Distinct.{NoTwoSame};
 ghost use Rattle.lists.specs.Lists.{allOf, anyOf, countOf, there};
 ghost use Rattle.text.specs.Names.{sameName};
 ghost use Rattle.text.specs.Offending.{leftmost, missing, repeated, unless};

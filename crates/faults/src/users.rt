@@ -13,7 +13,7 @@ use index::users::find_user;
 use text::refusals::Reason;
 ghost use Prim.Native.Nat.{_≤_};
 ghost use lib.ListN.{length};
-ghost use Rattle.document.proofs.UniqueNames.{UniqueNames};
+ghost use Rattle.document.specs.Invariants.{UniqueNames};
 ghost use Rattle.faults.specs.Judged.{Judges};
 ghost use Rattle.form.specs.Form.{user};
 ghost use Rattle.form.specs.Walks.{givensAt};

@@ -8,7 +8,7 @@ use mathlib.Core.Option.{Option, none, some}
 use mathlib.Core.Path.{_∙_, _≡_, ap, refl, subst, sym}
 use native.Mathlib.Omega.{arith}
 use Rattle.checker.specs.Loading.{Holds}
-use Rattle.document.proofs.Formed.{Formed}
+use Rattle.document.specs.Invariants.{Formed}
 use Rattle.document.specs.Lookup.{purposeOf}
 use Rattle.document.specs.Policy.{Doc, Node, Policy, treeOf}
 use Rattle.index.proofs.ListedLaws.{length-listed}

@@ -8,7 +8,7 @@ use mathlib.Core.Path.{_≡_}
 use Rattle.checker.specs.Workspace.{Indexed}
 use Rattle.condition.specs.Answers.{comparedAt}
 use Rattle.condition.specs.Cond.{comparisonsIn}
-use Rattle.document.proofs.Formed.{Formed}
+use Rattle.document.specs.Invariants.{Formed}
 use Rattle.document.specs.Lookup.{columnOf, columnsAt, purposeOf, tableOf}
 use Rattle.document.specs.Policy.{Doc, Policy, treeOf}
 use Rattle.index.specs.Index.{Labels, Rows, Tables}
