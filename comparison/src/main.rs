@@ -3,6 +3,7 @@
 // A difference is made once, at the end of a run.
 #![allow(clippy::result_large_err)]
 
+mod cells;
 mod compare;
 mod damage;
 mod documents;
@@ -28,10 +29,12 @@ struct Options {
     pairs: u64,
     seed: u64,
     mutant: Option<u32>,
+    /// How many cases for `tests/free` to print, instead of comparing.
+    cells: Option<u64>,
 }
 
 fn options() -> Result<Options, String> {
-    let mut options = Options { texts: 20_000, pairs: 5_000, seed: 1, mutant: None };
+    let mut options = Options { texts: 20_000, pairs: 5_000, seed: 1, mutant: None, cells: None };
     let mut arguments = std::env::args().skip(1);
     while let Some(argument) = arguments.next() {
         let given = arguments.next().ok_or(format!("{argument}: a number is missing"))?;
@@ -40,6 +43,7 @@ fn options() -> Result<Options, String> {
             "--texts" => options.texts = number,
             "--pairs" => options.pairs = number,
             "--seed" => options.seed = number,
+            "--cells" => options.cells = Some(number),
             "--mutant" if (1..=mutant::BLUNDERS.len() as u64).contains(&number) => options.mutant = Some(number as u32),
             _ => return Err(format!("{argument} {given}: not known")),
         }
@@ -51,13 +55,15 @@ fn main() -> ExitCode {
     let options = match options() {
         Ok(options) => options,
         Err(what) => {
-            eprintln!("{what}\ncomparison [--texts N] [--pairs N] [--seed S] [--mutant 1..{}]", mutant::BLUNDERS.len());
+            eprintln!("{what}\ncomparison [--texts N] [--pairs N] [--seed S] [--mutant 1..{}] [--cells N]", mutant::BLUNDERS.len());
             return ExitCode::from(2);
         }
     };
-    match options.mutant {
-        Some(blunder) => catch(&options, blunder),
-        None => compare_all(&options),
+    match (options.cells, options.mutant) {
+        (Some(cases), _) if cells::print(options.seed, cases) => ExitCode::SUCCESS,
+        (Some(_), _) => ExitCode::FAILURE,
+        (None, Some(blunder)) => catch(&options, blunder),
+        (None, None) => compare_all(&options),
     }
 }
 

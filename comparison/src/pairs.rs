@@ -35,7 +35,7 @@ fn free_cells(model: &Model, query: Option<&Query>) -> Cells {
 }
 
 /// 01: "closed to the query's purpose, stands in a table or column that the query doesn't name, or lies in a row withheld from it".
-fn may_differ(model: &Model, query: Option<&Query>, row: &Row, column: usize) -> bool {
+pub fn may_differ(model: &Model, query: Option<&Query>, row: &Row, column: usize) -> bool {
     // "A text that isn't a query .. names nothing."
     let Some(query) = query else { return true };
     // "A purpose that the documents don't know has every cell closed to it."

@@ -1,0 +1,227 @@
+//! Small documents, each with a query and what `may_differ` says of every cell: `tests/free` holds them against the definition.
+
+use crate::documents::{condition, Builder};
+use crate::model::*;
+use crate::pairs::may_differ;
+use crate::queries::{self, Query};
+use crate::random::Random;
+
+/// What a cell may be to a query. A run has to see each of them, most as the one reason for which the cell may differ.
+const SITUATIONS: [&str; 22] = [
+    "no query",
+    "unknown purpose, table without labels",
+    "unknown purpose, labelled table",
+    "unknown table, column that the first table has",
+    "unknown table, other column",
+    "other table, column of a name that the query names",
+    "other table, other column",
+    "column not named",
+    "column not named, another one unknown",
+    "closed by the table's label",
+    "closed by the column's label",
+    "closed by the row's label",
+    "closed by its own label",
+    "open, in a row withheld for another cell",
+    "bound, table without labels",
+    "bound, open by the table's label",
+    "bound, open by the column's label",
+    "bound, open by the row's label",
+    "bound, open by its own label",
+    "bound, named by the condition alone",
+    "bound, another column being unknown",
+    "several reasons at once",
+];
+
+/// Two to five purposes, one to three tables with two to six rows, and what these need; at times a user with a grant.
+fn small(random: &mut Random) -> Model {
+    let mut builder = Builder::new(random);
+    builder.columns = 3;
+    for _ in 0..builder.random.between(2, 5) {
+        builder.purpose();
+    }
+    if builder.random.chance(1, 4) {
+        builder.user();
+        builder.grant();
+    }
+    for _ in 0..builder.random.between(2, 3) {
+        builder.label();
+    }
+    for _ in 0..builder.random.between(1, 3) {
+        let label = builder.random.below(builder.model.labels.len());
+        let scheme = *builder.random.pick(&[Scheme::None, Scheme::Table(label), Scheme::Column, Scheme::Row, Scheme::Cell]);
+        let columns = builder.random.between(1, 3);
+        builder.table_of(scheme, columns);
+    }
+    for _ in 0..builder.random.between(2, 6) {
+        builder.row();
+    }
+    builder.model
+}
+
+/// A query to one of the tables, by whoever, for one of the purposes or one that is unknown, now and then with a fault.
+fn query(random: &mut Random, model: &Model) -> Query {
+    // Mostly one that has rows.
+    let table = if random.chance(4, 5) { random.pick(&model.rows).table } else { random.below(model.tables.len()) };
+    let table = &model.tables[table];
+    let subjects: Vec<(String, Type)> = table.columns.iter().map(|column| (column.name.clone(), column.kind)).collect();
+    let mut query = Query {
+        user: "ana".to_string(),
+        role: "desk".to_string(),
+        purpose: random.pick(&model.purposes).name.clone(),
+        table: table.name.clone(),
+        columns: None,
+        condition: None,
+    };
+    if random.chance(4, 5) {
+        query.columns = Some((0..random.between(1, 3)).map(|_| random.pick(&subjects).0.clone()).collect());
+    }
+    if random.chance(1, 2) {
+        query.condition = Some(condition(random, &subjects, 2, 3));
+    }
+    match random.below(20) {
+        0 | 1 => query.purpose = "nobody".to_string(),
+        2 | 3 => query.table = "nobody".to_string(),
+        4 | 5 => query.columns.iter_mut().for_each(|columns| columns.insert(0, "nobody".to_string())),
+        6 => queries::fault(random, model, &mut query),
+        _ => {}
+    }
+    query
+}
+
+/// A document, a query text, and the query if it is one.
+fn case(random: &mut Random) -> (Model, Vec<u8>, Option<Query>) {
+    loop {
+        let model = small(random);
+        let query = query(random, &model);
+        if !query.within_bounds() {
+            continue;
+        }
+        if !random.chance(1, 10) {
+            return (model, query.text(), Some(query));
+        }
+        // The longest texts that are no query would take the prover's time from all others.
+        let text = queries::no_query(random, &model, &query);
+        if text.len() <= 1_000 {
+            return (model, text, None);
+        }
+    }
+}
+
+/// What the cell is to the query, by the model.
+fn situations(model: &Model, query: Option<&Query>, row: &Row, column: usize) -> Vec<&'static str> {
+    let Some(query) = query else { return vec!["no query"] };
+    let queried = model.tables.iter().find(|table| table.name == query.table);
+    match (queried, model.purpose(&query.purpose)) {
+        (None, None) => vec!["several reasons at once"],
+        (None, Some(purpose)) => vec![of_unknown_table(model, query, row, column, purpose)],
+        (Some(_), None) => vec![of_unknown_purpose(model, query, row, column)],
+        (Some(queried), Some(purpose)) => match reason(model, query, row, column, purpose) {
+            // The query is then refused, by 15, and names its other columns all the same.
+            Some("column not named") if names_unknown(query, queried) => vec!["column not named, another one unknown"],
+            Some(reason) => vec![reason],
+            None => bound(model, query, row, column),
+        },
+    }
+}
+
+fn is_named(model: &Model, query: &Query, row: &Row, column: usize) -> bool {
+    query.named().contains(&model.tables[row.table].columns[column].name.as_str())
+}
+
+fn names_unknown(query: &Query, queried: &Table) -> bool {
+    query.named().iter().any(|named| queried.columns.iter().all(|column| column.name != *named))
+}
+
+fn of_unknown_table(model: &Model, query: &Query, row: &Row, column: usize, purpose: usize) -> &'static str {
+    let first = model.tables[0].columns.get(column);
+    if !model.cell_open(row, column, purpose) {
+        "several reasons at once"
+    } else if first.is_some_and(|first| query.named().contains(&first.name.as_str())) {
+        "unknown table, column that the first table has"
+    } else {
+        "unknown table, other column"
+    }
+}
+
+fn of_unknown_purpose(model: &Model, query: &Query, row: &Row, column: usize) -> &'static str {
+    let table = &model.tables[row.table];
+    if table.name != query.table || !is_named(model, query, row, column) {
+        "several reasons at once"
+    } else if table.scheme == Scheme::None {
+        "unknown purpose, table without labels"
+    } else {
+        "unknown purpose, labelled table"
+    }
+}
+
+/// Why the cell may differ, its table and purpose being known; none where it may not.
+fn reason(model: &Model, query: &Query, row: &Row, column: usize, purpose: usize) -> Option<&'static str> {
+    let table = &model.tables[row.table];
+    let in_table = table.name == query.table;
+    let open = model.cell_open(row, column, purpose);
+    let withheld = model.row_withheld(row, &query.named(), purpose);
+    Some(match (in_table, is_named(model, query, row, column), open, withheld) {
+        (true, true, true, false) => return None,
+        (true, true, true, true) => "open, in a row withheld for another cell",
+        (true, true, false, _) => match table.scheme {
+            Scheme::None | Scheme::Table(_) => "closed by the table's label",
+            Scheme::Column => "closed by the column's label",
+            Scheme::Row => "closed by the row's label",
+            Scheme::Cell => "closed by its own label",
+        },
+        (true, false, true, false) => "column not named",
+        (false, true, true, _) => "other table, column of a name that the query names",
+        (false, false, true, false) => "other table, other column",
+        _ => "several reasons at once",
+    })
+}
+
+fn bound(model: &Model, query: &Query, row: &Row, column: usize) -> Vec<&'static str> {
+    let table = &model.tables[row.table];
+    let mut seen = vec![match table.scheme {
+        Scheme::None => "bound, table without labels",
+        Scheme::Table(_) => "bound, open by the table's label",
+        Scheme::Column => "bound, open by the column's label",
+        Scheme::Row => "bound, open by the row's label",
+        Scheme::Cell => "bound, open by its own label",
+    }];
+    if query.columns.iter().flatten().all(|selected| *selected != table.columns[column].name) {
+        seen.push("bound, named by the condition alone");
+    }
+    if names_unknown(query, table) {
+        seen.push("bound, another column being unknown");
+    }
+    seen
+}
+
+/// Prints the cases: the document and the query on a line each, then a word of 0 and 1 for each row, 1 where the value may differ;
+/// and how often each situation was seen. Fails where one never was.
+pub fn print(seed: u64, cases: u64) -> bool {
+    let mut seen = Vec::new();
+    for place in 0..cases {
+        let (model, text, query) = case(&mut Random::new(seed, place | 1 << 41));
+        println!("document {}", model.text().escape_ascii());
+        println!("query {}", text.escape_ascii());
+        print!("cells");
+        for row in &model.rows {
+            print!(" ");
+            for column in 0..row.cells.len() {
+                seen.extend(situations(&model, query.as_ref(), row, column));
+                print!("{}", u8::from(may_differ(&model, query.as_ref(), row, column)));
+            }
+        }
+        println!();
+    }
+    let mut missing = Vec::new();
+    for situation in SITUATIONS {
+        let count = seen.iter().filter(|&&seen| seen == situation).count();
+        println!("seen {count} {situation}");
+        if count == 0 {
+            missing.push(situation);
+        }
+    }
+    if !missing.is_empty() {
+        println!("FAILED: never seen: {}", missing.join("; "));
+    }
+    missing.is_empty()
+}
