@@ -13,6 +13,10 @@ fn main() {
     // A relative folder is counted from this package.
     let folder = Path::new(&package).join(given);
     println!("cargo:rerun-if-changed={}", folder.join("libgate.a").display());
+    if !folder.join("libgate.a").is_file() {
+        println!("cargo::error=no libgate.a: first run `rt staticlib gate`");
+        return;
+    }
     // For the binary alone: the library of mutants needs no gate.
     println!("cargo:rustc-link-search=native={}", folder.display());
     println!("cargo:rustc-link-arg-bins={}", folder.join("libgate.a").display());
