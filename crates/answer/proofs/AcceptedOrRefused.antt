@@ -7,12 +7,13 @@ use mathlib.Core.Bool.{Bool, cond, false, not, true}
 use mathlib.Core.List.{List, [], _++_, _∷_}
 use mathlib.Core.Option.{Option, Option·none-ne-some, Option·some-ne-none, none, some}
 use mathlib.Core.Path.{_∙_, _≡_, ap, refl, subst, sym}
+use Rattle.answer.specs.Answer.{answerTo}
+use Rattle.answer.specs.Ask.{Answered, answerForm, ask}
+use Rattle.answer.specs.Faults.{Fault, askFaults, firstFault, formAnswer, formFaults, queryFaults, refusalNumber}
+use Rattle.answer.specs.Seen.{seenRows}
 use Rattle.document.specs.Check.{Accepted, check}
 use Rattle.document.specs.Lookup.{purposeOf, userOf}
 use Rattle.document.specs.Policy.{Doc}
-use Rattle.answer.specs.Answer.{Answer, answerTo}
-use Rattle.answer.specs.Ask.{Answered, answerForm, ask}
-use Rattle.answer.specs.Seen.{seenRows}
 use Rattle.lists.proofs.Tests.{not-false}
 use Rattle.lists.specs.Lists.{known, there}
 use Rattle.query.specs.Authority.{Clock, firstGrant, inRange}
@@ -21,46 +22,6 @@ use Rattle.query.specs.QueryForm.{QueryForm, queryOf}
 use Rattle.text.proofs.RefusalLaws.{accepted-same, bind-accepted, need-accepted, refuseAt-accepted, refuseIf-accepted, then-accepted}
 use Rattle.text.specs.Refusal.{Refusal, Result, Source, _>>=_, _>>_, accepted, need, pointing, pointingAll, pointingNowhere, query, refuseAt, refuseIf, refused}
 use Rattle.text.specs.Words.{Word}
-
--- ---- the lowest number whose condition holds
-
--- a refusal's number, and whether its condition holds
-abbrev pub Fault : Type 0
-Fault = (number : ℕ) × Bool
-
--- the first number of the list whose condition holds
-unfoldable pub firstFault : List Fault → Option ℕ
-firstFault [] = none
-firstFault (f ∷ fs) = cond (f .1) (some (f .0)) (firstFault fs)
-
--- the number of a refusal; an accepted step has none
-unfoldable pub refusalNumber : {A : Type 0} → Result A → Option ℕ
-refusalNumber (refused r) = some (r .number)
-refusalNumber (accepted x) = none
-
--- the faults of a query, 12 to 17
-unfoldable pub formFaults : Doc → Clock → QueryForm → List Fault
-formFaults d c q =
-    (12, there (unknownParty (d .policy) q))
-    ∷ (13, not (there (userOf (d .policy) (q .user) (q .role))))
-    ∷ (14, not (there (firstGrant (d .policy) c (known (userOf (d .policy) (q .user) (q .role))) (known (purposeOf (d .policy) (q .purpose))))))
-    ∷ (15, there (unknownColumn (d .policy) q))
-    ∷ (16, there (mistypedQuery (d .policy) q))
-    ∷ (17, there (closedPart (d .policy) q))
-    ∷ []
-
--- the answer to a query as read
-unfoldable pub formAnswer : Doc → QueryForm → Answer
-formAnswer d q = answerTo (resolved (d .policy) q) (seenRows d (resolved (d .policy) q))
-
--- the faults of a query text that is a query, 12 to 18; one that is none has 11 already
-unfoldable pub queryFaults : Doc → Clock → (room : ℕ) → Option QueryForm → List Fault
-queryFaults d c room none = []
-queryFaults d c room (some q) = formFaults d c q ++ (18, ltb room (length (formAnswer d q .bytes))) ∷ []
-
--- the faults of asking about an accepted document, 10 to 18
-unfoldable pub askFaults : Doc → (text : List ℕ) → Clock → (room : ℕ) → List Fault
-askFaults d text c room = (10, not (inRange c)) ∷ (11, not (there (queryOf text))) ∷ queryFaults d c room (queryOf text)
 
 -- ---- the number of a step, from the faults of its parts
 

@@ -7,6 +7,9 @@ use mathlib.Core.List.{List, [], _++_, _∷_, flatten, map}
 use mathlib.Core.Option.{Option, none, some}
 use mathlib.Core.Path.{_∙_, _≡_, ap, refl, subst, sym}
 use native.Mathlib.Omega.{arith}
+use Rattle.answer.specs.Answer.{Answer, answerTo, counted, endLine, isPassed, isUnmatched, isWithheld, lineOf, matches, rowLine, rowLines}
+use Rattle.answer.specs.Exactly.{GivesExactly, isGiven, isUnmatchedRow, isWithheldRow}
+use Rattle.answer.specs.Seen.{Seen, onlyNamed, rowsIn, seenRow, seenRows, shown, withheld}
 use Rattle.condition.proofs.HoldsLaws.{holds-agree}
 use Rattle.condition.specs.Comparison.{Comparison, meets}
 use Rattle.condition.specs.Cond.{Cond, comparisonsIn}
@@ -14,9 +17,6 @@ use Rattle.document.specs.Lookup.{schemeAt}
 use Rattle.document.specs.Open.{labelOpen, rowWithheld}
 use Rattle.document.specs.Policy.{Doc, Row}
 use Rattle.form.specs.Form.{unlabelled}
-use Rattle.answer.specs.Answer.{Answer, answerTo, counted, endLine, isPassed, isUnmatched, isWithheld, lineOf, matches, rowLine, rowLines}
-use Rattle.answer.specs.Exactly.{isGiven, isUnmatchedRow, isWithheldRow}
-use Rattle.answer.specs.Seen.{Seen, onlyNamed, rowsIn, seenRow, seenRows, shown, withheld}
 use Rattle.lists.proofs.KeptLaws.{count-map, count-three, flatten-keep, map-agree}
 use Rattle.lists.proofs.ListLaws.{map-map}
 use Rattle.lists.specs.Lists.{allOf, anyOf, countOf, keep, member}
@@ -24,19 +24,6 @@ use Rattle.query.proofs.NamedAll.{condition-named, selected-named}
 use Rattle.query.specs.Query.{Query, Wanted, countsOnly, named, select, selected}
 use Rattle.text.specs.Bytes.{ascii}
 use Rattle.text.specs.Numbers.{Value}
-
--- What an answer to a query is, over the rows of the queried table themselves.
-pub record GivesExactly (d : Doc) (q : Query) (a : Answer) : Type 0 where
-  -- passed is the number of rows given, withheld that of those withheld, and unmatched that of the others
-  pub passed : a .passed ≡ countOf (isGiven d q) (rowsIn (q .table) (d .rows))
-  pub withheld : a .withheld ≡ countOf (isWithheldRow d q) (rowsIn (q .table) (d .rows))
-  pub unmatched : a .unmatched ≡ countOf (isUnmatchedRow d q) (rowsIn (q .table) (d .rows))
-  -- a select's bytes are a line for each row given, in document order, with its own values in the selected columns; then the
-  -- end line
-  pub selects : (cs : List ℕ) → q .wanted ≡ select cs
-      → a .bytes ≡ flatten (map (λ r. rowLine cs (r .values)) (keep (isGiven d q) (rowsIn (q .table) (d .rows)))) ++ endLine (a .passed) (a .withheld) (a .unmatched)
-  -- a count's bytes are the end line alone
-  pub counts : q .wanted ≡ countsOnly → a .bytes ≡ endLine (a .passed) (a .withheld) (a .unmatched)
 
 -- ---- small facts, by computation: definitions that show, print, order or count rows otherwise are refused here first
 

@@ -8,6 +8,8 @@ use mathlib.Core.Logic.{_⊎_, inl, inr}
 use mathlib.Core.Option.{Option, Option·none-ne-some, Option·some-injective, none, some}
 use mathlib.Core.Path.{_∙_, _≡_, ap, refl, subst, sym}
 use native.Mathlib.Omega.{arith}
+use Rattle.answer.specs.Alike.{Alike, AlikeLines, AlikeRows, RowLine, SameOrFree, alikeRows, free, linesOf, noMore, rowOf, sameLine}
+use Rattle.answer.specs.AlikeRead.{PartsAlike, ReadAlike, SameBut}
 use Rattle.document.proofs.Accepting.{check-accepted, last-accepted, last-empty, line-accepted, more-accepted}
 use Rattle.document.proofs.Kept.{Kept, kept-from, kept-scheme}
 use Rattle.document.proofs.RowMeaning.{bytes-back, labels-back, row-adds, values-back}
@@ -20,10 +22,9 @@ use Rattle.document.specs.Policy.{Doc, Policy, Row, emptyDoc}
 use Rattle.document.specs.ValueFaults.{misfit, rowValues}
 use Rattle.form.proofs.RowBack.{itemsOf, row-back, row-read}
 use Rattle.form.proofs.RowWritten.{row-written}
-use Rattle.form.specs.Form.{Item, Scheme, row, table}
+use Rattle.form.specs.Form.{Item, Scheme, row}
 use Rattle.form.specs.FormReader.{formOf}
 use Rattle.form.specs.RowText.{labelCount, rowText}
-use Rattle.answer.specs.Alike.{Alike, AlikeLines, AlikeRows, RowLine, SameOrFree, alikeRows, free, linesOf, noMore, rowOf, sameLine}
 use Rattle.lists.proofs.ListLaws.{map-map}
 use Rattle.lists.specs.Lists.{known}
 use Rattle.query.specs.QueryForm.{QueryForm, queryOf}
@@ -107,20 +108,6 @@ parts-once d l r s =
 
 -- ---- documents that differ in free values only
 
--- two lists of lines: equally many, and at each position the lines are the same or as R says
-pub record SameBut (R : List ℕ → List ℕ → Type 0) (ls ms : List (List ℕ)) : Type 0 where
-  pub equallyMany : length ls ≡ length ms
-  pub each : (i : ℕ) (l m : List ℕ) → getElem? ls i ≡ some l → getElem? ms i ≡ some m → (l ≡ m) ⊎ R l m
-
--- two row lines of documents with the policies d and e: their parts are one table, the same labels, and values that are the
--- same or free to differ
-pub record PartsAlike (d e : Policy) (q : Option QueryForm) (l m : List ℕ) : Type 0 where
-  pub first : RowLine d l
-  pub second : RowLine e m
-  pub sameTable : first .table ≡ second .table
-  pub sameLabels : first .labels ≡ second .labels
-  pub alike : SameOrFree (free d q (rowOf d (first .table) (first .labels) (first .values))) 0 (first .values) (second .values)
-
 rest-same : {R : List ℕ → List ℕ → Type 0} {l m : List ℕ} {ls ms : List (List ℕ)} → SameBut R (l ∷ ls) (m ∷ ms) → SameBut R ls ms
 rest-same {R} {l} {m} {ls} {ms} s = record { equallyMany = omega (arith, s .equallyMany); each = λ i x y e f. s .each (suc i) x y e f }
 
@@ -190,19 +177,6 @@ alike-complete text a b x y h g s =
     record { first = x; second = y; accepts = h; accepts′ = g; lines = parts-lines p (linesOf a) (linesOf b) s }
 
 -- ---- the same of lines as they are read
-
--- two row lines as they are read: the words of the tables and of the labels that they use have the same bytes, and the
--- values of the rows that they mean are the same or free to differ
-pub record ReadAlike (d e : Policy) (q : Option QueryForm) (l m : List ℕ) : Type 0 where
-  pub table : Word
-  pub table′ : Word
-  pub items : List Item
-  pub items′ : List Item
-  pub reads : formOf l ≡ some (row table items)
-  pub reads′ : formOf m ≡ some (row table′ items′)
-  pub sameTable : table .bytes ≡ table′ .bytes
-  pub sameLabels : bytesOf (rowLabels (schemeOf d table) items) ≡ bytesOf (rowLabels (schemeOf e table′) items′)
-  pub alike : SameOrFree (free d q (rowMeant d table items)) 0 (rowMeant d table items .values) (rowMeant e table′ items′ .values)
 
 -- the row that a row form means is the row of its parts
 meant-parts : (d : Policy) (t : Word) (is : List Item) → rowMeant d t is ≡ rowOf d (t .bytes) (bytesOf (rowLabels (schemeOf d t) is)) (rowMeant d t is .values)

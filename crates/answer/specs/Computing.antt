@@ -9,6 +9,7 @@ use Rattle.query.specs.Computing as query
 use Rattle.answer.specs.Seen as Seen
 use Rattle.answer.specs.Answer as Answer
 use Rattle.answer.specs.Ask as Ask
+use Rattle.answer.specs.Faults as Faults
 use Rattle.answer.specs.Exactly as Exactly
 use Rattle.answer.specs.Reserve as Reserve
 use Rattle.answer.specs.Alike as Alike
@@ -16,5 +17,5 @@ use Rattle.answer.specs.Further as Further
 use Rattle.answer.specs.Session as Session
 
 unfoldable pub computing : Unit {0}
-unfolding mathlib.Core.Option.bind mathlib.Core.List.flatten lists.computing purpose.computing text.computing condition.computing form.computing document.computing query.computing Seen.onlyNamed Seen.seenRow Seen.rowsIn Seen.seenRows Answer.matches Answer.rowLine Answer.endLine Answer.isWithheld Answer.isPassed Answer.isUnmatched Answer.lineOf Answer.rowLines Answer.counted Answer.answerTo Ask.answerForm Ask.ask Ask.after Ask.pointedText Ask.partOf Exactly.isWithheldRow Exactly.isGiven Exactly.isUnmatchedRow Reserve.SelectsOnce Reserve.IsReserve Alike.namedColumns Alike.inTable Alike.withheldFrom Alike.openTo Alike.free Alike.rowOf Alike.linesOf Further.selectText Further.Prints Session.sourceName Session.refusalLine Session.printed Session.natural Session.clockNumbers Session.clockOf Session.linesIn Session.programRoom Session.answers Session.writes Session.session
+unfolding mathlib.Core.Option.bind mathlib.Core.List.flatten lists.computing purpose.computing text.computing condition.computing form.computing document.computing query.computing Seen.onlyNamed Seen.seenRow Seen.rowsIn Seen.seenRows Answer.matches Answer.rowLine Answer.endLine Answer.isWithheld Answer.isPassed Answer.isUnmatched Answer.lineOf Answer.rowLines Answer.counted Answer.answerTo Ask.answerForm Ask.ask Ask.after Ask.pointedText Ask.partOf Faults.firstFault Faults.refusalNumber Faults.formFaults Faults.formAnswer Faults.queryFaults Faults.askFaults Exactly.isWithheldRow Exactly.isGiven Exactly.isUnmatchedRow Reserve.SelectsOnce Reserve.IsReserve Alike.namedColumns Alike.inTable Alike.withheldFrom Alike.openTo Alike.free Alike.rowOf Alike.linesOf Further.selectText Further.Prints Session.sourceName Session.refusalLine Session.printed Session.natural Session.clockNumbers Session.clockOf Session.linesIn Session.programRoom Session.answers Session.writes Session.session
 computing = tt

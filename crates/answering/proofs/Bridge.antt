@@ -6,9 +6,9 @@ use mathlib.Core.Bool.{Bool, _&&_, cond, false, true}
 use mathlib.Core.List.{List, [], _++_, _∷_, flatten, map}
 use mathlib.Core.Option.{some}
 use mathlib.Core.Path.{_∙_, _≡_, ap, refl, sym}
-use Rattle.answer.proofs.AccountedRows.{GivesExactly, gives-exactly}
+use Rattle.answer.proofs.AccountedRows.{gives-exactly}
 use Rattle.answer.specs.Answer.{Answer, answerTo, counted, endLine, rowLine}
-use Rattle.answer.specs.Exactly.{isGiven}
+use Rattle.answer.specs.Exactly.{GivesExactly, isGiven}
 use Rattle.answer.specs.Seen.{rowsIn, seenRows}
 use Rattle.answering.specs.Prepared.{Judged, Prepared, wantedBy}
 use Rattle.answering.specs.Write.{answerMarked, lineMarked, linesMarked}
