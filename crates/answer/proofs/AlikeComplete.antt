@@ -35,14 +35,14 @@ use Rattle.text.specs.Words.{Word, isCalled, plainWord}
 -- ---- every accepted row line has its parts
 
 -- the parts of a row line as it is read: its table, the labels that it uses and the values of the row that it means
-abbrev ReadParts : Policy → List ℕ → Word → List Item → Type 0
+abbrev pub ReadParts : Policy → List ℕ → Word → List Item → Type 0
 ReadParts d l t is = WrittenFrom (schemeOf d t) l (t .bytes) (bytesOf (rowLabels (schemeOf d t) is)) (rowMeant d t is .values)
 
-scheme-plain : (d : Policy) (t : Word) → schemeOf d t ≡ schemeOf d (plainWord (t .bytes))
+pub scheme-plain : (d : Policy) (t : Word) → schemeOf d t ≡ schemeOf d (plainWord (t .bytes))
 unfolding schemeOf tableOf isCalled plainWord
 scheme-plain d t = refl
 
-abbrev asRowLine : (d : Policy) (l : List ℕ) (t : Word) (is : List Item) → ReadParts d l t is → RowLine d l
+abbrev pub asRowLine : (d : Policy) (l : List ℕ) (t : Word) (is : List Item) → ReadParts d l t is → RowLine d l
 asRowLine d l t is w = record {
   table = t .bytes;
   labels = bytesOf (rowLabels (schemeOf d t) is);
@@ -76,7 +76,7 @@ parts-from (p′ ∷ ps) d n at p A h (suc i) l e t is f =
     let x = more-accepted d n at p p′ ps A h in
     parts-from ps (x .0) (n + 1) (at + length p + 1) p′ A (x .2) i l e t is f
 
-read-parts : (a : List ℕ) (x : Accepted) → check a ≡ accepted x → (i : ℕ) (l : List ℕ) → getElem? (linesOf a) i ≡ some l
+pub read-parts : (a : List ℕ) (x : Accepted) → check a ≡ accepted x → (i : ℕ) (l : List ℕ) → getElem? (linesOf a) i ≡ some l
     → (t : Word) (is : List Item) → formOf l ≡ some (row t is) → ReadParts (x .doc .policy) l t is
 unfolding linesOf
 read-parts a x h i l e t is f = parts-from _ emptyDoc 0 0 _ x (check-accepted a x h .1) i l e t is f
@@ -179,7 +179,7 @@ alike-complete text a b x y h g s =
 -- ---- the same of lines as they are read
 
 -- the row that a row form means is the row of its parts
-meant-parts : (d : Policy) (t : Word) (is : List Item) → rowMeant d t is ≡ rowOf d (t .bytes) (bytesOf (rowLabels (schemeOf d t) is)) (rowMeant d t is .values)
+pub meant-parts : (d : Policy) (t : Word) (is : List Item) → rowMeant d t is ≡ rowOf d (t .bytes) (bytesOf (rowLabels (schemeOf d t) is)) (rowMeant d t is .values)
 unfolding rowMeant rowOf tableOf labelOf isCalled plainWord
 meant-parts d t is = λ i. record { table = rowMeant d t is .table; values = rowMeant d t is .values; labels = sym (map-map (λ l. known (labelOf d (plainWord l))) (λ w. w .bytes) (rowLabels (schemeOf d t) is)) i }
 
