@@ -27,12 +27,11 @@ use Rattle.text.specs.Numbers.{Value}
 
 -- ---- small facts, by computation: definitions that show, print, order or count rows otherwise are refused here first
 
--- of two columns the second, which is not named, plays no part
-unnamed-unseen : (isOpen : Option ℕ → Bool) (t : ℕ) (a b c : Value)
-    → seenRow isOpen unlabelled (0 ∷ []) (record { table = t; values = a ∷ b ∷ []; labels = [] })
-    ≡ seenRow isOpen unlabelled (0 ∷ []) (record { table = t; values = a ∷ c ∷ []; labels = [] })
+-- of two columns the second is named: its value is seen, and the first's is not
+named-alone : (isOpen : Option ℕ → Bool) (t : ℕ) (a b : Value)
+    → seenRow isOpen unlabelled (1 ∷ []) (record { table = t; values = a ∷ b ∷ []; labels = [] }) ≡ shown ([] ∷ b ∷ [])
 unfolding seenRow rowWithheld onlyNamed member anyOf
-unnamed-unseen isOpen t a b c = refl
+named-alone isOpen t a b = refl
 
 module _ (passes : List Value → Bool) (cs : List ℕ) (rs : List Seen) where
   -- the line of the first row comes first, if the row passes
