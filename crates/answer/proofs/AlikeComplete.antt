@@ -1,6 +1,6 @@
--- Alike misses no pair of documents that 01 means: every accepted row line is written out from its parts, in one way only,
--- and documents whose lines are the same, or are row lines whose parts differ in free values only, are alike. Assumes
--- nothing.
+-- Relative to `free`, Alike misses no pair of documents: every accepted row line is written out from its parts, in one way
+-- only, and documents whose lines are the same, or are row lines whose parts differ in free values only, are alike. How wide
+-- `free` is, these theorems leave open: pairs that are alike and pairs that are not pin it (AlikeWitnesses). Assumes nothing.
 use Prim.Native.Nat.{_+_, suc, zero, ℕ}
 use lib.ListN.{getElem?, length}
 use mathlib.Core.List.{List, [], _∷_, map}

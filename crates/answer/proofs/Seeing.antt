@@ -86,7 +86,7 @@ free-unnamed d q r p is-p in-table t k w c f = go (member c (namedColumns d q)) 
     kept = rw is-p w
 
     never : member c (namedColumns d q) ≡ true → free d (some q) r c ≡ false
-    never m = rw (opened m, in-table, m, kept)
+    never m = simp (opened m, in-table, m, kept)
 
     go : (b : Bool) → member c (namedColumns d q) ≡ b → member c (namedColumns d q) ≡ false
     go false e = e

@@ -1,0 +1,160 @@
+-- Pairs of documents that pin which values may differ (01, "The no-difference claim"), by computation, both ways: for each
+-- reason that lets a value differ a pair that is alike for that reason alone, and pairs that are not alike. The claim itself
+-- does not pin the reasons: it gets easier where fewer values are free.
+use Prim.Native.Nat.{ℕ}
+use Prim.Native.String.{String}
+use lib.ListN.{getElem?}
+use mathlib.Core.Bool.{Bool, Bool·beq, _&&_, false, not, true}
+use mathlib.Core.List.{List, [], _++_, _∷_}
+use mathlib.Core.Option.{some}
+use mathlib.Core.Path.{_∙_, _≡_, refl, sym}
+use Rattle.answer.proofs.AlikeDecided.{alike-if-tested, tested-if-alike}
+use Rattle.answer.specs.Alike.{Alike}
+use Rattle.answer.specs.AlikeTest.{alike?, sameBytes}
+use Rattle.answer.specs.Computing.{computing}
+use Rattle.lists.proofs.ListLaws.{all-here}
+use Rattle.lists.proofs.Tests.{and-right, true-not-false}
+use Rattle.lists.specs.Lists.{allOf}
+use Rattle.text.specs.Bytes.{ascii}
+
+-- two documents that differ, and whether they are alike for the query text
+pub record Witness : Type 0 where
+  pub text : List ℕ
+  pub first : List ℕ
+  pub second : List ℕ
+  pub alike : Bool
+
+-- ---- documents: `ana` may ask for `ads`; the label `open` is open to it, `shut` is not; the table t has one of the schemes
+
+unfoldable pub asker : List ℕ
+asker = ascii "(purpose ads)\n(role desk)\n(user ana desk)\n(cond-role any desk (gt day 0))\n(grant ads any)\n"
+
+unfoldable pub plain : List ℕ
+plain = asker ++ ascii "(table t none (a num) (b num))\n"
+
+unfoldable pub labelled : List ℕ
+labelled = asker ++ ascii "(label open (allow ads) (deny))\n(label shut (allow) (deny))\n"
+
+unfoldable pub shutTable : List ℕ
+shutTable = labelled ++ ascii "(table t table shut (a num))\n"
+
+unfoldable pub openTable : List ℕ
+openTable = labelled ++ ascii "(table t table open (a num))\n"
+
+unfoldable pub columns : List ℕ
+columns = labelled ++ ascii "(table t column (a num open) (b num shut))\n"
+
+unfoldable pub rows : List ℕ
+rows = labelled ++ ascii "(table t row (a num))\n"
+
+unfoldable pub cells : List ℕ
+cells = labelled ++ ascii "(table t cell (a num) (b num))\n"
+
+-- ---- the witnesses: the policy, the query text, and the lines behind the policy in the one document and in the other
+
+unfoldable pub alikeFor : List ℕ → String → String → String → Witness
+alikeFor policy q a b = record { text = ascii q; first = policy ++ ascii a; second = policy ++ ascii b; alike = true }
+
+unfoldable pub unlikeFor : List ℕ → String → String → String → Witness
+unlikeFor policy q a b = record { text = ascii q; first = policy ++ ascii a; second = policy ++ ascii b; alike = false }
+
+-- values that may differ
+unfoldable pub freeValues : List Witness
+freeValues =
+    -- closed: by its table's label, by its column's; the query names it, and no row is withheld
+    alikeFor shutTable "(select ana desk ads t (a))" "(row t 1)\n" "(row t 2)\n"
+    ∷ alikeFor columns "(select ana desk ads t (a b))" "(row t 1 2)\n" "(row t 1 3)\n"
+    -- its column is not named: by a select, by a condition, by a count
+    ∷ alikeFor plain "(select ana desk ads t (a))" "(row t 1 2)\n" "(row t 1 3)\n"
+    ∷ alikeFor plain "(count ana desk ads t (eq b 2))" "(row t 1 2)\n" "(row t 3 2)\n"
+    ∷ alikeFor plain "(count ana desk ads t)" "(row t 1 2)\n" "(row t 3 4)\n"
+    -- another table's, though that table has a column of the name
+    ∷ alikeFor plain "(select ana desk ads t (a))" "(table u none (a num))\n(row u 1)\n" "(table u none (a num))\n(row u 2)\n"
+    -- its row is withheld for another cell, selected or in the condition
+    ∷ alikeFor cells "(select ana desk ads t (a b))" "(row t (1 open) (2 shut))\n" "(row t (3 open) (2 shut))\n"
+    ∷ alikeFor cells "(select ana desk ads t (a) (eq b 2))" "(row t (1 open) (2 shut))\n" "(row t (3 open) (2 shut))\n"
+    -- its row's label is closed, so that the cell is and the row is withheld
+    ∷ alikeFor rows "(select ana desk ads t (a))" "(row t shut 1)\n" "(row t shut 2)\n"
+    -- an unknown purpose has every cell closed to it, also where there are no labels
+    ∷ alikeFor plain "(select ana desk post t (a))" "(row t 1 2)\n" "(row t 3 2)\n"
+    ∷ alikeFor rows "(select ana desk post t (a))" "(row t open 1)\n" "(row t open 2)\n"
+    -- an unknown table is none of the document's, so that none is named
+    ∷ alikeFor plain "(select ana desk ads u (a))" "(row t 1 2)\n" "(row t 3 2)\n"
+    -- a text that is 11 names nothing
+    ∷ alikeFor plain "(select ana desk ads t a)" "(row t 1 2)\n" "(row t 3 2)\n"
+    -- a refused query, with a column that is known and one that is not: a third is not named, and a row is withheld all the same
+    ∷ alikeFor plain "(select ana desk ads t (a c))" "(row t 1 2)\n" "(row t 1 3)\n"
+    ∷ alikeFor cells "(select ana desk ads t (a b c))" "(row t (1 open) (2 shut))\n" "(row t (3 open) (2 shut))\n"
+    -- a value of another length
+    ∷ alikeFor plain "(select ana desk ads t (a))" "(row t 1 2)\n" "(row t 1 -345)\n"
+    -- several reasons at once, and several rows: closed and not named; closed, withheld and not named
+    ∷ alikeFor cells "(select ana desk ads t (a))" "(row t (1 open) (2 shut))\n(row t (3 shut) (4 shut))\n" "(row t (1 open) (20 shut))\n(row t (30 shut) (40 shut))\n"
+    ∷ []
+
+-- what may not differ
+unfoldable pub fixedValues : List Witness
+fixedValues =
+    -- an open value in a selected column, by scheme
+    unlikeFor plain "(select ana desk ads t (a))" "(row t 1 2)\n" "(row t 3 2)\n"
+    ∷ unlikeFor openTable "(select ana desk ads t (a))" "(row t 1)\n" "(row t 2)\n"
+    ∷ unlikeFor columns "(select ana desk ads t (a))" "(row t 1 2)\n" "(row t 3 2)\n"
+    ∷ unlikeFor rows "(select ana desk ads t (a))" "(row t open 1)\n" "(row t open 2)\n"
+    ∷ unlikeFor cells "(select ana desk ads t (a))" "(row t (1 open) (2 shut))\n" "(row t (3 open) (2 shut))\n"
+    -- in a column of the condition, though its branch is not reached; of a count's condition
+    ∷ unlikeFor plain "(select ana desk ads t (a) (or (eq a 1) (eq b 2)))" "(row t 1 2)\n" "(row t 1 3)\n"
+    ∷ unlikeFor plain "(count ana desk ads t (eq b 2))" "(row t 1 2)\n" "(row t 1 3)\n"
+    -- in a refused query: 12, the user, the role; 13; 14; 15; 16; 17
+    ∷ unlikeFor plain "(select bob desk ads t (a))" "(row t 1 2)\n" "(row t 3 2)\n"
+    ∷ unlikeFor plain "(select ana boss ads t (a))" "(row t 1 2)\n" "(row t 3 2)\n"
+    ∷ unlikeFor plain "(select ana boss ads t (a))" "(role boss)\n(row t 1 2)\n" "(role boss)\n(row t 3 2)\n"
+    ∷ unlikeFor plain "(select ana boss ads t (a))" "(role boss)\n(user ana boss)\n(row t 1 2)\n" "(role boss)\n(user ana boss)\n(row t 3 2)\n"
+    ∷ unlikeFor plain "(select ana desk ads t (a c))" "(row t 1 2)\n" "(row t 3 2)\n"
+    ∷ unlikeFor plain "(select ana desk ads t (a) (eq b x))" "(row t 1 2)\n" "(row t 3 2)\n"
+    ∷ unlikeFor columns "(select ana desk ads t (a b))" "(row t 1 2)\n" "(row t 3 2)\n"
+    -- beside a value that may differ, in the same row and in another
+    ∷ unlikeFor plain "(select ana desk ads t (a))" "(row t 1 2)\n" "(row t 3 4)\n"
+    ∷ unlikeFor cells "(select ana desk ads t (a))" "(row t (1 shut) (2 open))\n(row t (3 open) (4 open))\n" "(row t (9 shut) (2 open))\n(row t (5 open) (4 open))\n"
+    -- a row's label; a cell's; one with its value
+    ∷ unlikeFor rows "(count ana desk post t)" "(row t open 1)\n" "(row t shut 1)\n"
+    ∷ unlikeFor cells "(count ana desk post t)" "(row t (1 open) (2 open))\n" "(row t (1 shut) (2 open))\n"
+    ∷ unlikeFor rows "(count ana desk post t)" "(row t open 1)\n" "(row t shut 2)\n"
+    -- a row's table; a line that is no row; a line more, and one less
+    ∷ unlikeFor plain "" "(table u none (a num) (b num))\n(row t 1 2)\n" "(table u none (a num) (b num))\n(row u 1 2)\n"
+    ∷ unlikeFor plain "" "(user bob desk)\n" "(user eve desk)\n"
+    ∷ unlikeFor plain "" "(row t 1 2)\n" "(row t 1 2)\n(row t 1 2)\n"
+    ∷ unlikeFor plain "" "(row t 1 2)\n" ""
+    -- a refused document: the second, the first, both
+    ∷ unlikeFor plain "" "(row t 1 2)\n" "(row t 1 x)\n"
+    ∷ unlikeFor plain "" "(row t 1 x)\n" "(row t 1 2)\n"
+    ∷ unlikeFor plain "" "(row t 1 x)\n" "(row t 1 y)\n"
+    ∷ []
+
+-- the documents differ, and the test says of them what is expected
+unfoldable pub asExpected : Witness → Bool
+asExpected w = not (sameBytes (w .first) (w .second)) && Bool·beq (alike? (w .text) (w .first) (w .second)) (w .alike)
+
+-- Of every witness the test says what is expected.
+pub witnesses : allOf asExpected (freeValues ++ fixedValues) ≡ true
+unfolding computing asker plain labelled shutTable openTable columns rows cells alikeFor unlikeFor freeValues fixedValues asExpected
+witnesses = refl
+
+-- ---- so it is with being alike itself
+
+beq-same : (a b : Bool) → Bool·beq a b ≡ true → a ≡ b
+beq-same true true h = refl
+beq-same true false h = true-not-false h refl
+beq-same false true h = true-not-false h refl
+beq-same false false h = refl
+
+module _ (i : ℕ) (w : Witness) (here : getElem? (freeValues ++ fixedValues) i ≡ some w) where
+  said : alike? (w .text) (w .first) (w .second) ≡ w .alike
+  unfolding asExpected
+  said = beq-same _ _ (and-right (not (sameBytes (w .first) (w .second))) _ (all-here asExpected (freeValues ++ fixedValues) witnesses i w here))
+
+  -- A pair of which that is expected is alike.
+  pub alike-witness : w .alike ≡ true → Alike (w .text) (w .first) (w .second)
+  alike-witness e = alike-if-tested (w .text) (w .first) (w .second) (said ∙ e)
+
+  -- A pair of which the contrary is expected is not.
+  pub unlike-witness : w .alike ≡ false → Alike (w .text) (w .first) (w .second) → ⊥
+  unlike-witness e x = true-not-false (sym said ∙ tested-if-alike (w .text) (w .first) (w .second) x) e
