@@ -1,0 +1,3 @@
+-- Laws of what the programs share: a line put together, and a number's digits as the kit writes them.
+pub mod Adding
+pub mod Digits

@@ -1,0 +1,49 @@
+// Writing to standard output.
+use crate::retry::is_made_again;
+use libc::STDERR_FILENO;
+use libc::STDOUT_FILENO;
+ghost use lib.ListN.{length};
+ghost use Rattle.io.specs.Counts.{Counts};
+ghost use Rattle.libc.specs.Io.{Moved};
+
+// One write, made again until it takes bytes or fails. The turns are counted down as in reading.
+fn write_some(bytes: &[u8]) -> isize
+    ensures { λ r. ⌜ Moved (length (now (bytes .entry))) r ⌝ }
+{
+    let mut turns = u64::MAX;
+    while turns > 0 {
+        let got = libc::write(STDOUT_FILENO, bytes);
+        if !is_made_again(got) {
+            return got;
+        }
+        turns -= 1;
+    }
+    -1
+}
+
+// Says on standard error why a write took nothing.
+fn tell(got: isize) {
+    if got < 0 {
+        os::fail(b"standard output");
+        return;
+    }
+    io::write_all(STDERR_FILENO, b"standard output: takes nothing\n");
+}
+
+// Writes the bytes, in one call where that takes them all, and answers how many were taken: where not all, standard error says why.
+pub fn write_out(bytes: &[u8]) -> usize
+    ensures { λ r. ⌜ Counts r (now (bytes .entry)) ⌝ }
+{
+    let mut done = 0;
+    while done < bytes.len() {
+        let rest = &bytes[done..];
+        let got = write_some(rest);
+        let n = io::count(got, rest);
+        if n == 0 {
+            tell(got);
+            return done;
+        }
+        done += n;
+    }
+    done
+}
