@@ -1,17 +1,22 @@
 // Asks the policy in policy.txt, taken as empty where there is none. Standard input is a line `(clock YEAR DAY HOUR)` and then a
 // query a line; the last line may lack its line feed. Prints each answer, or `(refused NUMBER query START LENGTH)`; for a refused
-// policy one such line with `document`, and stops.
+// policy one such line with `document`, and stops. It stops too, and standard error says why, where something can't be read or
+// written: no query gets another's answer.
 use checker::documents::Checked;
 use checker::documents::check;
 use clock_line::read_clock;
 use gate::asking::Answered;
 use gate::asking::ask;
 use libc::STDIN_FILENO;
-use libc::STDOUT_FILENO;
+use programs::input::read_some;
+use programs::lines;
+use programs::lines::refusal_line;
+use programs::output::write_out;
+use programs::policy;
+use programs::policy::Loaded;
+use programs::policy::load;
 use query::clock::Clock;
 use text::refusals::Refusal;
-use text::refusals::Source;
-use text::refusals::number;
 ghost use Rattle.io.specs.Counts.{Counts};
 
 mod clock_line;
@@ -19,7 +24,7 @@ mod clock_line;
 // One byte more than a query may have, which tells a longer one.
 const LINE_BYTES: usize = 4097;
 
-// The line so far: how many bytes it has, of which the first LINE_BYTES are kept, and whether it is the clock's; whether the input
+// The line so far: how many bytes it has, of which the first LINE_BYTES are kept, and whether it is the clock's; whether the session
 // goes on; and the clock.
 struct Session {
     len: usize,
@@ -30,6 +35,14 @@ struct Session {
     hour: u64,
 }
 
+// The end of a session that something failed in: a line that was begun is not answered.
+fn stopped(s: Session) -> Session {
+    let mut next = s;
+    next.len = 0;
+    next.more = false;
+    next
+}
+
 // n, or the number of bytes where that is less.
 fn within(n: usize, bytes: &[u8]) -> usize
     ensures { λ r. ⌜ Counts r (now (bytes .entry)) ⌝ }
@@ -38,34 +51,6 @@ fn within(n: usize, bytes: &[u8]) -> usize
         return n;
     }
     bytes.len()
-}
-
-fn write_number(n: usize) {
-    io::write_all(STDOUT_FILENO, b" ");
-    io::print_decimal(STDOUT_FILENO, n as u64);
-}
-
-fn write_source(s: Source) {
-    match s {
-        Source::Document => {
-            io::write_all(STDOUT_FILENO, b" document");
-        }
-        Source::Query => {
-            io::write_all(STDOUT_FILENO, b" query");
-        }
-    }
-}
-
-// A refusal, with the length of its part.
-fn write_refused(r: Refusal, len: usize) {
-    let reason = r.reason;
-    let source = r.source;
-    io::write_all(STDOUT_FILENO, b"(refused");
-    write_number(number(reason));
-    write_source(source);
-    write_number(r.start);
-    write_number(len);
-    io::write_all(STDOUT_FILENO, b")\n");
 }
 
 // The length of a refusal's part. Of a line that was not kept whole the gate saw one byte more than a query has, and so handed back
@@ -80,47 +65,58 @@ fn part_len(part: usize, kept: usize, len: usize) -> usize {
     part
 }
 
-fn write_answered(a: Answered, out: &[u8], kept: usize, len: usize) {
+// Writes a refusal, and says whether it was written whole.
+fn write_refused(r: Refusal) -> bool {
+    let mut line = [0u8; lines::ROOM];
+    let n = refusal_line(&mut line, r);
+    write_out(&line[..n]) == n
+}
+
+// Writes what a query gets, and says whether it was written whole.
+fn write_answered(a: Answered, out: &[u8], kept: usize, len: usize) -> bool {
     match a {
         Answered::Given(x) => {
             let n = within(x.len, out);
-            io::write_all(STDOUT_FILENO, &out[..n]);
+            write_out(&out[..n]) == n
         }
         Answered::Refused(r) => {
-            write_refused(r, part_len(r.len, kept, len));
+            let mut whole = r;
+            whole.len = part_len(r.len, kept, len);
+            write_refused(whole)
         }
     }
 }
 
-// The end of a line: the clock is read, or the query is asked.
-fn end_line(policy: &[u8], line: &[u8], s: Session, out: &mut [u8]) -> Session {
-    let kept = within(s.len, line);
-    if s.first {
-        let c = read_clock(&line[..kept]);
-        return Session {
-            len: 0,
-            first: false,
-            more: true,
-            year: c.year,
-            day: c.day,
-            hour: c.hour,
-        };
-    }
+// The end of a query's line: it is asked, and the session goes on if its answer could be written.
+fn end_query(policy: &[u8], query: &[u8], s: Session, out: &mut [u8]) -> Session {
     let clock = Clock {
         year: s.year,
         day: s.day,
         hour: s.hour,
     };
-    let a = ask(policy, &line[..kept], clock, out);
-    write_answered(a, out, kept, s.len);
-    Session {
-        len: 0,
-        first: false,
-        more: true,
-        year: s.year,
-        day: s.day,
-        hour: s.hour,
+    let a = ask(policy, query, clock, out);
+    if !write_answered(a, out, query.len(), s.len) {
+        return stopped(s);
     }
+    let mut next = s;
+    next.len = 0;
+    next
+}
+
+// The end of a line: the clock is read, or the query is asked.
+fn end_line(policy: &[u8], line: &[u8], s: Session, out: &mut [u8]) -> Session {
+    let kept = within(s.len, line);
+    if !s.first {
+        return end_query(policy, &line[..kept], s, out);
+    }
+    let c = read_clock(&line[..kept]);
+    let mut next = s;
+    next.len = 0;
+    next.first = false;
+    next.year = c.year;
+    next.day = c.day;
+    next.hour = c.hour;
+    next
 }
 
 // A line is never so long: where the count would go beyond, it stays.
@@ -144,14 +140,9 @@ fn keep_byte(line: &mut [u8], at: usize, b: u8) {
 fn add_byte(line: &mut [u8], s: Session, b: u8) -> Session {
     let len = s.len;
     keep_byte(line, len, b);
-    Session {
-        len: counted(len),
-        first: s.first,
-        more: true,
-        year: s.year,
-        day: s.day,
-        hour: s.hour,
-    }
+    let mut next = s;
+    next.len = counted(len);
+    next
 }
 
 // One byte of the input.
@@ -162,43 +153,30 @@ fn take_byte(policy: &[u8], line: &mut [u8], s: Session, b: u8, out: &mut [u8]) 
     add_byte(line, s, b)
 }
 
+// Bytes of the input, as long as the session goes on.
 fn take_bytes(policy: &[u8], line: &mut [u8], s: Session, bytes: &[u8], out: &mut [u8]) -> Session {
     let mut r = s;
     let mut i = 0;
-    while i < bytes.len() {
+    while i < bytes.len() && r.more {
         r = take_byte(policy, line, r, bytes[i], out);
         i += 1;
     }
     r
 }
 
-// Reads the document into the buffer, and answers how many bytes there are.
-fn load(text: &mut [u8]) -> usize
-    ensures { λ r. ⌜ Counts r (now (text .exit)) ⌝ }
-{
-    let fd = os::open_read(b"policy.txt");
-    if fd < 0 {
-        return 0;
-    }
-    let n = io::read_full(fd, text);
-    libc::close(fd);
-    n
-}
-
 // Some bytes of standard input, or that it ended.
 fn read_more(policy: &[u8], line: &mut [u8], s: Session, out: &mut [u8]) -> Session {
     let mut bytes = io::buffer();
-    let got = libc::read(STDIN_FILENO, &mut bytes);
+    let got = read_some(STDIN_FILENO, &mut bytes);
+    if got < 0 {
+        os::fail(b"standard input");
+        return stopped(s);
+    }
     let n = io::count(got, &bytes);
     if n == 0 {
-        return Session {
-            len: s.len,
-            first: s.first,
-            more: false,
-            year: s.year,
-            day: s.day,
-            hour: s.hour,
-        };
+        let mut next = s;
+        next.more = false;
+        return next;
     }
     take_bytes(policy, line, s, &bytes[..n], out)
 }
@@ -236,17 +214,24 @@ fn ask_policy(policy: &[u8]) {
     answer_input(policy, &mut line, &mut out);
 }
 
-// The buffer has one byte more than a document may have, which tells a longer one.
-fn main() {
-    let mut text = [0u8; 60001];
-    let n = load(&mut text);
-    let c = check(&text[..n]);
+// A policy that is refused answers nothing.
+fn ask_checked(policy: &[u8]) {
+    let c = check(policy);
     match c {
         Checked::Accepted(_, _) => {
-            ask_policy(&text[..n]);
+            ask_policy(policy);
         }
         Checked::Refused(r) => {
-            write_refused(r, r.len);
+            write_refused(r);
         }
     }
+}
+
+fn main() {
+    let mut text = [0u8; policy::ROOM];
+    let l = load(&mut text);
+    let Loaded::Text(n) = l else {
+        return;
+    };
+    ask_checked(&text[..n]);
 }
