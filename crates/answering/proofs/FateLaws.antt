@@ -11,7 +11,7 @@ use Rattle.answer.specs.Answer.{matches}
 use Rattle.answer.specs.Exactly.{isGiven, isUnmatchedRow, isWithheldRow}
 use Rattle.answer.specs.Seen.{rowsIn}
 use Rattle.answering.proofs.TruthLaws.{stored-more}
-use Rattle.answering.specs.Judging.{JudgedTo, SchemeOf, countedBy, fateOf, labelsIn, passedBy}
+use Rattle.answering.specs.Judging.{JudgedTo, SchemeOf, countedBy, fateHere, fateOf, labelsIn, passedBy}
 use Rattle.answering.specs.Prepared.{Judged, Prepared}
 use Rattle.answering.specs.declared.judging.Fate.the-variants as fate
 use Rattle.answering.specs.declared.judging.Fate.{Fate}
@@ -34,7 +34,7 @@ use Rattle.query.specs.declared.reading.Test.{Test}
 
 -- the fate by three tests
 abbrev fateBy : Bool → Bool → Bool → Fate
-fateBy here held met = cond here (cond held fate.Withheld (cond met fate.Passed fate.Unmatched)) fate.Elsewhere
+fateBy here held met = cond here (fateHere held met) fate.Elsewhere
 
 module _ (text ts ws : List ℕ) (t count : ℕ) (os : List Bool) (s : List ℕ) (test : Test) (ops : List ℕ) (m : ℕ) (cs : List ℕ) (selecting : Bool) (chosen : ℕ) (d : Doc) (q : Query)
     (pr : Prepared text ts ws t count os s test ops m cs selecting chosen d q) (r : ℕ) (l : r < count) where
@@ -72,13 +72,28 @@ module _ (text ts ws : List ℕ) (t count : ℕ) (os : List Bool) (s : List ℕ)
       in-table : true ≡ eqb (rowIn text ws r .table) (q .table)
       in-table = sym (eq-eqb x t here) ∙ table-here x is
 
-      pub fate-withheld : y ≡ true → fate.Withheld ≡ fateOf d q (rowIn text ws r)
+      fate-withheld : y ≡ true → fate.Withheld ≡ fateOf d q (rowIn text ws r)
       unfolding fateOf
       fate-withheld e = λ i. fateBy (in-table i) ((sym e ∙ withheld-here code says y held) i) (matches (q .condition) (rowIn text ws r .values))
 
-      pub fate-judged : y ≡ false → (z : Bool) → z ≡ matches (q .condition) (rowIn text ws r .values) → (b : Bool) → z ≡ b → cond b fate.Passed fate.Unmatched ≡ fateOf d q (rowIn text ws r)
+      fate-judged : y ≡ false → (z : Bool) → z ≡ matches (q .condition) (rowIn text ws r .values) → (b : Bool) → z ≡ b → cond b fate.Passed fate.Unmatched ≡ fateOf d q (rowIn text ws r)
       unfolding fateOf
       fate-judged e z met b f = λ i. fateBy (in-table i) ((sym e ∙ withheld-here code says y held) i) ((sym f ∙ met) i)
+
+      -- by the two tests: the second says that the row is not withheld and its condition holds
+      pub fate-tested : (z : Bool) → z ≡ (not y && matches (q .condition) (rowIn text ws r .values)) → (f : Fate) → f ≡ fateHere y z → f ≡ fateOf d q (rowIn text ws r)
+      fate-tested z met f is = is ∙ go y refl
+        where
+          go : (b : Bool) → y ≡ b → fateHere b z ≡ fateOf d q (rowIn text ws r)
+          go true e = fate-withheld e
+          go false e = fate-judged e z (met ∙ ap (λ (b : Bool). not b && matches (q .condition) (rowIn text ws r .values)) e) z refl
+
+-- the second test, where the row is withheld and where it is not
+pub met-none : (b y : Bool) → b ≡ true → false ≡ (not b && y)
+met-none b y e = ap (λ (z : Bool). not z && y) (sym e)
+
+pub met-judged : (b x y : Bool) → b ≡ false → x ≡ y → x ≡ (not b && y)
+met-judged b x y e h = h ∙ ap (λ (z : Bool). not z && y) (sym e)
 
 -- ---- counting
 

@@ -93,11 +93,15 @@ lastBy l fate.Unmatched = outcome.Was false
 
 -- ---- the rows
 
+-- what becomes of a row of the table: a withheld row is that, whether its condition holds or not
+abbrev pub fateHere : Bool → Bool → Fate
+fateHere held met = cond held fate.Withheld (cond met fate.Passed fate.Unmatched)
+
 -- what becomes of a row
 unfoldable pub fateOf : Doc → Query → Row → Fate
 fateOf d q row =
     cond (eqb (row .table) (q .table))
-    (cond (isWithheldRow d q row) fate.Withheld (cond (matches (q .condition) (row .values)) fate.Passed fate.Unmatched))
+    (fateHere (isWithheldRow d q row) (matches (q .condition) (row .values)))
     fate.Elsewhere
 
 -- the row passes

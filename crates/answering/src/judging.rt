@@ -16,11 +16,11 @@ use index::tables::table_scheme;
 use query::reading::Test;
 ghost use Prim.Native.Nat.{_+_, _<_, _≤_, ℕ};
 ghost use lib.ListN.{getD, length, take};
-ghost use mathlib.Core.Bool.{Bool, false, not, true};
+ghost use mathlib.Core.Bool.{Bool, _&&_, false, not, true};
 ghost use mathlib.Core.List.{List};
 ghost use mathlib.Core.Path.{_≡_};
 ghost use Rattle.answer.specs.Answer.{matches};
-ghost use Rattle.answering.specs.Judging.{AllReady, JudgedTo, Outcome, OutcomeOf, Remembered, SchemeOf, countedBy, fateOf, labelsIn, lastBy, openIn, passedBy};
+ghost use Rattle.answering.specs.Judging.{AllReady, JudgedTo, Outcome, OutcomeOf, Remembered, SchemeOf, countedBy, fateHere, fateOf, labelsIn, lastBy, openIn, passedBy};
 ghost use Rattle.answering.specs.Prepared.{Judged, Prepared};
 ghost use Rattle.condition.specs.Answers.{Jumps};
 ghost use Rattle.document.specs.Open.{labelOpen, rowWithheld};
@@ -182,6 +182,65 @@ fn row_matches(
     }
 }
 
+// Whether row r is not withheld and its condition holds: of a withheld row the condition is not looked at, and the truths stay.
+fn row_met(
+    skip: bool,
+    text: &[u8],
+    rows: &[usize; ROW_CELLS],
+    r: usize,
+    query: &[u8],
+    test: Test,
+    ops: &[usize; 64],
+    m: usize,
+    columns: &[usize; 80],
+    chosen: usize,
+    kinds: &[bool; 64],
+    operators: &[usize; 64],
+    values: &[usize; 64],
+    ranks: &[u64; 64],
+    ends: &[usize; 64],
+    truths: &mut [bool; 64],
+    last: Last,
+) -> bool
+    requires { ⌜ (chosen ≤ 16) × (m ≤ 64) × Remembered (now query) test m (now truths) last × Jumps (now query) (now ops) (now ends) m ⌝ }
+    ensures { λ x. ⌜ ((ts : List ℕ) (t count : ℕ) (os : List Bool) (d : Doc) (q : Query) (selecting : Bool) → AllReady ts t (now (query .entry)) (now (ops .entry)) m (now (columns .entry)) chosen (now (kinds .entry)) (now (operators .entry)) (now (values .entry)) (now (ranks .entry)) → Prepared (now (text .entry)) ts (now (rows .entry)) t count os (now (query .entry)) test (now (ops .entry)) m (now (columns .entry)) selecting chosen d q → r < count → x ≡ (not skip && matches (q .condition) (rowIn (now (text .entry)) (now (rows .entry)) r .values))) × Remembered (now (query .entry)) test m (now (truths .exit)) (lastBy last (fateHere skip x)) ⌝ }
+{
+    if skip {
+        return false;
+    }
+    row_matches(
+        text,
+        rows,
+        r,
+        query,
+        test,
+        ops,
+        m,
+        columns,
+        chosen,
+        kinds,
+        operators,
+        values,
+        ranks,
+        ends,
+        truths,
+        last,
+    )
+}
+
+// What becomes of a row of the table: a withheld row is that, whether its condition holds or not.
+fn fate_here(held: bool, met: bool) -> Fate
+    ensures { λ x. ⌜ x ≡ fateHere held met ⌝ }
+{
+    if held {
+        return Fate::Withheld;
+    }
+    if met {
+        return Fate::Passed;
+    }
+    Fate::Unmatched
+}
+
 // What becomes of row r of a document, where table t has this scheme.
 fn fate_of(
     text: &[u8],
@@ -210,10 +269,9 @@ fn fate_of(
     if row_table(rows, r) != t {
         return Fate::Elsewhere;
     }
-    if is_withheld(scheme, rows, opened, r, columns, chosen + m) {
-        return Fate::Withheld;
-    }
-    if row_matches(
+    let held = is_withheld(scheme, rows, opened, r, columns, chosen + m);
+    let met = row_met(
+        held,
         text,
         rows,
         r,
@@ -230,10 +288,8 @@ fn fate_of(
         ends,
         truths,
         last,
-    ) {
-        return Fate::Passed;
-    }
-    Fate::Unmatched
+    );
+    fate_here(held, met)
 }
 
 // The outcome to remember behind a row of this fate.
