@@ -84,6 +84,11 @@ static uint64_t ask(struct text doc, struct text asked, uint8_t *out, size_t out
     return gate_ask(doc.bytes, doc.len, asked.bytes, asked.len, YEAR, DAY, HOUR, out, out_len, figures);
 }
 
+static uint64_t measure(struct text doc, struct text asked, uint64_t figures[GATE_FIGURES])
+{
+    return gate_measure(doc.bytes, doc.len, asked.bytes, asked.len, YEAR, DAY, HOUR, figures);
+}
+
 /* Bytes as they are; a text may hold any. */
 static void print_bytes(const uint8_t *bytes, size_t len)
 {
@@ -121,6 +126,15 @@ static void print_answered(uint64_t number, struct text doc, struct text asked, 
     print_bytes(out, least(figures[GATE_LENGTH], out_len));
     printf("%" PRIu64 " bytes by grant %" PRIu64 "; passed %" PRIu64 ", withheld %" PRIu64 ", unmatched %" PRIu64 "\n",
            figures[GATE_LENGTH], figures[GATE_GRANT], figures[GATE_PASSED], figures[GATE_WITHHELD], figures[GATE_UNMATCHED]);
+}
+
+static void print_measured(uint64_t number, struct text doc, struct text asked, const uint64_t figures[GATE_FIGURES])
+{
+    if (number != GATE_ACCEPTED) {
+        print_refused(number, doc, asked, figures);
+        return;
+    }
+    printf("%" PRIu64 " bytes\n", figures[GATE_LENGTH]);
 }
 
 static const char *yes(int b)
@@ -182,9 +196,21 @@ int main(void)
     print_answered(number, doc, asked, buffer, length - 1, figures);
     printf("the buffer is as it was: %s\n", yes(untouched(buffer, 0, sizeof buffer)));
 
-    printf("-- a purpose that nothing authorises\n");
+    printf("-- a buffer just as long as the answer, which is measured\n");
+    number = measure(doc, asked, figures);
+    print_measured(number, doc, asked, figures);
+    if (number != GATE_ACCEPTED)
+        return EXIT_FAILURE;
+    length = least(figures[GATE_LENGTH], sizeof buffer);
+    number = ask(doc, asked, buffer, length, figures);
+    print_answered(number, doc, asked, buffer, length, figures);
+    memset(buffer, MARK, sizeof buffer);
+
+    printf("-- a purpose that nothing authorises, asked and measured\n");
     number = ask(doc, asked_bill, buffer, reserve, figures);
     print_answered(number, doc, asked_bill, buffer, reserve, figures);
+    number = measure(doc, asked_bill, figures);
+    print_measured(number, doc, asked_bill, figures);
 
     printf("-- an empty query\n");
     number = ask(doc, empty, buffer, reserve, figures);

@@ -24,6 +24,16 @@ mod gate {
                 out_len: usize,
                 figures: *mut u64,
             ) -> u64;
+            pub fn gate_measure(
+                doc: *const u8,
+                doc_len: usize,
+                query: *const u8,
+                query_len: usize,
+                year: u64,
+                day: u64,
+                hour: u64,
+                figures: *mut u64,
+            ) -> u64;
         }
     }
 
@@ -116,6 +126,28 @@ mod gate {
         Ok(Answer { len, grant, passed, withheld, unmatched })
     }
 
+    /// Measures the answer: its length, or the refusal that `ask` gives with every buffer, never 18.
+    pub fn measure(doc: &[u8], query: &[u8], clock: Clock) -> Result<usize, Refusal> {
+        let mut figures = [0; 5];
+        // SAFETY: as in `check`.
+        let number = unsafe {
+            exported::gate_measure(
+                doc.as_ptr(),
+                doc.len(),
+                query.as_ptr(),
+                query.len(),
+                clock.year,
+                clock.day,
+                clock.hour,
+                figures.as_mut_ptr(),
+            )
+        };
+        if number != 0 {
+            return Err(refusal(number, figures));
+        }
+        Ok(figures[0] as usize)
+    }
+
     /// The part of a refusal, from whichever text holds it. Cut at the text's end, so that with texts other than those asked
     /// it doesn't panic.
     pub fn part<'a>(doc: &'a [u8], query: &'a [u8], r: &Refusal) -> &'a [u8] {
@@ -128,7 +160,7 @@ mod gate {
     }
 }
 
-use gate::{ask, check, part, Answer, Checked, Clock, Refusal, Source};
+use gate::{ask, check, measure, part, Answer, Checked, Clock, Refusal, Source};
 
 const POLICY: &str = "\
 (purpose all)
@@ -193,6 +225,13 @@ fn print_answered(to: &mut impl Write, doc: &[u8], query: &[u8], out: &[u8], r: 
     }
 }
 
+fn print_measured(to: &mut impl Write, doc: &[u8], query: &[u8], r: &Result<usize, Refusal>) -> io::Result<()> {
+    match r {
+        Ok(len) => writeln!(to, "{len} bytes"),
+        Err(x) => print_refused(to, doc, query, x),
+    }
+}
+
 fn yes(b: bool) -> &'static str {
     if b {
         "yes"
@@ -244,9 +283,18 @@ fn show(to: &mut impl Write) -> io::Result<bool> {
     print_answered(to, doc, query, &buffer, &short)?;
     writeln!(to, "the buffer is as it was: {}", yes(untouched(&buffer)))?;
 
-    writeln!(to, "-- a purpose that nothing authorises")?;
+    writeln!(to, "-- a buffer just as long as the answer, which is measured")?;
+    let measured = measure(doc, query, CLOCK);
+    print_measured(to, doc, query, &measured)?;
+    let Ok(len) = measured else { return Ok(false) };
+    let mut just = vec![MARK; len];
+    let answered = ask(doc, query, CLOCK, &mut just);
+    print_answered(to, doc, query, &just, &answered)?;
+
+    writeln!(to, "-- a purpose that nothing authorises, asked and measured")?;
     let refused = ask(doc, query_bill, CLOCK, &mut buffer);
     print_answered(to, doc, query_bill, &buffer, &refused)?;
+    print_measured(to, doc, query_bill, &measure(doc, query_bill, CLOCK))?;
 
     writeln!(to, "-- an empty query")?;
     let refused = ask(doc, b"", CLOCK, &mut buffer);

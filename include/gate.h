@@ -13,7 +13,8 @@
  * - The calling thread has room on its stack: a call takes up to 321 KB (measured). Threads with small stacks need a larger one.
  * Nothing is owed of what the texts, the clock and the buffer hold. Every input has an outcome, and every call returns.
  *
- * What the calls give is proved for every input, as crates/gate/specs/Exports.antt says it (ExportsCheck, ExportsAsk). That the
+ * What the calls give is proved for every input, as crates/gate/specs/Exports.antt says it (ExportsCheck, ExportsAsk,
+ * ExportsMeasure). That the
  * caller keeps to the list above is not: a call that breaks it is undefined. Nothing outside the library is called but memset.
  */
 #ifndef GATE_H
@@ -40,7 +41,7 @@ extern "C" {
 enum gate_outcome {
     GATE_ACCEPTED = 0,             /* nothing is refused */
 
-    /* of the document, by gate_check and gate_ask */
+    /* of the document, by every call */
     GATE_TOO_LONG = 1,             /* a text over 60,000 bytes; part: empty, at the start */
     GATE_WRONG_FORM = 2,           /* wrong form (line unfinished, blank, number out of range, too deep); part: the whole line */
     GATE_OVER_BOUND = 3,           /* a bound exceeded; part: the whole line */
@@ -53,7 +54,7 @@ enum gate_outcome {
     GATE_WRONG_TYPE = 8,           /* a value or operator of the wrong type; part: the operator or the value */
     GATE_LATE_ATTRIBUTE = 9,       /* an attr line after any user line; part: the whole line */
 
-    /* of the query, by gate_ask alone */
+    /* of the query, by gate_ask and, but for 18, by gate_measure */
     GATE_CLOCK_OUT_OF_RANGE = 10,  /* clock out of range; part: empty, at the start */
     GATE_NOT_A_QUERY = 11,         /* query not one form of the two shapes, or over a bound; part: the whole query */
     GATE_UNKNOWN_PARTY = 12,       /* user, role or purpose unknown; part: that name */
@@ -76,14 +77,14 @@ enum gate_checked_figure {         /* gate_check, accepted */
     GATE_LINES = 0,                /* how many lines the document has */
     GATE_RESERVE = 1               /* no answer to a select whose column bracket repeats no column is longer */
 };
-enum gate_answered_figure {        /* gate_ask, accepted */
+enum gate_answered_figure {        /* gate_ask, accepted; of gate_measure the first alone */
     GATE_LENGTH = 0,               /* how many bytes of the buffer the answer fills, from the first on */
     GATE_GRANT = 1,                /* the position, counted from 0, of the first grant that authorises the query */
     GATE_PASSED = 2,               /* the rows given */
     GATE_WITHHELD = 3,             /* the rows withheld */
     GATE_UNMATCHED = 4             /* the rows not withheld for which the condition fails */
 };
-enum gate_refused_figure {         /* either call, refused */
+enum gate_refused_figure {         /* any call, refused */
     GATE_SOURCE = 0,               /* the text that holds the part: an enum gate_source */
     GATE_START = 1,                /* where the part begins in that text, in bytes from 0 */
     GATE_PART = 2                  /* how many bytes it has */
@@ -98,6 +99,12 @@ uint64_t gate_check(const uint8_t *doc, size_t doc_len, uint64_t *figures);
  * number of a refusal, 1 to 18, every byte of `out` being as it was. */
 uint64_t gate_ask(const uint8_t *doc, size_t doc_len, const uint8_t *query, size_t query_len, uint64_t year, uint64_t day,
                   uint64_t hour, uint8_t *out, size_t out_len, uint64_t *figures);
+
+/* Measures the answer to a query at the time of the clock, so that a host can lend gate_ask exactly enough.
+ * Returns GATE_ACCEPTED, with the answer's length in figures[GATE_LENGTH] and 0 in the others; or the number of a refusal, which
+ * is never 18 and which gate_ask would give with every buffer. A buffer shorter than that length is refused with 18, no other. */
+uint64_t gate_measure(const uint8_t *doc, size_t doc_len, const uint8_t *query, size_t query_len, uint64_t year, uint64_t day,
+                      uint64_t hour, uint64_t *figures);
 
 #ifdef __cplusplus
 }

@@ -1,4 +1,4 @@
-//! The gate's two C exports, and the second implementation beside them, both as one kind of result.
+//! The gate's three C exports, and the second implementation beside them, both as one kind of result.
 
 use reference::{Clock, Source};
 
@@ -18,10 +18,20 @@ extern "C" {
         out_len: usize,
         figures: *mut u64,
     ) -> u64;
+    fn gate_measure(
+        doc: *const u8,
+        doc_len: usize,
+        query: *const u8,
+        query_len: usize,
+        year: u64,
+        day: u64,
+        hour: u64,
+        figures: *mut u64,
+    ) -> u64;
 }
 
 #[cfg(feature = "stub")]
-use crate::stub::{gate_ask, gate_check};
+use crate::stub::{gate_ask, gate_check, gate_measure};
 
 /// A number of 01 with its part: the source is 1 for the document, 2 for the query.
 #[derive(Clone, Copy, Debug, PartialEq, Eq)]
@@ -122,6 +132,23 @@ pub fn ask(doc: &[u8], query: &[u8], clock: Clock, out: &mut [u8]) -> Result<Ask
     }
 }
 
+/// The gate's measuring (02, Q-4): the length of the answer, or the refusal.
+pub fn measure(doc: &[u8], query: &[u8], clock: Clock) -> Result<Result<u64, Refused>, String> {
+    let mut figures = Figures::new();
+    // As in `check`.
+    let number = unsafe {
+        gate_measure(doc.as_ptr(), doc.len(), query.as_ptr(), query.len(), clock.year, clock.day, clock.hour, figures.lent())
+    };
+    let figures = figures.read()?;
+    if number != 0 {
+        return Ok(Err(refused(number, figures)?));
+    }
+    match figures {
+        [length, 0, 0, 0, 0] => Ok(Ok(length)),
+        _ => Err(format!("measured with figures {figures:?}")),
+    }
+}
+
 /// Whose claim the pairs test: the gate's, or a mutant's to see that the test has teeth.
 #[derive(Clone, Copy, Debug, PartialEq, Eq)]
 pub enum Subject {
@@ -185,6 +212,14 @@ impl Second {
                 }
             }
         }
+    }
+}
+
+/// What the second implementation measures; a mutant has no measuring of its own.
+pub fn measured(second: Second, doc: &[u8], query: &[u8], clock: Clock) -> Option<Result<u64, Refused>> {
+    match second {
+        Second::Reference => Some(reference::measure(doc, query, clock).map(|length| length as u64).map_err(of_reference)),
+        Second::Mutant => None,
     }
 }
 

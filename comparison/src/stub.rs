@@ -1,4 +1,4 @@
-//! The two exports over the reference, to try the harness without the gate (feature `stub`).
+//! The three exports over the reference, to try the harness without the gate (feature `stub`).
 
 use reference::{Clock, Refusal, Source};
 use std::slice;
@@ -47,6 +47,30 @@ pub unsafe fn gate_ask(
         Ok(a) => {
             let given = [a.len, a.grant, a.passed, a.withheld, a.unmatched].map(|figure| figure as u64);
             slice::from_raw_parts_mut(figures, 5).copy_from_slice(&given);
+            0
+        }
+        Err(refusal) => refuse(refusal, figures),
+    }
+}
+
+/// # Safety
+/// As the C export: texts of those lengths, room for five figures.
+#[allow(clippy::too_many_arguments)]
+pub unsafe fn gate_measure(
+    doc: *const u8,
+    doc_len: usize,
+    query: *const u8,
+    query_len: usize,
+    year: u64,
+    day: u64,
+    hour: u64,
+    figures: *mut u64,
+) -> u64 {
+    let doc = slice::from_raw_parts(doc, doc_len);
+    let query = slice::from_raw_parts(query, query_len);
+    match reference::measure(doc, query, Clock { year, day, hour }) {
+        Ok(length) => {
+            slice::from_raw_parts_mut(figures, 5).copy_from_slice(&[length as u64, 0, 0, 0, 0]);
             0
         }
         Err(refusal) => refuse(refusal, figures),

@@ -3,7 +3,7 @@
 use crate::compare::{check, repeats_no_column, shrink, Buffers, Difference, Question, LONGEST_RESERVE, ROOMY};
 use crate::damage;
 use crate::documents;
-use crate::gate::{Asked, Checked, Second};
+use crate::gate::{self, Asked, Checked, Second};
 use crate::model::Model;
 use crate::queries;
 use crate::random::Random;
@@ -183,6 +183,7 @@ impl Run {
             question.buffer = ROOMY;
             asked = self.ask(doc, &question)?;
         }
+        self.measure(doc, &question, asked)?;
         let Asked::Answered { length, .. } = asked else {
             question.buffer = random.below(40);
             return self.ask(doc, &question).map(|_| ());
@@ -201,6 +202,21 @@ impl Run {
             self.ask(doc, &question)?;
         }
         Ok(())
+    }
+
+    /// Measuring gives the answer's length, or the refusal, and the second implementation measures the same (02, Q-4).
+    fn measure(&self, doc: &[u8], question: &Question, asked: Asked) -> Result<(), Difference> {
+        let expected = match asked {
+            Asked::Answered { length, .. } => Ok(length),
+            Asked::Refused(refused) => Err(refused),
+        };
+        let measured = gate::measure(doc, &question.query, question.clock);
+        let second = gate::measured(self.second, doc, &question.query, question.clock).unwrap_or(expected);
+        if measured == Ok(expected) && second == expected {
+            return Ok(());
+        }
+        let what = "what measuring gives".to_string();
+        Err(Difference { second: format!("{second:?}"), ..alone(what, doc.to_vec(), Some(question.clone()), format!("{measured:?}; asking: {asked:?}")) })
     }
 
     /// The lines that an answer longer than its reserve takes.

@@ -1,6 +1,6 @@
 //! 01, "Asking": the numbers 1 to 18 in their order, then the answer.
 
-use crate::answer::{label_open, write, Answer, Request};
+use crate::answer::{label_open, write, Answer, Request, Written};
 use crate::check::read_document;
 use crate::clock::Clock;
 use crate::forms::Word;
@@ -11,6 +11,24 @@ use crate::text::Span;
 
 /// 01, "Asking": "The earliest in this order whose condition holds is given, and there is no refusal when none holds."
 pub fn ask(doc: &[u8], query: &[u8], clock: Clock, out: &mut [u8]) -> Result<Answer, Refusal> {
+    let (written, grant) = answered(doc, query, clock)?;
+
+    // "18 answer longer than the lent buffer".
+    let len = written.text.len();
+    let Some(room) = out.get_mut(..len) else { return Err(of_query(18, Span { start: 0, len: 0 })) };
+
+    // "An accepted answer fills the first bytes only".
+    room.copy_from_slice(&written.text);
+    Ok(Answer { len, grant, passed: written.passed, withheld: written.withheld, unmatched: written.unmatched })
+}
+
+/// 02, Q-4: "exactly the defined answer's length for every query that nothing but 18 could refuse".
+pub fn measure(doc: &[u8], query: &[u8], clock: Clock) -> Result<usize, Refusal> {
+    answered(doc, query, clock).map(|(written, _)| written.text.len())
+}
+
+/// The answer whatever the buffer, and the grant that authorises it.
+fn answered(doc: &[u8], query: &[u8], clock: Clock) -> Result<(Written, usize), Refusal> {
     let at_start = Span { start: 0, len: 0 };
     let whole_query = Span { start: 0, len: query.len() };
 
@@ -62,7 +80,6 @@ pub fn ask(doc: &[u8], query: &[u8], clock: Clock, out: &mut [u8]) -> Result<Ans
         return Err(of_query(17, part));
     }
 
-    // "18 answer longer than the lent buffer".
     let places = |words: &[Word]| words.iter().filter_map(|word| column_place(&policy, table, word.text)).collect();
     let request = Request {
         purpose,
@@ -71,13 +88,7 @@ pub fn ask(doc: &[u8], query: &[u8], clock: Clock, out: &mut [u8]) -> Result<Ans
         named: places(&named),
         condition: parsed.condition.as_ref(),
     };
-    let written = write(&policy, &request);
-    let len = written.text.len();
-    let Some(room) = out.get_mut(..len) else { return Err(of_query(18, at_start)) };
-
-    // "An accepted answer fills the first bytes only".
-    room.copy_from_slice(&written.text);
-    Ok(Answer { len, grant, passed: written.passed, withheld: written.withheld, unmatched: written.unmatched })
+    Ok((write(&policy, &request), grant))
 }
 
 /// 01: "the position, counted from 0, of the first grant that authorises it".

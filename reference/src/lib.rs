@@ -15,7 +15,7 @@ mod rules;
 mod text;
 
 pub use answer::Answer;
-pub use ask::ask;
+pub use ask::{ask, measure};
 pub use check::{check, Accepted};
 pub use clock::Clock;
 pub use refusal::{Refusal, Source};

@@ -2,7 +2,7 @@
 
 mod common;
 use common::*;
-use reference::{ask, Answer, Clock, Refusal, Source};
+use reference::{ask, measure, Answer, Clock, Refusal, Source};
 
 #[test]
 fn numbers_1_to_9_as_in_checking() {
@@ -301,6 +301,15 @@ fn number_18_buffer() {
     let doc = format!("{BASE}(table t table shut (k num))\n");
     let closed = Refusal { number: 17, source: Source::Query, start: 16, len: 1 };
     assert_eq!(ask(doc.as_bytes(), b"(count u r root t)", CLOCK, &mut []), Err(closed));
+}
+
+#[test]
+fn the_length_of_an_answer() {
+    // "(end 3 0 0)\n", and "(row Cy)\n(end 1 1 1)\n".
+    assert_eq!(measure(SAMPLE.as_bytes(), b"(count ana desk post sub)", CLOCK), Ok(12));
+    assert_eq!(measure(SAMPLE.as_bytes(), b"(select ana desk post sub (who) (gt due 50))", CLOCK), Ok(21));
+    let refusal = Refusal { number: 14, source: Source::Query, start: 17, len: 4 };
+    assert_eq!(measure(SAMPLE.as_bytes(), b"(select ana desk bill sub (who))", CLOCK), Err(refusal));
 }
 
 #[test]

@@ -8,7 +8,7 @@ use mathlib.Core.List.{List, [], _++_, _∷_}
 use mathlib.Core.Option.{Option, Option·none-ne-some, Option·some-ne-none, none, some}
 use mathlib.Core.Path.{_∙_, _≡_, ap, refl, subst, sym}
 use Rattle.answer.specs.Answer.{answerTo}
-use Rattle.answer.specs.Ask.{Answered, answerForm, ask}
+use Rattle.answer.specs.Ask.{Answered, answerForm, ask, askUnbounded, ifFits}
 use Rattle.answer.specs.Faults.{Fault, askFaults, firstFault, formAnswer, formFaults, queryFaults, refusalNumber}
 use Rattle.answer.specs.Seen.{seenRows}
 use Rattle.document.specs.Check.{Accepted, check}
@@ -19,7 +19,7 @@ use Rattle.lists.specs.Lists.{known, there}
 use Rattle.query.specs.Authority.{Clock, firstGrant, inRange}
 use Rattle.query.specs.Query.{closedPart, mistypedQuery, resolved, unknownColumn, unknownParty}
 use Rattle.query.specs.QueryForm.{QueryForm, queryOf}
-use Rattle.text.proofs.RefusalLaws.{accepted-same, bind-accepted, need-accepted, refuseAt-accepted, refuseIf-accepted, then-accepted}
+use Rattle.text.proofs.RefusalLaws.{accepted-same, bind-accepted, bind-bind, bind-cong, need-accepted, refuseAt-accepted, refuseIf-accepted, then-accepted, then-bind, then-cong}
 use Rattle.text.specs.Refusal.{Refusal, Result, Source, _>>=_, _>>_, accepted, need, pointing, pointingAll, pointingNowhere, query, refuseAt, refuseIf, refused}
 use Rattle.text.specs.Words.{Word}
 
@@ -131,13 +131,22 @@ is-answered d c q r a = rw (a .party, a .has-role, a .authorised, a .columns, a 
 
 -- ---- asking
 
+-- asking as one row of steps
+pub ask-steps : (doc text : List ℕ) (c : Clock) (room : ℕ) → ask doc text c room ≡ (check doc >>= (λ a.
+    refuseIf (not (inRange c)) (pointingNowhere 10 query) >> (need (queryOf text) (pointingAll 11 query text) >>= (λ q. answerForm (a .doc) c q >>= ifFits room))))
+unfolding ask askUnbounded
+ask-steps doc text c room =
+    bind-bind (check doc) _ _ ∙ bind-cong (check doc) _ _ (λ a _.
+    then-bind (refuseIf (not (inRange c)) (pointingNowhere 10 query)) _ _ ∙ then-cong (refuseIf (not (inRange c)) (pointingNowhere 10 query)) _ _ (λ _ _.
+    bind-bind (need (queryOf text) (pointingAll 11 query text)) _ _))
+
 -- Asking about an accepted document is refused with the lowest number of 10 to 18 whose condition holds, and accepted when
 -- none holds.
 pub lowest-refused : (doc text : List ℕ) (A : Accepted) → check doc ≡ accepted A → (c : Clock) (room : ℕ)
     → refusalNumber (ask doc text c room) ≡ firstFault (askFaults (A .doc) text c room)
-unfolding ask _>>=_ askFaults queryFaults formAnswer pointingAll pointingNowhere
+unfolding ask askUnbounded ifFits _>>=_ askFaults queryFaults formAnswer pointingAll pointingNowhere
 lowest-refused doc text A is-A c room =
-    rw is-A (
+    ap refusalNumber (ask-steps doc text c room) ∙ rw is-A (
     if-number _ _ _ _ (
     need-number (queryFaults (A .doc) c room (queryOf text)) _ _ _ (λ q is-q. rw is-q (
     bind-number (answerForm (A .doc) c q) _ (formFaults (A .doc) c q) _ (form-number (A .doc) c q) (λ r is-r.
@@ -146,7 +155,7 @@ lowest-refused doc text A is-A c room =
 
 -- Asking about a refused document is refused as the document is, with 1 to 9.
 pub document-refused : (doc text : List ℕ) (r : Refusal) → check doc ≡ refused r → (c : Clock) (room : ℕ) → ask doc text c room ≡ refused r
-unfolding ask _>>=_
+unfolding ask askUnbounded _>>=_
 document-refused doc text r is-r c room = rw is-r
 
 -- none of 1 to 18 holds, and this is the answer
@@ -161,9 +170,9 @@ pub record AskAnswers (doc text : List ℕ) (c : Clock) (room : ℕ) (a : Answer
 
 -- what an accepted asking went through
 pub ask-answered : (doc text : List ℕ) (c : Clock) (room : ℕ) (a : Answered) → ask doc text c room ≡ accepted a → AskAnswers doc text c room a
-unfolding ask
+unfolding ifFits
 ask-answered doc text c room a h =
-    let h0 = bind-accepted _ _ _ h in
+    let h0 = bind-accepted _ _ _ (sym (ask-steps doc text c room) ∙ h) in
     let h1 = then-accepted _ _ _ (h0 .2) in
     let h2 = bind-accepted _ _ _ (h1 .2) in
     let h3 = bind-accepted _ _ _ (h2 .2) in
@@ -181,6 +190,6 @@ ask-answered doc text c room a h =
 
 -- an asking of which none of 1 to 18 holds is accepted
 pub ask-is : (doc text : List ℕ) (c : Clock) (room : ℕ) (a : Answered) → AskAnswers doc text c room a → ask doc text c room ≡ accepted a
-unfolding ask refuseIf need _>>=_ _>>_
+unfolding ask askUnbounded ifFits refuseIf need _>>=_ _>>_
 ask-is doc text c room a x =
     rw (x .accepts, x .clock, x .reads, is-answered (x .checked .doc) c (x .form) a (x .answers)) (rw (le-ltb room _ (x .fits)))

@@ -16,7 +16,7 @@ use Rattle.document.specs.Open.{labelOpen}
 use Rattle.document.specs.Policy.{Column, Doc, Row}
 use Rattle.answer.proofs.RowLines.{AllBelow, Distinct, lines-cost}
 use Rattle.answer.specs.Answer.{answerTo, counted, endLine, isPassed, isUnmatched, isWithheld, lineOf, matches, rowLines}
-use Rattle.answer.specs.Ask.{Answered, answerForm, ask}
+use Rattle.answer.specs.Ask.{Answered, answerForm, ask, askUnbounded, ifFits}
 use Rattle.answer.specs.Reserve.{IsReserve, SelectsOnce}
 use Rattle.answer.specs.Seen.{Seen, rowsIn, seenRows}
 use Rattle.query.proofs.NamedColumns.{columnNumber}
@@ -175,17 +175,17 @@ select-cost d q ws c r k h =
 
 -- 60,021 is a reserve of every text
 pub reserve-60021 : (doc : List ℕ) → IsReserve doc 60021
-unfolding IsReserve SelectsOnce ask answerForm
+unfolding IsReserve SelectsOnce ask askUnbounded ifFits answerForm
 reserve-60021 doc = (go, le-refl 60021)
   where
     go : (text : List ℕ) (c : Clock) (room : ℕ) (a : Answered) → SelectsOnce text → ask doc text c room ≡ accepted a → length (a .answer .bytes) ≤ 60021
     go text clock room a s e =
-        let c = bind-accepted _ _ _ e in
+        let r = bind-accepted _ _ _ e in
+        let b18 = then-accepted _ _ _ (r .2) in
+        let c = bind-accepted _ _ _ (r .1) in
         let b10 = then-accepted _ _ _ (c .2) in
         let b11 = bind-accepted _ _ _ (b10 .2) in
-        let r = bind-accepted _ _ _ (b11 .2) in
-        let b18 = then-accepted _ _ _ (r .2) in
-        let f12 = then-accepted _ _ _ (r .1) in
+        let f12 = then-accepted _ _ _ (b11 .2) in
         let f13 = bind-accepted _ _ _ (f12 .2) in
         let f14 = bind-accepted _ _ _ (f13 .2) in
         let f15 = then-accepted _ _ _ (f14 .2) in

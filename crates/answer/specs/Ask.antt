@@ -35,16 +35,30 @@ answerForm d c q = do
   refuseAt 17 query (closedPart (d .policy) q)
   accepted (record { answer = answerTo (resolved (d .policy) q) (seenRows d (resolved (d .policy) q)); grant = g })
 
--- what asking gives: the document's refusal, or the query's of the lowest number, or the answer; `room` is the lent
--- buffer's length
-unfoldable pub ask : (doc text : List ℕ) (clock : Clock) (room : ℕ) → Outcome
-ask doc text c room = do
+-- what asking gives, the lent buffer's length aside: the document's refusal, or the query's of the lowest number but 18, or
+-- the answer
+unfoldable pub askUnbounded : (doc text : List ℕ) (clock : Clock) → Outcome
+askUnbounded doc text c = do
   a ← check doc
   refuseIf (not (inRange c)) (pointingNowhere 10 query)
   q ← need (queryOf text) (pointingAll 11 query text)
-  r ← answerForm (a .doc) c q
+  answerForm (a .doc) c q
+
+-- 18 where the answer is longer than the lent buffer, whose length is `room`; else the answer
+unfoldable pub ifFits : (room : ℕ) → Answered → Outcome
+ifFits room r = do
   refuseIf (ltb room (length (r .answer .bytes))) (pointingNowhere 18 query)
   accepted r
+
+-- what asking gives
+unfoldable pub ask : (doc text : List ℕ) (clock : Clock) (room : ℕ) → Outcome
+ask doc text c room = askUnbounded doc text c >>= ifFits room
+
+-- what measuring gives: the length of the answer, or the refusal that no buffer would change (02, Q-4)
+unfoldable pub measure : (doc text : List ℕ) (clock : Clock) → Result ℕ
+measure doc text c = do
+  r ← askUnbounded doc text c
+  accepted (length (r .answer .bytes))
 
 -- the lent buffer afterwards: an answer fills its first bytes, a refusal leaves it as it was
 unfoldable pub after : Outcome → List ℕ → List ℕ

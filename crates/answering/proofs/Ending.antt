@@ -2,16 +2,15 @@
 use Prim.Native.Nat.{_<_, _≤_, ℕ}
 use borrow.Author.Tests.{le-ltb, lt-ltb}
 use lib.ListN.{length}
-use lib.Seq.{sets}
 use mathlib.Core.Bool.{Bool, false, true}
-use mathlib.Core.List.{List, [], _++_}
+use mathlib.Core.List.{List}
 use mathlib.Core.Path.{_∙_, _≡_, ap, subst, sym}
 use native.Mathlib.Omega.{arith}
 use Rattle.answer.specs.Answer.{Answer, counted, endLine}
-use Rattle.answering.proofs.Writing.{both, filled, sets-empty}
-use Rattle.answering.specs.Answering.{Writes, bufferAfter, writtenFor}
+use Rattle.answering.proofs.Writing.{both, filled}
+use Rattle.answering.specs.Answering.{Writes, bufferAfter, measuredOf}
 use Rattle.answering.specs.Write.{Wrote, answerMarked, linesMarked}
-use Rattle.answering.specs.declared.answers.Written.the-variants.{Answered, TooLong}
+use Rattle.answering.specs.declared.answers.Measured.{Measured}
 
 module _ (text ws cs : List ℕ) (marks : List Bool) (k p w u : ℕ) {selecting : Bool} {d f : List ℕ} {n : ℕ} where
   -- a select: the lines, then the end line
@@ -25,31 +24,24 @@ module _ (text ws cs : List ℕ) (marks : List Bool) (k p w u : ℕ) {selecting 
   unfolding answerMarked counted
   count-written is z = subst (λ b. Wrote d 0 (answerMarked text ws cs marks k b p w u .bytes) f n) (sym is) z
 
--- the answer was measured, by writing it into none of the buffer d
-module _ (d : List ℕ) (a : Answer) {x : List ℕ} {n : ℕ} (measured : Wrote [] 0 (a .bytes) x n) where
-  size : n ≡ length (a .bytes)
-  size = omega (arith, measured .behind)
+-- what is behind a text written from the start is its length
+pub size-written : {d bytes f : List ℕ} {n : ℕ} → Wrote d 0 bytes f n → n ≡ length bytes
+size-written w = omega (arith, w .behind)
 
-  untouched : x ≡ []
-  untouched = measured .stored ∙ sets-empty 0 (a .bytes)
+-- the answer was measured
+module _ (d : List ℕ) (a : Answer) {n : ℕ} (size : n ≡ length (a .bytes)) where
+  figures : record { len = n; tally = record { passed = a .passed; withheld = a .withheld; unmatched = a .unmatched } } ≡ measuredOf a
+  unfolding measuredOf
+  figures = ap (λ k. record { len = k; tally = record { passed = a .passed; withheld = a .withheld; unmatched = a .unmatched } }) size
 
-  same : x ++ d ≡ d
-  same = ap (λ y. y ++ d) untouched
+  -- the buffer has no room for it, and stays
+  pub no-room : length d < n → Writes a d d (record { len = n; tally = record { passed = a .passed; withheld = a .withheld; unmatched = a .unmatched } })
+  unfolding bufferAfter
+  no-room h = record { is = figures; buffer = rw (lt-ltb (length d) (length (a .bytes)) (omega (arith, h, size))) }
 
-  -- it is too long
-  pub too-long : length (x ++ d) < n → Writes a d (x ++ d) TooLong
-  unfolding writtenFor bufferAfter
-  too-long h =
-      let l : length d < length (a .bytes) = omega (arith, h, size, ap length same) in
-      record { is = rw (lt-ltb (length d) (length (a .bytes)) l); buffer = rw (lt-ltb (length d) (length (a .bytes)) l) same }
-
-  -- it has room, and was written
-  pub written : n ≤ length (x ++ d) → {f : List ℕ} {m : ℕ} → Wrote (x ++ d) 0 (a .bytes) f m → Writes a d f (Answered m (record { passed = a .passed; withheld = a .withheld; unmatched = a .unmatched }))
-  unfolding writtenFor bufferAfter
-  written h {f} {m} v =
-      let l : length (a .bytes) ≤ length d = omega (arith, h, size, ap length same) in
-      let e : m ≡ length (a .bytes) = omega (arith, v .behind) in
-      record {
-        is = rw (le-ltb (length d) (length (a .bytes)) l) (ap (λ k. Answered k (record { passed = a .passed; withheld = a .withheld; unmatched = a .unmatched })) e);
-        buffer = rw (le-ltb (length d) (length (a .bytes)) l) (v .stored ∙ ap (λ y. sets y 0 (a .bytes)) same ∙ filled d (a .bytes) l);
-      }
+  -- the buffer has room, and it was written
+  pub written : n ≤ length d → {f : List ℕ} {m : ℕ} → Wrote d 0 (a .bytes) f m → Writes a d f (record { len = n; tally = record { passed = a .passed; withheld = a .withheld; unmatched = a .unmatched } })
+  unfolding bufferAfter
+  written h v =
+      let l : length (a .bytes) ≤ length d = omega (arith, h, size) in
+      record { is = figures; buffer = rw (le-ltb (length d) (length (a .bytes)) l) (v .stored ∙ filled d (a .bytes) l) }

@@ -1,4 +1,4 @@
-// The whole answer: measured first, and then written straight into the lent buffer.
+// The whole answer: measured first, and then, where there is room, written straight into the lent buffer.
 use crate::judging::judge_rows;
 use crate::lines::put_lines;
 use crate::tally::Tally;
@@ -12,6 +12,7 @@ use query::reading::Test;
 ghost use Prim.Native.Nat.{_≤_, ℕ};
 ghost use lib.ListN.{length, take};
 ghost use mathlib.Core.List.{List};
+ghost use mathlib.Core.Path.{_≡_};
 ghost use Rattle.answer.specs.Answer.{answerTo};
 ghost use Rattle.answer.specs.Seen.{seenRows};
 ghost use Rattle.answering.specs.Answering.{Writes};
@@ -24,10 +25,10 @@ ghost use Rattle.query.specs.Query.{Query};
 // How long a text may be.
 const TEXT_BYTES: usize = 60000;
 
-// 18, or the answer's length and its counts.
-pub enum Written {
-    TooLong,
-    Answered(usize, Tally),
+// An answer's length and its counts.
+pub struct Measured {
+    pub len: usize,
+    pub tally: Tally,
 }
 
 // Writes the answer, as far as the buffer goes: the marked rows' lines, if it is a select, and the end line.
@@ -54,7 +55,37 @@ fn put_answer(
     put_end(out, 0, passed, withheld, unmatched)
 }
 
-// Measures the answer, by writing it into none of the buffer, and writes it where the buffer has room.
+// The answer's length, found by writing it into no bytes at all: nothing of it is held.
+fn measure_answer(
+    text: &[u8],
+    rows: &[usize; ROW_CELLS],
+    count: usize,
+    marks: &[bool; ROWS],
+    columns: &[usize; 80],
+    select: bool,
+    chosen: usize,
+    tally: Tally,
+) -> usize
+    requires { ⌜ (length (now text) ≤ 60000) × (chosen ≤ 16) × (count ≤ 1024) ⌝ }
+    ensures { λ n. ⌜ ((rs : List Row) → Rows (now (text .entry)) (now (rows .entry)) count rs → n ≡ length (answerMarked (now (text .entry)) (now (rows .entry)) (take chosen (now (columns .entry))) (now (marks .entry)) count select (tally .passed) (tally .withheld) (tally .unmatched) .bytes)) ⌝ }
+{
+    let mut nothing = [0u8; 1];
+    put_answer(
+        &mut nothing[..0],
+        text,
+        rows,
+        count,
+        marks,
+        columns,
+        select,
+        chosen,
+        tally.passed,
+        tally.withheld,
+        tally.unmatched,
+    )
+}
+
+// Measures the answer, and writes it where the buffer has room.
 fn put_measured(
     out: &mut [u8],
     text: &[u8],
@@ -65,30 +96,15 @@ fn put_measured(
     select: bool,
     chosen: usize,
     tally: Tally,
-) -> Written
+) -> Measured
     requires { ⌜ (length (now text) ≤ 60000) × (chosen ≤ 16) × (count ≤ 1024) ⌝ }
     ensures { λ x. ⌜ ((rs : List Row) → Rows (now (text .entry)) (now (rows .entry)) count rs → Writes (answerMarked (now (text .entry)) (now (rows .entry)) (take chosen (now (columns .entry))) (now (marks .entry)) count select (tally .passed) (tally .withheld) (tally .unmatched)) (now (out .entry)) (now (out .exit)) x) ⌝ }
 {
-    let p = tally.passed;
-    let w = tally.withheld;
-    let u = tally.unmatched;
-    let size = put_answer(
-        &mut out[..0],
-        text,
-        rows,
-        count,
-        marks,
-        columns,
-        select,
-        chosen,
-        p,
-        w,
-        u,
-    );
-    if out.len() < size {
-        return Written::TooLong;
+    let len = measure_answer(text, rows, count, marks, columns, select, chosen, tally);
+    if out.len() < len {
+        return Measured { len, tally };
     }
-    let len = put_answer(
+    put_answer(
         out,
         text,
         rows,
@@ -97,11 +113,23 @@ fn put_measured(
         columns,
         select,
         chosen,
-        p,
-        w,
-        u,
+        tally.passed,
+        tally.withheld,
+        tally.unmatched,
     );
-    Written::Answered(len, tally)
+    Measured { len, tally }
+}
+
+// For a query that was not prepared: any figures will do.
+fn unmeasured() -> Measured {
+    Measured {
+        len: 0,
+        tally: Tally {
+            passed: 0,
+            withheld: 0,
+            unmatched: 0,
+        },
+    }
 }
 
 // The answer to a prepared query over the rows, of which there are count.
@@ -120,18 +148,18 @@ pub fn answer_rows(
     select: bool,
     chosen: usize,
     out: &mut [u8],
-) -> Written
+) -> Measured
     ensures { λ x. ⌜ ((d : Doc) (q : Query) → Prepared (now (text .entry)) (now (tables .entry)) (now (rows .entry)) t count (now (opened .entry)) (now (query .entry)) test (now (ops .entry)) m (now (columns .entry)) select chosen d q → Writes (answerTo q (seenRows d q)) (now (out .entry)) (now (out .exit)) x) ⌝ }
 {
     // A prepared query passes these: they keep lengths from wrapping.
     if TEXT_BYTES < text.len() {
-        return Written::TooLong;
+        return unmeasured();
     }
     if COLUMNS < chosen {
-        return Written::TooLong;
+        return unmeasured();
     }
     if ROWS < count {
-        return Written::TooLong;
+        return unmeasured();
     }
     let mut marks = [false; ROWS];
     let tally = judge_rows(

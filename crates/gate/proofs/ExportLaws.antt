@@ -4,19 +4,21 @@ use lib.ListN.{getD, length}
 use mathlib.Core.List.{List, [], _∷_}
 use mathlib.Core.Path.{_∙_, _≡_, ap, refl, subst, sym}
 use native.Mathlib.Omega.{arith}
-use Rattle.answer.specs.Ask.{Outcome, ask}
+use Rattle.answer.specs.Ask.{Outcome, ask, measure}
 use Rattle.answer.specs.Ask as meant
 use Rattle.answer.specs.Reserve.{IsReserve}
 use Rattle.checker.specs.Outcome.{Reserved, checkedAs, linesOnly}
 use Rattle.checker.specs.declared.documents.Checked.{Checked}
 use Rattle.checker.specs.declared.documents.Checked.the-variants as checked
 use Rattle.document.specs.Check.{Accepted, check}
-use Rattle.gate.specs.Exports.{ExportsAsk, ExportsCheck, Refuses, askFigures, checkFigures, codeOf}
-use Rattle.gate.specs.Outside.{Asks, Figures, answeredAs, figuresOf, inFigures}
+use Rattle.gate.specs.Exports.{ExportsAsk, ExportsCheck, ExportsMeasure, Refuses, askFigures, checkFigures, codeOf, measureFigures}
+use Rattle.gate.specs.Outside.{Asks, Figures, Measures, answeredAs, figuresOf, inFigures, measuredAs}
 use Rattle.gate.specs.Reserved.{ChecksDocument, HasReserve}
 use Rattle.gate.specs.declared.asking.Answered.{Answered}
 use Rattle.gate.specs.declared.asking.Answered.the-variants as answered
 use Rattle.gate.specs.declared.asking.Figures as code
+use Rattle.gate.specs.declared.measuring.Measured.{Measured}
+use Rattle.gate.specs.declared.measuring.Measured.the-variants as measured
 use Rattle.query.specs.Authority.{Clock}
 use Rattle.text.proofs.RefusalLaws.{not-refused}
 use Rattle.text.specs.Reasons.{numberOf, refusalOf}
@@ -117,3 +119,18 @@ module _ (doc text : List ℕ) (c : Clock) (before after′ figures : List ℕ) 
         buffer = h .buffer;
         answers = λ z. figures-accepted (ask doc text c (length before)) (figuresOf g) (sym e);
       }
+
+module _ (doc text : List ℕ) (c : Clock) (figures : List ℕ) (x : Measured) (h : Measures doc text c x) where
+  -- a query that has no answer
+  pub refused-measure : (n : ℕ) (r : Refusal) → x ≡ measured.Refused r → Refuses (refusalOf r) figures n → ExportsMeasure doc text c figures n
+  unfolding measuredAs codeOf measureFigures
+  refused-measure n r told f =
+      let e : refused (refusalOf r) ≡ measure doc text c = sym (ap measuredAs told) ∙ h .is in
+      record { code = f .code ∙ ap codeOf e; filled = f .filled ∙ ap measureFigures e; answers = λ z. absurd (numbered (r .reason) (sym (f .code) ∙ z)) }
+
+  -- a query with an answer of length n
+  pub length-measure : (n : ℕ) → x ≡ measured.Length n → figures ≡ n ∷ 0 ∷ 0 ∷ 0 ∷ 0 ∷ [] → ExportsMeasure doc text c figures 0
+  unfolding measuredAs codeOf measureFigures
+  length-measure n told f =
+      let e : accepted n ≡ measure doc text c = sym (ap measuredAs told) ∙ h .is in
+      record { code = ap codeOf e; filled = f ∙ ap measureFigures e; answers = λ z. sym e ∙ sym (ap (λ l. accepted (getD l 0 0)) f) }

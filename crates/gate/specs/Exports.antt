@@ -3,7 +3,7 @@ use Prim.Native.Nat.{ℕ}
 use lib.ListN.{getD, length}
 use mathlib.Core.List.{List, [], _∷_}
 use mathlib.Core.Path.{_≡_}
-use Rattle.answer.specs.Ask.{Answered, after, ask}
+use Rattle.answer.specs.Ask.{Answered, after, ask, measure}
 use Rattle.answer.specs.Reserve.{IsReserve}
 use Rattle.checker.specs.Outcome.{linesOnly}
 use Rattle.document.specs.Check.{Accepted, check}
@@ -35,6 +35,11 @@ unfoldable pub askFigures : Result Figures → List ℕ
 askFigures (refused r) = refusalFigures r
 askFigures (accepted x) = x .len ∷ x .grant ∷ x .passed ∷ x .withheld ∷ x .unmatched ∷ []
 
+-- the figures of measuring: the answer's length, or those of the refusal
+unfoldable pub measureFigures : Result ℕ → List ℕ
+measureFigures (refused r) = refusalFigures r
+measureFigures (accepted n) = n ∷ 0 ∷ 0 ∷ 0 ∷ 0 ∷ []
+
 -- the clock of a year, a day and an hour
 unfoldable pub clockAt : (year day hour : ℕ) → Clock
 clockAt y d h = record { year = y; day = d; hour = h }
@@ -59,3 +64,9 @@ pub record ExportsAsk (doc text : List ℕ) (c : Clock) (before after′ figures
   pub filled : figures ≡ askFigures (inFigures (ask doc text c (length before)))
   pub buffer : after′ ≡ after (ask doc text c (length before)) before
   pub answers : n ≡ 0 → (a : Answered) × (ask doc text c (length before) ≡ accepted a)
+
+-- the code n and the figures are those of measuring the answer; where n is 0, the query has an answer of that length (02, Q-4)
+pub record ExportsMeasure (doc text : List ℕ) (c : Clock) (figures : List ℕ) (n : ℕ) : Type 0 where
+  pub code : n ≡ codeOf (measure doc text c)
+  pub filled : figures ≡ measureFigures (measure doc text c)
+  pub answers : n ≡ 0 → measure doc text c ≡ accepted (getD figures 0 0)

@@ -1,15 +1,18 @@
 -- What the gate's outside functions answer (01, "Asking"): the figures of an outcome, and the lent buffer afterwards.
 use Prim.Native.Nat.{ℕ}
+use lib.Dec.{ltb}
 use lib.ListN.{length}
 use mathlib.Core.List.{List}
 use mathlib.Core.Path.{_≡_}
-use Rattle.answer.specs.Ask.{Outcome, after, ask}
+use Rattle.answer.specs.Ask.{Outcome, after, ask, measure}
 use Rattle.query.specs.Authority.{Clock}
 use Rattle.text.specs.Reasons.{refusalOf}
-use Rattle.text.specs.Refusal.{Result, accepted, refused}
+use Rattle.text.specs.Refusal.{Result, _>>=_, _>>_, accepted, pointingNowhere, query, refuseIf, refused}
 use Rattle.gate.specs.declared.asking.Answered.{Answered}
 use Rattle.gate.specs.declared.asking.Answered.the-variants as answered
 use Rattle.gate.specs.declared.asking.Figures as code
+use Rattle.gate.specs.declared.measuring.Measured.{Measured}
+use Rattle.gate.specs.declared.measuring.Measured.the-variants as measured
 
 -- an accepted answer in figures: its length, the grant and the three counts
 pub record Figures : Type 0 where
@@ -32,6 +35,22 @@ answeredAs (answered.Refused r) = refused (refusalOf r)
 unfoldable pub inFigures : Outcome → Result Figures
 inFigures (refused r) = refused r
 inFigures (accepted a) = accepted (record { len = length (a .answer .bytes); grant = a .grant; passed = a .answer .passed; withheld = a .answer .withheld; unmatched = a .answer .unmatched })
+
+-- 18 where the answer is longer than the lent buffer, whose length is `room`, by its figures
+unfoldable pub figuresFit : (room : ℕ) → Result Figures → Result Figures
+figuresFit room o = do
+  x ← o
+  refuseIf (ltb room (x .len)) (pointingNowhere 18 query)
+  accepted x
+
+-- what the code's measure stands for: a refusal, or a length
+unfoldable pub measuredAs : Measured → Result ℕ
+measuredAs (measured.Refused r) = refused (refusalOf r)
+measuredAs (measured.Length n) = accepted n
+
+-- THE MEASURE: the code's measure r stands for what measuring gives, 1 to 17 or the length of the answer (02, Q-4)
+pub record Measures (doc text : List ℕ) (c : Clock) (r : Measured) : Type 0 where
+  pub is : measuredAs r ≡ measure doc text c
 
 -- THE ANSWER: the code's answer r stands for the outcome of asking, and the lent buffer afterwards is what that outcome says
 pub record Asks (doc text : List ℕ) (c : Clock) (before after′ : List ℕ) (r : Answered) : Type 0 where

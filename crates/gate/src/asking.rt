@@ -1,5 +1,4 @@
 // Asking: a query over a document, its answer in a lent buffer.
-use answering::answers::Written;
 use answering::answers::answer_rows;
 use authority::grants::authorising_grant;
 use authority::purposes::purpose_closure;
@@ -42,15 +41,15 @@ use text::refusals::Refusal;
 use text::refusals::Source;
 use text::words::word_end;
 ghost use Prim.Native.Nat.{_<_};
-ghost use lib.ListN.{length};
 ghost use mathlib.Core.Bool.{true};
 ghost use mathlib.Core.List.{List};
 ghost use mathlib.Core.Option.{Option, some};
 ghost use mathlib.Core.Path.{_≡_};
 ghost use Prim.Native.Nat.{ℕ};
+ghost use Rattle.answer.specs.Ask.{askUnbounded};
 ghost use Rattle.document.specs.Lookup.{purposeOf};
 ghost use Rattle.document.specs.Policy.{Doc};
-ghost use Rattle.gate.specs.Outside.{Asks};
+ghost use Rattle.gate.specs.Outside.{Asks, answeredAs, figuresFit};
 ghost use Rattle.gate.specs.Stages.{Chosen, ColumnsKnown, ForPurpose, InTable, Reading, Standing, TablesHeld, TestsPlaced, asked};
 ghost use Rattle.gate.specs.Tails.{Gives, ifGranted, ifKnown, ifOpen, ifParties, ifTimed, refusedAt};
 ghost use Rattle.lists.specs.Lists.{there};
@@ -122,7 +121,7 @@ fn ask_open(
     m: usize,
     out: &mut [u8],
 ) -> Answered
-    ensures { λ r. ⌜ ((d : Doc) (cs : Option (List Word)) → TablesHeld (now (text .entry)) (now (sets .entry)) (now (tables .entry)) (now (rows .entry)) c d → ForPurpose (d .policy) (asked (now (query .entry)) h cs test) closure → InTable (d .policy) (asked (now (query .entry)) h cs test) t (c .tables) → Chosen select chosen cs → ColumnsKnown (d .policy) (now (query .entry)) (asked (now (query .entry)) h cs test) t n (now (places .entry)) (now (columns .entry)) → TestsPlaced (now (query .entry)) test m (now (ops .entry)) → Gives (ifOpen d (asked (now (query .entry)) h cs test) grant (length (now (out .entry)))) (now (out .entry)) (now (out .exit)) r) ⌝ }
+    ensures { λ r. ⌜ ((d : Doc) (cs : Option (List Word)) → TablesHeld (now (text .entry)) (now (sets .entry)) (now (tables .entry)) (now (rows .entry)) c d → ForPurpose (d .policy) (asked (now (query .entry)) h cs test) closure → InTable (d .policy) (asked (now (query .entry)) h cs test) t (c .tables) → Chosen select chosen cs → ColumnsKnown (d .policy) (now (query .entry)) (asked (now (query .entry)) h cs test) t n (now (places .entry)) (now (columns .entry)) → TestsPlaced (now (query .entry)) test m (now (ops .entry)) → Gives (ifOpen d (asked (now (query .entry)) h cs test) grant) (now (out .entry)) (now (out .exit)) r) ⌝ }
 {
     let mut opened = [false; LABELS];
     open_labels(closure, sets, c.labels, &mut opened);
@@ -146,21 +145,13 @@ fn ask_open(
                 chosen,
                 out,
             );
-            match x {
-                Written::TooLong => Answered::Refused(Refusal {
-                    reason: Reason::BufferTooShort,
-                    source: Source::Query,
-                    start: 0,
-                    len: 0,
-                }),
-                Written::Answered(len, tally) => Answered::Given(Figures {
-                    len,
-                    grant,
-                    passed: tally.passed,
-                    withheld: tally.withheld,
-                    unmatched: tally.unmatched,
-                }),
-            }
+            Answered::Given(Figures {
+                len: x.len,
+                grant,
+                passed: x.tally.passed,
+                withheld: x.tally.withheld,
+                unmatched: x.tally.unmatched,
+            })
         }
     }
 }
@@ -183,7 +174,7 @@ fn ask_columns(
     t: usize,
     out: &mut [u8],
 ) -> Answered
-    ensures { λ r. ⌜ ((d : Doc) (cs : Option (List Word)) → TablesHeld (now (text .entry)) (now (sets .entry)) (now (tables .entry)) (now (rows .entry)) c d → ForPurpose (d .policy) (asked (now (query .entry)) h cs test) closure → InTable (d .policy) (asked (now (query .entry)) h cs test) t (c .tables) → Reading (now (query .entry)) a h select chosen test cs → Gives (ifKnown d (asked (now (query .entry)) h cs test) grant (length (now (out .entry)))) (now (out .entry)) (now (out .exit)) r) ⌝ }
+    ensures { λ r. ⌜ ((d : Doc) (cs : Option (List Word)) → TablesHeld (now (text .entry)) (now (sets .entry)) (now (tables .entry)) (now (rows .entry)) c d → ForPurpose (d .policy) (asked (now (query .entry)) h cs test) closure → InTable (d .policy) (asked (now (query .entry)) h cs test) t (c .tables) → Reading (now (query .entry)) a h select chosen test cs → Gives (ifKnown d (asked (now (query .entry)) h cs test) grant) (now (out .entry)) (now (out .exit)) r) ⌝ }
 {
     let mut places = [0usize; NAMED];
     let n = named_places(query, a, &mut places);
@@ -242,7 +233,7 @@ fn ask_table(
     grant: usize,
     out: &mut [u8],
 ) -> Answered
-    ensures { λ r. ⌜ ((d : Doc) (cs : Option (List Word)) → TablesHeld (now (text .entry)) (now (sets .entry)) (now (tables .entry)) (now (rows .entry)) c d → ForPurpose (d .policy) (asked (now (query .entry)) h cs test) closure → Reading (now (query .entry)) a h select chosen test cs → Gives (ifKnown d (asked (now (query .entry)) h cs test) grant (length (now (out .entry)))) (now (out .entry)) (now (out .exit)) r) ⌝ }
+    ensures { λ r. ⌜ ((d : Doc) (cs : Option (List Word)) → TablesHeld (now (text .entry)) (now (sets .entry)) (now (tables .entry)) (now (rows .entry)) c d → ForPurpose (d .policy) (asked (now (query .entry)) h cs test) closure → Reading (now (query .entry)) a h select chosen test cs → Gives (ifKnown d (asked (now (query .entry)) h cs test) grant) (now (out .entry)) (now (out .exit)) r) ⌝ }
 {
     let table = find_table(text, tables, c.tables, query, h.table);
     match table {
@@ -290,7 +281,7 @@ fn ask_user(
     u: usize,
     out: &mut [u8],
 ) -> Answered
-    ensures { λ r. ⌜ ((d : Doc) (names : List ℕ) (cs : Option (List Word)) → Standing (now (text .entry)) (now (purposes .entry)) (now (roles .entry)) (now (attributes .entry)) (now (users .entry)) (now (conds .entry)) (now (grants .entry)) names (now (sets .entry)) (now (tables .entry)) (now (rows .entry)) c d → inRange (clockOf clock) ≡ true → Reading (now (query .entry)) a h select chosen test cs → there (purposeOf (d .policy) (wordOf (now (query .entry)) (h .purpose))) ≡ true → u < c .users → Gives (ifGranted d (clockOf clock) (asked (now (query .entry)) h cs test) u (length (now (out .entry)))) (now (out .entry)) (now (out .exit)) r) ⌝ }
+    ensures { λ r. ⌜ ((d : Doc) (names : List ℕ) (cs : Option (List Word)) → Standing (now (text .entry)) (now (purposes .entry)) (now (roles .entry)) (now (attributes .entry)) (now (users .entry)) (now (conds .entry)) (now (grants .entry)) names (now (sets .entry)) (now (tables .entry)) (now (rows .entry)) c d → inRange (clockOf clock) ≡ true → Reading (now (query .entry)) a h select chosen test cs → there (purposeOf (d .policy) (wordOf (now (query .entry)) (h .purpose))) ≡ true → u < c .users → Gives (ifGranted d (clockOf clock) (asked (now (query .entry)) h cs test) u) (now (out .entry)) (now (out .exit)) r) ⌝ }
 {
     let purpose = find_purpose(text, purposes, c.purposes, query, h.purpose);
     match purpose {
@@ -359,7 +350,7 @@ fn ask_form(
     test: Test,
     out: &mut [u8],
 ) -> Answered
-    ensures { λ r. ⌜ ((d : Doc) (names : List ℕ) (cs : Option (List Word)) → Standing (now (text .entry)) (now (purposes .entry)) (now (roles .entry)) (now (attributes .entry)) (now (users .entry)) (now (conds .entry)) (now (grants .entry)) names (now (sets .entry)) (now (tables .entry)) (now (rows .entry)) c d → inRange (clockOf clock) ≡ true → Reading (now (query .entry)) a h select chosen test cs → Gives (ifParties d (clockOf clock) (asked (now (query .entry)) h cs test) (length (now (out .entry)))) (now (out .entry)) (now (out .exit)) r) ⌝ }
+    ensures { λ r. ⌜ ((d : Doc) (names : List ℕ) (cs : Option (List Word)) → Standing (now (text .entry)) (now (purposes .entry)) (now (roles .entry)) (now (attributes .entry)) (now (users .entry)) (now (conds .entry)) (now (grants .entry)) names (now (sets .entry)) (now (tables .entry)) (now (rows .entry)) c d → inRange (clockOf clock) ≡ true → Reading (now (query .entry)) a h select chosen test cs → Gives (ifParties d (clockOf clock) (asked (now (query .entry)) h cs test)) (now (out .entry)) (now (out .exit)) r) ⌝ }
 {
     let party = unknown_party(
         text,
@@ -424,7 +415,7 @@ fn ask_accepted(
     query: &[u8],
     out: &mut [u8],
 ) -> Answered
-    ensures { λ r. ⌜ ((d : Doc) (names : List ℕ) → Standing (now (text .entry)) (now (purposes .entry)) (now (roles .entry)) (now (attributes .entry)) (now (users .entry)) (now (conds .entry)) (now (grants .entry)) names (now (sets .entry)) (now (tables .entry)) (now (rows .entry)) c d → Gives (ifTimed d (clockOf clock) (now (query .entry)) (length (now (out .entry)))) (now (out .entry)) (now (out .exit)) r) ⌝ }
+    ensures { λ r. ⌜ ((d : Doc) (names : List ℕ) → Standing (now (text .entry)) (now (purposes .entry)) (now (roles .entry)) (now (attributes .entry)) (now (users .entry)) (now (conds .entry)) (now (grants .entry)) names (now (sets .entry)) (now (tables .entry)) (now (rows .entry)) c d → Gives (ifTimed d (clockOf clock) (now (query .entry))) (now (out .entry)) (now (out .exit)) r) ⌝ }
 {
     if !in_range(clock) {
         return Answered::Refused(Refusal {
@@ -487,9 +478,9 @@ fn ask_accepted(
     }
 }
 
-// Asks the document with the query at the clock's time; an answer fills the first bytes of the lent buffer, a refusal leaves it.
-pub fn ask(doc: &[u8], query: &[u8], clock: Clock, out: &mut [u8]) -> Answered
-    ensures { λ r. ⌜ Asks (now (doc .entry)) (now (query .entry)) (clockOf clock) (now (out .entry)) (now (out .exit)) r ⌝ }
+// Asks the document, 18 aside: an answer that is longer than the lent buffer is given in figures only.
+pub(crate) fn ask_unbounded(doc: &[u8], query: &[u8], clock: Clock, out: &mut [u8]) -> Answered
+    ensures { λ r. ⌜ Gives (askUnbounded (now (doc .entry)) (now (query .entry)) (clockOf clock)) (now (out .entry)) (now (out .exit)) r ⌝ }
 {
     let mut purposes = [0usize; PURPOSE_CELLS];
     let mut roles = [0usize; ROLE_CELLS];
@@ -533,4 +524,33 @@ pub fn ask(doc: &[u8], query: &[u8], clock: Clock, out: &mut [u8]) -> Answered
             out,
         ),
     }
+}
+
+// 18 where an answer is longer than the room for it.
+fn within_room(a: Answered, room: usize) -> Answered
+    ensures { λ r. ⌜ answeredAs r ≡ figuresFit room (answeredAs a) ⌝ }
+{
+    match a {
+        Answered::Refused(_) => a,
+        Answered::Given(f) => {
+            if room < f.len {
+                return Answered::Refused(Refusal {
+                    reason: Reason::BufferTooShort,
+                    source: Source::Query,
+                    start: 0,
+                    len: 0,
+                });
+            }
+            a
+        }
+    }
+}
+
+// Asks the document with the query at the clock's time; an answer fills the first bytes of the lent buffer, a refusal leaves it.
+pub fn ask(doc: &[u8], query: &[u8], clock: Clock, out: &mut [u8]) -> Answered
+    ensures { λ r. ⌜ Asks (now (doc .entry)) (now (query .entry)) (clockOf clock) (now (out .entry)) (now (out .exit)) r ⌝ }
+{
+    let room = out.len();
+    let a = ask_unbounded(doc, query, clock, out);
+    within_room(a, room)
 }

@@ -2,6 +2,8 @@
 use crate::asking::Answered;
 use crate::asking::ask;
 use crate::documents::check;
+use crate::measuring::Measured;
+use crate::measuring::measure;
 use checker::documents::Checked;
 use query::clock::Clock;
 use text::refusals::Refusal;
@@ -9,7 +11,7 @@ use text::refusals::Source;
 use text::refusals::number;
 ghost use mathlib.Core.List.{[], _∷_};
 ghost use mathlib.Core.Path.{_≡_};
-ghost use Rattle.gate.specs.Exports.{ExportsAsk, ExportsCheck, Refuses, clockAt, sourceCode};
+ghost use Rattle.gate.specs.Exports.{ExportsAsk, ExportsCheck, ExportsMeasure, Refuses, clockAt, sourceCode};
 ghost use Rattle.text.specs.Reasons.{refusalOf, sourceOf};
 
 // Stores five figures.
@@ -85,6 +87,29 @@ pub extern "C" fn gate_ask(
                 f.withheld as u64,
                 f.unmatched as u64,
             );
+            0
+        }
+    }
+}
+
+// Measures the answer to a query at a time. Gives 0, with the answer's length, or a refusal's number, with the text and the part
+// that the refusal points to; 18 is none of them.
+#[no_mangle]
+pub extern "C" fn gate_measure(
+    doc: &[u8],
+    query: &[u8],
+    year: u64,
+    day: u64,
+    hour: u64,
+    figures: &mut [u64; 5],
+) -> u64
+    ensures { λ n. ⌜ ExportsMeasure (now (doc .entry)) (now (query .entry)) (clockAt year day hour) (now (figures .exit)) n ⌝ }
+{
+    let x = measure(doc, query, Clock { year, day, hour });
+    match x {
+        Measured::Refused(r) => store_refusal(figures, r),
+        Measured::Length(len) => {
+            store_five(figures, len as u64, 0, 0, 0, 0);
             0
         }
     }

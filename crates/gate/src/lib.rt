@@ -1,6 +1,7 @@
-// The gate, as a host sees it: checking a document, asking it, the part that a refusal hands back, and the C exports.
+// The gate, as a host sees it: checking a document, asking it, measuring an answer, the part that a refusal hands back, and the C exports.
 pub mod asking;
 pub mod documents;
 pub mod exports;
+pub mod measuring;
 pub mod parts;
 pub mod two;

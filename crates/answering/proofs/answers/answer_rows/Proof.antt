@@ -7,14 +7,23 @@ use Rattle.answering.specs.Answering.{Writes}
 use Rattle.answering.proofs.answers.answer_rows.Statement.{statement}
 use Rattle.answering.proofs.answers.answer_rows.Tie as tie
 
+unmeasured-requires : tie.Need-unmeasured-requires
+unmeasured-requires c κs = search needs
+
 returns : tie.Need-returns
-returns c = λ d q h. absurd (omega (arith, h .small, c .if1 .taken))
+returns c = λ d q h. absurd (omega (arith, h .small, c .before .if1 .taken))
+
+unmeasured-requires-2 : tie.Need-unmeasured-requires-2
+unmeasured-requires-2 c κs = search needs
 
 returns-2 : tie.Need-returns-2
-returns-2 c = λ d q h. absurd (omega (arith, h .fewChosen, c .if2 .taken))
+returns-2 c = λ d q h. absurd (omega (arith, h .fewChosen, c .before .if2 .taken))
+
+unmeasured-requires-3 : tie.Need-unmeasured-requires-3
+unmeasured-requires-3 c κs = search needs
 
 returns-3 : tie.Need-returns-3
-returns-3 c = λ d q h. absurd (omega (arith, h .rows .few, c .if3 .taken))
+returns-3 c = λ d q h. absurd (omega (arith, h .rows .few, c .before .if3 .taken))
 
 judge-rows-requires : tie.Need-judge-rows-requires
 judge-rows-requires c κs = search needs
@@ -34,8 +43,11 @@ pub answer-rows-spec : {M : Type 1} → statement M
 answer-rows-spec =
     tie.close
     (tie.spec
+    unmeasured-requires
     returns
+    unmeasured-requires-2
     returns-2
+    unmeasured-requires-3
     returns-3
     judge-rows-requires
     put-measured-requires

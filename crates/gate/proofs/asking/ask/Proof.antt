@@ -1,45 +1,20 @@
--- `gate::asking::ask` meets its contract: the document's refusal, or the rest over the arrays that hold it. Assumes nothing.
+-- `gate::asking::ask` meets its contract: the answer of asking without bounds, or 18. Assumes nothing.
 use borrow.Author.Needs.{needs}
-use mathlib.Core.Path.{refl}
-use Rattle.document.proofs.Formed.{formed}
-use Rattle.gate.proofs.Chain.{ask-refused, ask-tails, gives-asks, gives-refused, gives-same}
-use Rattle.gate.proofs.Parties.{standing}
-use Rattle.query.specs.Asked.{clockOf}
+use Rattle.gate.proofs.Chain.{gives-asks}
 use Rattle.gate.proofs.asking.ask.Statement.{statement}
 use Rattle.gate.proofs.asking.ask.Tie as tie
 
-load-requires : tie.Need-load-requires
-load-requires c κs = search needs
+ask-unbounded-requires : tie.Need-ask-unbounded-requires
+ask-unbounded-requires c κs = search needs
 
-enum-known-r : tie.Need-enum-known-r
-enum-known-r c = search needs
-
-enum-known-r-2 : tie.Need-enum-known-r-2
-enum-known-r-2 c = search needs
-
-ask-accepted-requires : tie.Need-ask-accepted-requires
-ask-accepted-requires c κs = search needs
-
-returns : tie.Need-returns
-returns c =
-    gives-asks (gives-refused (ask-refused (c .before .before .before .before .before .before .before .before .before .before .before .before .before .before .before .before .before .args .doc .now) (c .before .before .before .before .before .before .before .before .before .before .before .before .before .before .before .before .before .args .query .now) (clockOf (c .before .before .before .before .before .before .before .before .before .before .before .before .before .before .before .before .before .args .clock)) _ (c .before .before .before .load .ensures .refuses _ (c .before .r .given .1))) refl)
+within-room-requires : tie.Need-within-room-requires
+within-room-requires c κs = search needs
 
 same-length : tie.Need-same-length
 same-length c = search needs
 
-returns-2 : tie.Need-returns-2
-returns-2 c =
-    let held = c .before .before .before .before .before .before .before .before .before .before .before .before .before .before .before .before .load .ensures .accepts _ _ (c .before .before .before .before .before .before .before .before .before .before .before .before .before .before .r2 .given .1) in
-    gives-asks (gives-same (ask-tails (c .before .before .before .before .before .before .before .before .before .before .before .before .before .before .before .before .before .before .before .before .before .before .before .before .before .before .before .before .before .before .args .doc .now) (c .before .before .before .before .before .before .before .before .before .before .before .before .before .before .before .before .before .before .before .before .before .before .before .before .before .before .before .before .before .before .args .query .now) (clockOf (c .before .before .before .before .before .before .before .before .before .before .before .before .before .before .before .before .before .before .before .before .before .before .before .before .before .before .before .before .before .before .args .clock)) _ (held .is)) (c .before .before .ask-accepted .ensures (held .what) _ (standing held (formed _ _ (held .is)))))
+returns : tie.Need-returns
+returns c = gives-asks (c .before .before .before .ask-unbounded .ensures) (c .within-room .ensures)
 
 pub ask-spec : {M : Type 1} → statement M
-ask-spec =
-    tie.close
-    (tie.spec
-    load-requires
-    enum-known-r
-    enum-known-r-2
-    ask-accepted-requires
-    returns
-    same-length
-    returns-2)
+ask-spec = tie.close (tie.spec ask-unbounded-requires within-room-requires same-length returns)

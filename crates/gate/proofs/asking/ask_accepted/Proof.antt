@@ -15,7 +15,7 @@ in-range-requires c κs = search needs
 returns : tie.Need-returns
 unfolding pointingNowhere
 returns c d names standing =
-    gives-refused (timed-refused d (clockOf (c .before .before .before .before .before .args .clock)) (c .before .before .before .before .before .args .query .now) _ (sym (c .before .in-range .ensures) ∙ not-true _ (c .if1 .taken))) refl
+    gives-refused (timed-refused d (clockOf (c .before .before .before .before .before .args .clock)) (c .before .before .before .before .before .args .query .now) (sym (c .before .in-range .ensures) ∙ not-true _ (c .if1 .taken))) refl
 
 read-query-requires : tie.Need-read-query-requires
 read-query-requires c κs = search needs
@@ -38,8 +38,8 @@ ask-form-requires-2 c κs = search needs
 returns-2 : tie.Need-returns-2
 unfolding pointingAll
 returns-2 c d names standing =
-    gives-same (timed-passes d (clockOf (c .before .before .before .before .before .before .before .before .args .clock)) (c .before .before .before .before .before .before .before .before .args .query .now) _ (sym (c .before .before .before .before .in-range .ensures) ∙ not-false _ (c .before .before .before .if1 .left)))
-    (gives-refused (read-refused d (clockOf (c .before .before .before .before .before .before .before .before .args .clock)) (c .before .before .before .before .before .before .before .before .args .query .now) _ (wrong-read (c .before .before .before .before .before .before .before .before .args .query .now) (c .before .before .read-query .ensures) (c .enum-told .given .1))) refl)
+    gives-same (timed-passes d (clockOf (c .before .before .before .before .before .before .before .before .args .clock)) (c .before .before .before .before .before .before .before .before .args .query .now) (sym (c .before .before .before .before .in-range .ensures) ∙ not-false _ (c .before .before .before .if1 .left)))
+    (gives-refused (read-refused d (clockOf (c .before .before .before .before .before .before .before .before .args .clock)) (c .before .before .before .before .before .before .before .before .args .query .now) (wrong-read (c .before .before .before .before .before .before .before .before .args .query .now) (c .before .before .read-query .ensures) (c .enum-told .given .1))) refl)
 
 same-length : tie.Need-same-length
 same-length c = search needs
@@ -48,8 +48,8 @@ returns-3 : tie.Need-returns-3
 returns-3 c d names standing =
     let range = sym (c .before .before .before .before .before .before .before .before .before .in-range .ensures) ∙ not-false _ (c .before .before .before .before .before .before .before .before .if1 .left) in
     let reading = select-read (c .before .before .before .before .before .before .before .before .before .before .before .before .before .args .query .now) (c .before .before .before .before .before .before .before .read-query .ensures) (c .before .before .before .before .before .a .given .1) in
-    gives-same (timed-passes d (clockOf (c .before .before .before .before .before .before .before .before .before .before .before .before .before .args .clock)) (c .before .before .before .before .before .before .before .before .before .before .before .before .before .args .query .now) _ range)
-    (gives-same (read-is d (clockOf (c .before .before .before .before .before .before .before .before .before .before .before .before .before .args .clock)) (c .before .before .before .before .before .before .before .before .before .before .before .before .before .args .query .now) _ (reading .is)) (c .before .before .ask-form .ensures d names _ standing range reading))
+    gives-same (timed-passes d (clockOf (c .before .before .before .before .before .before .before .before .before .before .before .before .before .args .clock)) (c .before .before .before .before .before .before .before .before .before .before .before .before .before .args .query .now) range)
+    (gives-same (read-is d (clockOf (c .before .before .before .before .before .before .before .before .before .before .before .before .before .args .clock)) (c .before .before .before .before .before .before .before .before .before .before .before .before .before .args .query .now) (reading .is)) (c .before .before .ask-form .ensures d names _ standing range reading))
 
 same-length-2 : tie.Need-same-length-2
 same-length-2 c = search needs
@@ -58,8 +58,8 @@ returns-4 : tie.Need-returns-4
 returns-4 c d names standing =
     let range = sym (c .before .before .before .before .before .before .before .before .before .in-range .ensures) ∙ not-false _ (c .before .before .before .before .before .before .before .before .if1 .left) in
     let reading = count-read (c .before .before .before .before .before .before .before .before .before .before .before .before .before .args .query .now) (c .before .before .before .before .before .before .before .read-query .ensures) (c .before .before .before .before .before .a2 .given .1) in
-    gives-same (timed-passes d (clockOf (c .before .before .before .before .before .before .before .before .before .before .before .before .before .args .clock)) (c .before .before .before .before .before .before .before .before .before .before .before .before .before .args .query .now) _ range)
-    (gives-same (read-is d (clockOf (c .before .before .before .before .before .before .before .before .before .before .before .before .before .args .clock)) (c .before .before .before .before .before .before .before .before .before .before .before .before .before .args .query .now) _ (reading .is)) (c .before .before .ask-form2 .ensures d names _ standing range reading))
+    gives-same (timed-passes d (clockOf (c .before .before .before .before .before .before .before .before .before .before .before .before .before .args .clock)) (c .before .before .before .before .before .before .before .before .before .before .before .before .before .args .query .now) range)
+    (gives-same (read-is d (clockOf (c .before .before .before .before .before .before .before .before .before .before .before .before .before .args .clock)) (c .before .before .before .before .before .before .before .before .before .before .before .before .before .args .query .now) (reading .is)) (c .before .before .ask-form2 .ensures d names _ standing range reading))
 
 pub ask-accepted-spec : {M : Type 1} → statement M
 ask-accepted-spec =

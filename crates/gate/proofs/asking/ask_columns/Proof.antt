@@ -43,7 +43,7 @@ returns : tie.Need-returns
 returns c d cs held purpose table reading =
     let words = c .before .before .before .before .before .before .before .named-places .ensures .named (reading .asks) (asked (c .before .before .before .before .before .before .before .before .before .before .before .before .args .query .now) (c .before .before .before .before .before .before .before .before .before .before .before .before .args .h) cs (c .before .before .before .before .before .before .before .before .before .before .before .before .args .test)) (reading .is) in
     let resolved = c .before .before .before .before .resolve-columns .ensures (d .policy) _ (held .tables) (table .inside) (c .before .before .before .before .before .before .before .named-places .ensures .small) in
-    gives-refused (known-refused _ _ _ _ (c .before .before .before .before .before .before .before .before .before .before .before .before .args .query .now) (c .before .before .unknown .given .1) (resolves-unknown table resolved words)) (c .refusal-at .ensures)
+    gives-refused (known-refused _ _ _ (c .before .before .before .before .before .before .before .before .before .before .before .before .args .query .now) (c .before .before .unknown .given .1) (resolves-unknown table resolved words)) (c .refusal-at .ensures)
 
 returns-2 : tie.Need-returns-2
 returns-2 c d cs held purpose table reading =
@@ -52,8 +52,8 @@ returns-2 c d cs held purpose table reading =
     let columns = resolves-known table resolved words (c .before .before .before .before .before .before .before .before .before .before .before .before .before .before .named-places .ensures .small) (c .before .before .before .before .before .before .before .before .before .enum-told .given .1) in
     let tests = c .before .before .before .before .before .before .before .place-tests .ensures (reading .tested) (reading .few) in
     let types = types-judged (c .before .before .before .before .before .before .before .before .before .before .before .before .before .before .before .before .before .before .before .args .h) table (reading .columns) columns tests (c .before .before .before .before .mistyped-comparison .result) (c .before .before .before .before .mistyped-comparison .ensures (d .policy) (c .before .before .before .before .before .before .before .before .before .before .before .before .before .before .before .before .before .before .before .args .text .now) _ (held .tables) (table .inside)) in
-    gives-same (known-passes _ _ _ _ (c .before .before .before .before .before .before .before .before .before .before .before .before .before .before .before .before .before .before .before .args .query .now) (c .before .before .before .before .before .before .before .before .before .enum-told .given .1) (resolves-unknown table resolved words))
-    (gives-refused (typed-refused _ _ _ _ (c .before .before .before .before .before .before .before .before .before .before .before .before .before .before .before .before .before .before .before .args .query .now) (c .before .before .wrong .given .1) types) (c .refusal-at2 .ensures))
+    gives-same (known-passes _ _ _ (c .before .before .before .before .before .before .before .before .before .before .before .before .before .before .before .before .before .before .before .args .query .now) (c .before .before .before .before .before .before .before .before .before .enum-told .given .1) (resolves-unknown table resolved words))
+    (gives-refused (typed-refused _ _ _ (c .before .before .before .before .before .before .before .before .before .before .before .before .before .before .before .before .before .before .before .args .query .now) (c .before .before .wrong .given .1) types) (c .refusal-at2 .ensures))
 
 same-length : tie.Need-same-length
 same-length c = search needs
@@ -65,8 +65,8 @@ returns-3 c d cs held purpose table reading =
     let columns = resolves-known table resolved words (c .before .before .before .before .before .before .before .before .before .before .before .before .before .before .before .before .before .before .before .named-places .ensures .small) (c .before .before .before .before .before .before .before .before .before .before .before .before .before .before .enum-told .given .1) in
     let tests = c .before .before .before .before .before .before .before .before .before .before .before .before .place-tests .ensures (reading .tested) (reading .few) in
     let types = types-judged (c .before .before .before .before .before .before .before .before .before .before .before .before .before .before .before .before .before .before .before .before .before .before .before .before .args .h) table (reading .columns) columns tests (c .before .before .before .before .before .before .before .before .before .mistyped-comparison .result) (c .before .before .before .before .before .before .before .before .before .mistyped-comparison .ensures (d .policy) (c .before .before .before .before .before .before .before .before .before .before .before .before .before .before .before .before .before .before .before .before .before .before .before .before .args .text .now) _ (held .tables) (table .inside)) in
-    gives-same (known-passes _ _ _ _ (c .before .before .before .before .before .before .before .before .before .before .before .before .before .before .before .before .before .before .before .before .before .before .before .before .args .query .now) (c .before .before .before .before .before .before .before .before .before .before .before .before .before .before .enum-told .given .1) (resolves-unknown table resolved words))
-    (gives-same (typed-passes _ _ _ _ (c .before .before .before .before .before .before .before .before .before .before .before .before .before .before .before .before .before .before .before .before .before .before .before .before .args .query .now) (c .before .before .before .before .before .before .before .enum-told2 .given .1) types)
+    gives-same (known-passes _ _ _ (c .before .before .before .before .before .before .before .before .before .before .before .before .before .before .before .before .before .before .before .before .before .before .before .before .args .query .now) (c .before .before .before .before .before .before .before .before .before .before .before .before .before .before .enum-told .given .1) (resolves-unknown table resolved words))
+    (gives-same (typed-passes _ _ _ (c .before .before .before .before .before .before .before .before .before .before .before .before .before .before .before .before .before .before .before .before .before .before .before .before .args .query .now) (c .before .before .before .before .before .before .before .enum-told2 .given .1) types)
     (c .before .before .ask-open .ensures d cs held purpose table (reading .columns) columns tests))
 
 pub ask-columns-spec : {M : Type 1} → statement M

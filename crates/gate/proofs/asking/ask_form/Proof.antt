@@ -38,14 +38,14 @@ ask-user-requires c κs = search needs
 returns : tie.Need-returns
 unfolding asked
 returns c d names cs standing range reading =
-    gives-refused (parties-refused d (clockOf (c .before .before .before .before .before .before .before .before .args .clock)) (asked (c .before .before .before .before .before .before .before .before .args .query .now) (c .before .before .before .before .before .before .before .before .args .h) cs (c .before .before .before .before .before .before .before .before .args .test)) _ (c .before .before .before .before .before .before .before .before .args .query .now) (c .before .before .party .given .1) (c .before .before .before .before .unknown-party .ensures (d .policy) cs _ (standing .indexed .purposes) (standing .indexed .roles) (standing .indexed .users))) (c .refusal-at .ensures)
+    gives-refused (parties-refused d (clockOf (c .before .before .before .before .before .before .before .before .args .clock)) (asked (c .before .before .before .before .before .before .before .before .args .query .now) (c .before .before .before .before .before .before .before .before .args .h) cs (c .before .before .before .before .before .before .before .before .args .test)) (c .before .before .before .before .before .before .before .before .args .query .now) (c .before .before .party .given .1) (c .before .before .before .before .unknown-party .ensures (d .policy) cs _ (standing .indexed .purposes) (standing .indexed .roles) (standing .indexed .users))) (c .refusal-at .ensures)
 
 returns-2 : tie.Need-returns-2
 unfolding asked queryWith refusedAt
 returns-2 c d names cs standing range reading =
     let parties = no-word (c .before .before .before .before .before .before .before .before .before .before .args .query .now) (c .before .before .before .before .enum-told .given .1) (c .before .before .before .before .before .before .unknown-party .ensures (d .policy) cs _ (standing .indexed .purposes) (standing .indexed .roles) (standing .indexed .users)) in
-    gives-same (parties-pass d (clockOf (c .before .before .before .before .before .before .before .before .before .before .args .clock)) (asked (c .before .before .before .before .before .before .before .before .before .before .args .query .now) (c .before .before .before .before .before .before .before .before .before .before .args .h) cs (c .before .before .before .before .before .before .before .before .before .before .args .test)) _ parties)
-    (gives-refused (acting-refused d (clockOf (c .before .before .before .before .before .before .before .before .before .before .args .clock)) (asked (c .before .before .before .before .before .before .before .before .before .before .args .query .now) (c .before .before .before .before .before .before .before .before .before .before .args .h) cs (c .before .before .before .before .before .before .before .before .before .before .args .test)) _ (nothing-found (c .before .enum-told2 .given .1) (c .before .before .before .acting-user .ensures .0 (d .policy) (standing .indexed .roles) (standing .indexed .users)))) (c .refusal-at2 .ensures))
+    gives-same (parties-pass d (clockOf (c .before .before .before .before .before .before .before .before .before .before .args .clock)) (asked (c .before .before .before .before .before .before .before .before .before .before .args .query .now) (c .before .before .before .before .before .before .before .before .before .before .args .h) cs (c .before .before .before .before .before .before .before .before .before .before .args .test)) parties)
+    (gives-refused (acting-refused d (clockOf (c .before .before .before .before .before .before .before .before .before .before .args .clock)) (asked (c .before .before .before .before .before .before .before .before .before .before .args .query .now) (c .before .before .before .before .before .before .before .before .before .before .args .h) cs (c .before .before .before .before .before .before .before .before .before .before .args .test)) (nothing-found (c .before .enum-told2 .given .1) (c .before .before .before .acting-user .ensures .0 (d .policy) (standing .indexed .roles) (standing .indexed .users)))) (c .refusal-at2 .ensures))
 
 same-length : tie.Need-same-length
 same-length c = search needs
@@ -54,8 +54,8 @@ returns-3 : tie.Need-returns-3
 unfolding asked queryWith
 returns-3 c d names cs standing range reading =
     let parties = no-word (c .before .before .before .before .before .before .before .before .before .before .before .before .before .before .args .query .now) (c .before .before .before .before .before .before .before .before .enum-told .given .1) (c .before .before .before .before .before .before .before .before .before .before .unknown-party .ensures (d .policy) cs _ (standing .indexed .purposes) (standing .indexed .roles) (standing .indexed .users)) in
-    gives-same (parties-pass d (clockOf (c .before .before .before .before .before .before .before .before .before .before .before .before .before .before .args .clock)) (asked (c .before .before .before .before .before .before .before .before .before .before .before .before .before .before .args .query .now) (c .before .before .before .before .before .before .before .before .before .before .before .before .before .before .args .h) cs (c .before .before .before .before .before .before .before .before .before .before .before .before .before .before .args .test)) _ parties)
-    (gives-same (acting-is d (clockOf (c .before .before .before .before .before .before .before .before .before .before .before .before .before .before .args .clock)) (asked (c .before .before .before .before .before .before .before .before .before .before .before .before .before .before .args .query .now) (c .before .before .before .before .before .before .before .before .before .before .before .before .before .before .args .h) cs (c .before .before .before .before .before .before .before .before .before .before .before .before .before .before .args .test)) _ (number-found (c .before .before .before .before .before .user .given .1) (c .before .before .before .before .before .before .before .acting-user .ensures .0 (d .policy) (standing .indexed .roles) (standing .indexed .users))))
+    gives-same (parties-pass d (clockOf (c .before .before .before .before .before .before .before .before .before .before .before .before .before .before .args .clock)) (asked (c .before .before .before .before .before .before .before .before .before .before .before .before .before .before .args .query .now) (c .before .before .before .before .before .before .before .before .before .before .before .before .before .before .args .h) cs (c .before .before .before .before .before .before .before .before .before .before .before .before .before .before .args .test)) parties)
+    (gives-same (acting-is d (clockOf (c .before .before .before .before .before .before .before .before .before .before .before .before .before .before .args .clock)) (asked (c .before .before .before .before .before .before .before .before .before .before .before .before .before .before .args .query .now) (c .before .before .before .before .before .before .before .before .before .before .before .before .before .before .args .h) cs (c .before .before .before .before .before .before .before .before .before .before .before .before .before .before .args .test)) (number-found (c .before .before .before .before .before .user .given .1) (c .before .before .before .before .before .before .before .acting-user .ensures .0 (d .policy) (standing .indexed .roles) (standing .indexed .users))))
     (c .before .before .ask-user .ensures d names cs standing range reading (party-purpose (d .policy) (asked (c .before .before .before .before .before .before .before .before .before .before .before .before .before .before .args .query .now) (c .before .before .before .before .before .before .before .before .before .before .before .before .before .before .args .h) cs (c .before .before .before .before .before .before .before .before .before .before .before .before .before .before .args .test)) parties) (found-below (c .before .before .before .before .before .user .given .1) (c .before .before .before .before .before .before .before .acting-user .ensures .1))))
 
 pub ask-form-spec : {M : Type 1} → statement M

@@ -1,12 +1,10 @@
--- `gate::asking::ask_open` meets its contract: 17, or the answer to the prepared query, or 18. Assumes nothing.
+-- `gate::asking::ask_open` meets its contract: 17, or the answer to the prepared query. Assumes nothing.
 use borrow.Author.Needs.{needs}
-use mathlib.Core.Path.{refl}
-use Rattle.gate.proofs.Chain.{gives-refused, gives-same, open-passes, open-refused, written-answer, written-long}
+use Rattle.gate.proofs.Chain.{gives-refused, gives-same, gives-written, open-passes, open-refused}
 use Rattle.gate.proofs.Preparing.{parts-judged, prepared}
 use Rattle.gate.specs.Stages.{asked}
 use Rattle.gate.specs.Tails.{answerUnder}
 use Rattle.query.specs.Query.{resolved}
-use Rattle.text.specs.Refusal.{pointingNowhere}
 use Rattle.gate.proofs.asking.ask_open.Statement.{statement}
 use Rattle.gate.proofs.asking.ask_open.Tie as tie
 
@@ -28,39 +26,22 @@ enum-told c = search needs
 answer-rows-requires : tie.Need-answer-rows-requires
 answer-rows-requires c κs = search needs
 
-enum-told-2 : tie.Need-enum-told-2
-enum-told-2 c = search needs
-
-enum-known-x : tie.Need-enum-known-x
-enum-known-x c = search needs
-
 returns : tie.Need-returns
 returns c d cs held purpose table choice columns tests =
     let opened = c .before .before .before .before .before .before .open-labels .ensures _ (held .names) (d .policy) _ (held .labels) (purpose .is) in
     let closed = parts-judged (c .before .before .before .before .before .before .before .before .before .before .before .args .h) cs (c .before .before .before .before .before .before .before .before .before .before .before .args .test) table columns (c .before .before .before .before .closed-part .result) opened (c .before .before .before .before .closed-part .ensures (d .policy) (c .before .before .before .before .before .before .before .before .before .before .before .args .text .now) _ _ (held .tables) (table .inside)) in
-    gives-refused (open-refused _ _ _ _ (c .before .before .before .before .before .before .before .before .before .before .before .args .query .now) (c .before .before .closed .given .1) closed) (c .refusal-at .ensures)
+    gives-refused (open-refused _ _ _ (c .before .before .before .before .before .before .before .before .before .before .before .args .query .now) (c .before .before .closed .given .1) closed) (c .refusal-at .ensures)
 
 same-length : tie.Need-same-length
 same-length c = search needs
 
 returns-2 : tie.Need-returns-2
-unfolding answerUnder pointingNowhere
-returns-2 c d cs held purpose table choice columns tests =
-    let opened = c .before .before .before .before .before .before .before .before .before .before .before .open-labels .ensures _ (held .names) (d .policy) _ (held .labels) (purpose .is) in
-    let closed = parts-judged (c .before .before .before .before .before .before .before .before .before .before .before .before .before .before .before .before .args .h) cs (c .before .before .before .before .before .before .before .before .before .before .before .before .before .before .before .before .args .test) table columns (c .before .before .before .before .before .before .before .before .before .closed-part .result) opened (c .before .before .before .before .before .before .before .before .before .closed-part .ensures (d .policy) (c .before .before .before .before .before .before .before .before .before .before .before .before .before .before .before .before .args .text .now) _ _ (held .tables) (table .inside)) in
-    gives-same (open-passes _ _ _ _ (c .before .before .before .before .before .before .before .before .before .before .before .before .before .before .before .before .args .query .now) (c .before .before .before .before .before .before .before .enum-told .given .1) closed)
-    (written-long _ (c .before .before .before .before .before .before .before .before .before .before .before .before .before .before .before .before .args .grant) (c .before .before .before .before .answer-rows .ensures d (resolved (d .policy) (asked (c .before .before .before .before .before .before .before .before .before .before .before .before .before .before .before .before .args .query .now) (c .before .before .before .before .before .before .before .before .before .before .before .before .before .before .before .before .args .h) cs (c .before .before .before .before .before .before .before .before .before .before .before .before .before .before .before .before .args .test))) (prepared (c .before .before .before .before .before .before .before .before .before .before .before .before .before .before .before .before .args .h) held table choice columns tests opened)) (c .enum-told2 .given .1) refl)
-
-same-length-2 : tie.Need-same-length-2
-same-length-2 c = search needs
-
-returns-3 : tie.Need-returns-3
 unfolding answerUnder
-returns-3 c d cs held purpose table choice columns tests =
-    let opened = c .before .before .before .before .before .before .before .before .before .before .before .before .open-labels .ensures _ (held .names) (d .policy) _ (held .labels) (purpose .is) in
-    let closed = parts-judged (c .before .before .before .before .before .before .before .before .before .before .before .before .before .before .before .before .before .args .h) cs (c .before .before .before .before .before .before .before .before .before .before .before .before .before .before .before .before .before .args .test) table columns (c .before .before .before .before .before .before .before .before .before .before .closed-part .result) opened (c .before .before .before .before .before .before .before .before .before .before .closed-part .ensures (d .policy) (c .before .before .before .before .before .before .before .before .before .before .before .before .before .before .before .before .before .args .text .now) _ _ (held .tables) (table .inside)) in
-    gives-same (open-passes _ _ _ _ (c .before .before .before .before .before .before .before .before .before .before .before .before .before .before .before .before .before .args .query .now) (c .before .before .before .before .before .before .before .before .enum-told .given .1) closed)
-    (written-answer _ (c .before .before .before .before .before .before .before .before .before .before .before .before .before .before .before .before .before .args .grant) (c .before .before .before .before .before .answer-rows .ensures d (resolved (d .policy) (asked (c .before .before .before .before .before .before .before .before .before .before .before .before .before .before .before .before .before .args .query .now) (c .before .before .before .before .before .before .before .before .before .before .before .before .before .before .before .before .before .args .h) cs (c .before .before .before .before .before .before .before .before .before .before .before .before .before .before .before .before .before .args .test))) (prepared (c .before .before .before .before .before .before .before .before .before .before .before .before .before .before .before .before .before .args .h) held table choice columns tests opened)) (c .before .x .given .1))
+returns-2 c d cs held purpose table choice columns tests =
+    let opened = c .before .before .before .before .before .before .before .before .before .open-labels .ensures _ (held .names) (d .policy) _ (held .labels) (purpose .is) in
+    let closed = parts-judged (c .before .before .before .before .before .before .before .before .before .before .before .before .before .before .args .h) cs (c .before .before .before .before .before .before .before .before .before .before .before .before .before .before .args .test) table columns (c .before .before .before .before .before .before .before .closed-part .result) opened (c .before .before .before .before .before .before .before .closed-part .ensures (d .policy) (c .before .before .before .before .before .before .before .before .before .before .before .before .before .before .args .text .now) _ _ (held .tables) (table .inside)) in
+    gives-same (open-passes _ _ _ (c .before .before .before .before .before .before .before .before .before .before .before .before .before .before .args .query .now) (c .before .before .before .before .before .enum-told .given .1) closed)
+    (gives-written _ (c .before .before .before .before .before .before .before .before .before .before .before .before .before .before .args .grant) (c .before .before .answer-rows .ensures d (resolved (d .policy) (asked (c .before .before .before .before .before .before .before .before .before .before .before .before .before .before .args .query .now) (c .before .before .before .before .before .before .before .before .before .before .before .before .before .before .args .h) cs (c .before .before .before .before .before .before .before .before .before .before .before .before .before .before .args .test))) (prepared (c .before .before .before .before .before .before .before .before .before .before .before .before .before .before .args .h) held table choice columns tests opened)))
 
 pub ask-open-spec : {M : Type 1} → statement M
 ask-open-spec =
@@ -72,10 +53,6 @@ ask-open-spec =
     refusal-at-requires
     enum-told
     answer-rows-requires
-    enum-told-2
-    enum-known-x
     returns
     same-length
-    returns-2
-    same-length-2
-    returns-3)
+    returns-2)

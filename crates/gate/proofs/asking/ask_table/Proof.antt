@@ -26,7 +26,7 @@ ask-columns-requires c κs = search needs
 returns : tie.Need-returns
 unfolding asked queryWith tableOf
 returns c d cs held purpose reading =
-    gives-refused (table-refused _ _ _ _ (c .before .before .before .before .before .before .before .args .query .now) (c .before .before .before .before .before .before .before .args .h .table) (table-unknown (d .policy) (asked (c .before .before .before .before .before .before .before .args .query .now) (c .before .before .before .before .before .before .before .args .h) cs (c .before .before .before .before .before .before .before .args .test)) (nothing-found (c .before .enum-told .given .1) (c .before .before .before .find-table .ensures .0 (d .policy .tables) (held .tables))))) (c .refusal-at .ensures)
+    gives-refused (table-refused _ _ _ (c .before .before .before .before .before .before .before .args .query .now) (c .before .before .before .before .before .before .before .args .h .table) (table-unknown (d .policy) (asked (c .before .before .before .before .before .before .before .args .query .now) (c .before .before .before .before .before .before .before .args .h) cs (c .before .before .before .before .before .before .before .args .test)) (nothing-found (c .before .enum-told .given .1) (c .before .before .before .find-table .ensures .0 (d .policy .tables) (held .tables))))) (c .refusal-at .ensures)
 
 same-length : tie.Need-same-length
 same-length c = search needs

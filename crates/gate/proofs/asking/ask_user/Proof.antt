@@ -54,7 +54,7 @@ returns-2 c d names cs standing range reading there acts =
     let grant =
     c .before .before .before .authorising-grant .ensures (d .policy) _ _ (standing .formed) (standing .indexed .roles) (standing .indexed .attributes) (standing .indexed .users) acts (standing .indexed .conds) (standing .indexed .grants) closure inside range
     ∙ ap (firstGrant (d .policy) (clockOf (c .before .before .before .before .before .before .before .before .before .before .before .before .args .clock)) (c .before .before .before .before .before .before .before .before .before .before .before .before .args .u)) (purpose-number found) in
-    gives-refused (granted-refused d (clockOf (c .before .before .before .before .before .before .before .before .before .before .before .before .args .clock)) (asked (c .before .before .before .before .before .before .before .before .before .before .before .before .args .query .now) (c .before .before .before .before .before .before .before .before .before .before .before .before .args .h) cs (c .before .before .before .before .before .before .before .before .before .before .before .before .args .test)) _ (c .before .before .before .before .before .before .before .before .before .before .before .before .args .u) (nothing-found (c .before .enum-told2 .given .1) grant)) (c .refusal-at2 .ensures)
+    gives-refused (granted-refused d (clockOf (c .before .before .before .before .before .before .before .before .before .before .before .before .args .clock)) (asked (c .before .before .before .before .before .before .before .before .before .before .before .before .args .query .now) (c .before .before .before .before .before .before .before .before .before .before .before .before .args .h) cs (c .before .before .before .before .before .before .before .before .before .before .before .before .args .test)) (c .before .before .before .before .before .before .before .before .before .before .before .before .args .u) (nothing-found (c .before .enum-told2 .given .1) grant)) (c .refusal-at2 .ensures)
 
 same-length : tie.Need-same-length
 same-length c = search needs
@@ -68,7 +68,7 @@ returns-3 c d names cs standing range reading there acts =
     let grant =
     c .before .before .before .before .before .before .before .authorising-grant .ensures (d .policy) _ _ (standing .formed) (standing .indexed .roles) (standing .indexed .attributes) (standing .indexed .users) acts (standing .indexed .conds) (standing .indexed .grants) closure inside range
     ∙ ap (firstGrant (d .policy) (clockOf (c .before .before .before .before .before .before .before .before .before .before .before .before .before .before .before .before .args .clock)) (c .before .before .before .before .before .before .before .before .before .before .before .before .before .before .before .before .args .u)) (purpose-number found) in
-    gives-same (granted-is d (clockOf (c .before .before .before .before .before .before .before .before .before .before .before .before .before .before .before .before .args .clock)) (asked (c .before .before .before .before .before .before .before .before .before .before .before .before .before .before .before .before .args .query .now) (c .before .before .before .before .before .before .before .before .before .before .before .before .before .before .before .before .args .h) cs (c .before .before .before .before .before .before .before .before .before .before .before .before .before .before .before .before .args .test)) _ (c .before .before .before .before .before .before .before .before .before .before .before .before .before .before .before .before .args .u) (number-found (c .before .before .before .before .before .grant .given .1) grant))
+    gives-same (granted-is d (clockOf (c .before .before .before .before .before .before .before .before .before .before .before .before .before .before .before .before .args .clock)) (asked (c .before .before .before .before .before .before .before .before .before .before .before .before .before .before .before .before .args .query .now) (c .before .before .before .before .before .before .before .before .before .before .before .before .before .before .before .before .args .h) cs (c .before .before .before .before .before .before .before .before .before .before .before .before .before .before .before .before .args .test)) (c .before .before .before .before .before .before .before .before .before .before .before .before .before .before .before .before .args .u) (number-found (c .before .before .before .before .before .grant .given .1) grant))
     (c .before .before .ask-table .ensures d cs (tables-held standing) (for-purpose (d .policy) (asked (c .before .before .before .before .before .before .before .before .before .before .before .before .before .before .before .before .args .query .now) (c .before .before .before .before .before .before .before .before .before .before .before .before .before .before .before .before .args .h) cs (c .before .before .before .before .before .before .before .before .before .before .before .before .before .before .before .before .args .test)) found closure) reading)
 
 pub ask-user-spec : {M : Type 1} → statement M
