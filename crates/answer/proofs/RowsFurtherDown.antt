@@ -14,7 +14,7 @@ use Rattle.answer.proofs.FurtherDown.{further-down, passedRows, rows-pr
 use Rattle.answer.proofs.SelectReading.{IsSelect, is-select, other, other-query}
 use Rattle.answer.specs.Answer.{answerTo, counted, endLine, matches, rowLines}
 use Rattle.answer.specs.Ask.{Answered, ask}
-use Rattle.answer.specs.Further.{Contains, Prints, selectText}
+use Rattle.answer.specs.Further.{Contains, GivenFurtherDown, Prints, SelectsBelow, selectText}
 use Rattle.answer.specs.Seen.{Seen, seenRows}
 use Rattle.answer.specs.Session.{answers}
 use Rattle.lists.specs.Lists.{known}
@@ -90,16 +90,16 @@ answer-prints d c q a ws e x =
     wanted : resolved (d .policy) q .wanted ≡ select (map (columnNumber (columnsOf (d .policy) (q .table))) ws)
     wanted = unfold resolved wantedOf in ap (wantedOf (columnsOf (d .policy) (q .table))) e
 
--- For every accepted document: if a select for P is answered, the same select for Q below P is answered too, under the
+-- if a select for P is answered, the same select for Q below P is answered too, under the
 -- same clock, with a buffer as long as its answer needs and a text within 4,096 bytes.
-pub rows-further-down : (doc : List ℕ) (A : Accepted) → check doc ≡ accepted A
+further-answered : (doc : List ℕ) (A : Accepted) → check doc ≡ accepted A
     → (u r p p′ : Name) (rest : List ℕ) → isName u ≡ true → isName r ≡ true → isName p ≡ true → isName p′ ≡ true
     → (n n′ : ℕ) → purposeOf (A .doc .policy) (plainWord p) ≡ some n → purposeOf (A .doc .policy) (plainWord p′) ≡ some n′ → descends (treeOf (A .doc .policy .purposes)) n′ n ≡ true
     → (c : Clock) (room : ℕ) (a : Answered) → ask doc (selectText u r p rest) c room ≡ accepted a
     → length (selectText u r p′ rest) ≤ 4096
     → (s : Answered) × ((room′ : ℕ) → length (s .answer .bytes) ≤ room′ → ask doc (selectText u r p′ rest) c room′ ≡ accepted s) × Contains (a .answer) (s .answer)
 unfolding purposeOf isCalled plainWord other known IsSelect forPurpose placelessQuery resolved
-rows-further-down doc A is-A u r p p′ rest is-u is-r is-p is-p′ n n′ known-p known-p′ below c room a h short =
+further-answered doc A is-A u r p p′ rest is-u is-r is-p is-p′ n n′ known-p known-p′ below c room a h short =
     let d : Doc = A .doc in
     let x = ask-answered doc _ c room a h in
     let same-A : x .checked ≡ A = accepted-same (sym (x .accepts) ∙ is-A) in
@@ -125,3 +125,12 @@ rows-further-down doc A is-A u r p p′ rest is-u is-r is-p is-p′ n n′ known
         fewer = z .3;
       },
     )
+
+-- For every accepted document: if a select for P is answered, the same select for Q below P is answered too, under the same
+-- clock, with a buffer as long as its answer needs and a text within 4,096 bytes. Its rows contain P's rows in the same order,
+-- and its withheld count is no larger.
+pub rows-further-down : (doc text lower : List ℕ) → SelectsBelow doc text lower → (c : Clock) (room : ℕ) (a : Answered) → ask doc text c room ≡ accepted a → GivenFurtherDown doc lower c a
+rows-further-down doc text lower s c room a h =
+    let x = further-answered doc (s .checked) (s .accepts) (s .user) (s .role) (s .P) (s .Q) (s .rest) (s .isUser) (s .isRole) (s .isP) (s .isQ) (s .numberP) (s .numberQ) (s .knownP) (s .knownQ) (s .below) c room a
+    (ap (λ t. ask doc t c room) (sym (s .is)) ∙ h) (subst (λ t. length t ≤ 4096) (s .isLower) (s .short)) in
+    record { given = x .0; answers = λ room′ fits. ap (λ t. ask doc t c room′) (s .isLower) ∙ x .1 room′ fits; contains = x .2 }

@@ -65,7 +65,7 @@ unfolding codeOf inFigures
 code-figures (refused r) = refl
 code-figures (accepted a) = refl
 
-figures-accepted : (o : Outcome) (x : Figures) → inFigures o ≡ accepted x → (a : meant.Answered) × (o ≡ accepted a)
+pub figures-accepted : (o : Outcome) (x : Figures) → inFigures o ≡ accepted x → (a : meant.Answered) × (o ≡ accepted a)
 unfolding inFigures
 figures-accepted (refused r) x e = not-refused e
 figures-accepted (accepted a) x e = (a, refl)

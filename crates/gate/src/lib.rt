@@ -1,5 +1,6 @@
 // The gate, as a host sees it: checking a document, asking it, measuring an answer, the part that a refusal hands back, and the C exports.
 pub mod asking;
+pub mod below;
 pub mod documents;
 pub mod exports;
 pub mod measuring;
