@@ -1,10 +1,11 @@
 -- The tree of purposes as it is built, and that what stands as the first one's parent makes no difference. Assumes nothing.
-use Prim.Native.Nat.{_+_, _<_, _≤_, suc, zero, ℕ}
-use borrow.Author.Tests.{le-ltb, lt-ltb, ltb-false, ltb-true}
+use Prim.Native.Nat.{_*_, _+_, _-_, _<_, _≤_, suc, zero, ℕ}
+use borrow.Author.Tests.{le-ltb, ltb-false, ltb-true}
 use lib.Dec.{eqb, ltb}
-use lib.ListN.{List·getD-eq-default, getD, length}
+use lib.ListN.{List·getD-eq-default, drop, getD, length, length-drop, length-take, take}
+use lib.Seq.{ext-getD, getD-drop, getD-take, length-take-le}
 use mathlib.Core.Bool.{_&&_, _||_}
-use mathlib.Core.List.{List, [], _++_, _∷_}
+use mathlib.Core.List.{List, [], _∷_}
 use mathlib.Core.Logic.{⊎-elim}
 use mathlib.Core.Path.{_∙_, _≡_, ap, refl, subst, sym}
 use native.Mathlib.Nat.{eq-zero-or-pos}
@@ -12,17 +13,16 @@ use native.Mathlib.Omega.{arith}
 use Rattle.authority.specs.Purposes.{parentIn}
 use Rattle.document.specs.Policy.{Node}
 use Rattle.document.specs.Policy as policy
-use Rattle.index.proofs.ListedLaws.{length-listed, listed-getD, listed-more}
+use Rattle.index.proofs.ListedLaws.{length-listed, listed-getD}
 use Rattle.index.proofs.NodeLaws.{tree-length, tree-parent}
 use Rattle.index.specs.Index.{Nodes}
 use Rattle.index.specs.Listed.{listed}
-use Rattle.lists.proofs.Tests.{and-both, decide}
-use Rattle.purpose.specs.Compliance.{Grown, climbs, descends, inTree, parent}
-use Rattle.purpose.specs.Meaning.{ClosureOf, Grows, treeOf}
+use Rattle.lists.proofs.Tests.{decide}
+use Rattle.purpose.specs.Compliance.{Grown, climbs, descends, parent}
+use Rattle.purpose.proofs.Growing.{treeFrom-all}
+use Rattle.purpose.specs.Meaning.{ClosureOf, treeFrom}
 use Rattle.purpose.specs.Members.{limit}
 use Rattle.purpose.specs.declared.Closure.{Closure}
-use Rattle.purpose.specs.declared.Growth.{Growth}
-use Rattle.purpose.specs.declared.Tree.{Tree}
 
 -- ---- two trees that differ at most in the first one's parent
 
@@ -50,7 +50,11 @@ module _ (t s : List ℕ) (same : (p : ℕ) → 0 < p → parent t p ≡ parent 
 
 -- ---- the tree in the array
 
--- but for the first, the parent stands in its cell
+-- the first has none, and the parent of another stands in its cell
+parent-first : (ws : List ℕ) → parentIn ws 0 ≡ 0
+unfolding parentIn
+parent-first ws = refl
+
 parent-later : (ws : List ℕ) (i : ℕ) → 0 < i → parentIn ws i ≡ getD ws (limit + i) 0
 unfolding parentIn
 parent-later ws zero l = absurd (omega (arith, l))
@@ -74,28 +78,35 @@ module _ {text ws : List ℕ} {k : ℕ} {ns : List Node} (n : Nodes limit text w
       closure-same (listed (parentIn ws) k) (policy.treeOf ns) parent-same (length-listed (parentIn ws) k ∙ sym (tree-length n)) p c
       (subst (λ s. ClosureOf s p c) e h)
 
-  -- one purpose more
-  module _ (g : Grown (policy.treeOf ns)) (i : ℕ) (pos : 0 < i) (l : i < k) where
-    below : parentIn ws i < i
-    below = subst (λ q. q < i) (tree-parent n i l ∙ sym (parent-later ws i pos)) (g i pos (subst (λ m. i < m) (sym (tree-length n)) l))
+  -- every parent is smaller than its child there too
+  grown-listed : Grown (policy.treeOf ns) → Grown (listed (parentIn ws) k)
+  grown-listed g p pos l =
+      subst (λ q. q < p) (sym (parent-same p pos))
+      (g p pos (subst (λ m. p < m) (length-listed (parentIn ws) k ∙ sym (tree-length n)) l))
 
-    pub next-purpose : (q : ℕ) → (i < limit → q ≡ getD ws (limit + i) 0) → (t : Tree) (r : Growth) → treeOf t ≡ listed (parentIn ws) i
-        → Grows (ltb (length (treeOf t)) limit && inTree (treeOf t) q) q t r → treeOf (r .tree) ≡ listed (parentIn ws) (i + 1)
-    next-purpose q of t r e h =
-        let small : i < limit = omega (arith, l, n .few) in
-        let is : q ≡ parentIn ws i = of small ∙ sym (parent-later ws i pos) in
-        let long : length (treeOf t) ≡ i = ap length e ∙ length-listed (parentIn ws) i in
-        let fits : length (treeOf t) < limit = subst (λ m. m < limit) (sym long) small in
-        let smaller : q < length (treeOf t) = omega (arith, is, long, below) in
-        h .grown (and-both (ltb (length (treeOf t)) limit) (inTree (treeOf t) q) (lt-ltb (length (treeOf t)) limit fits) (lt-ltb q (length (treeOf t)) smaller))
-        ∙ (λ j. e j ++ (is j ∷ []))
-        ∙ sym (listed-more (parentIn ws) i)
+-- parents that are those of the array, but for the first, grow to the listed tree
+module _ (ws : List ℕ) (k : ℕ) (few : k ≤ limit) (g : Grown (listed (parentIn ws) k)) where
+  rooted : (ps : List ℕ) → length ps ≡ k → ((i : ℕ) → i < k → getD ps i 0 ≡ getD ws (limit + i) 0) → treeFrom ps ≡ listed (parentIn ws) k
+  unfolding listed treeFrom
+  rooted [] e here = subst (λ (m : ℕ). [] ≡ listed (parentIn ws) m) e refl
+  rooted (q ∷ ps) e here =
+      treeFrom-all q ps (subst (λ (m : ℕ). m ≤ limit) (sym e) few) (subst (λ (t : List ℕ). Grown t) (sym same) g) ∙ same
+    where
+      entry : (i : ℕ) → i < length (0 ∷ ps) → getD (0 ∷ ps) i 0 ≡ getD (listed (parentIn ws) k) i 0
+      entry zero l = sym (listed-getD (parentIn ws) k 0 0 (subst (λ m. 0 < m) e l) ∙ parent-first ws)
+      entry (suc i) l =
+          let inside : suc i < k = subst (λ m. suc i < m) e l in
+          here (suc i) inside ∙ sym (listed-getD (parentIn ws) k (suc i) 0 inside ∙ parent-later ws (suc i) (omega arith))
 
--- no purpose, and the first
-pub no-purpose : (ws : List ℕ) (k : ℕ) → k ≡ 0 → [] ≡ listed (parentIn ws) k
-unfolding listed
-no-purpose ws k e = rw e
+      same : 0 ∷ ps ≡ listed (parentIn ws) k
+      same = ext-getD 0 (0 ∷ ps) (listed (parentIn ws) k) (e ∙ sym (length-listed (parentIn ws) k)) entry
 
-pub first-purpose : (ws : List ℕ) (t : Tree) (r : Growth) → treeOf t ≡ [] → Grows (eqb (length (treeOf t)) 0) 0 t r → treeOf (r .tree) ≡ listed (parentIn ws) 1
-unfolding listed parentIn
-first-purpose ws t r e h = h .grown (ap (λ l. eqb (length l) 0) e) ∙ ap (λ l. l ++ (0 ∷ [])) e
+-- what grows from the array's second half is the tree of the purposes
+pub tree-grown : {text ws : List ℕ} {k : ℕ} {ns : List Node} → Nodes limit text ws k ns → Grown (policy.treeOf ns) → length ws ≡ 2 * limit
+    → treeFrom (take k (take (length ws - limit) (drop limit ws))) ≡ listed (parentIn ws) k
+tree-grown {text} {ws} {k} {ns} n g full =
+    let behind = drop limit ws in
+    let long : length (take (length ws - limit) (drop limit ws)) ≡ limit = length-take (length ws - limit) (drop limit ws) ∙ omega (arith, length-drop limit ws, full) in
+    rooted ws k (n .few) (grown-listed n g) (take k (take (length ws - limit) behind))
+    (length-take-le k (take (length ws - limit) behind) (omega (arith, long, n .few)))
+    (λ i l. getD-take k (take (length ws - limit) behind) i 0 l ∙ getD-take (length ws - limit) behind i 0 (omega (arith, l, full, n .few)) ∙ getD-drop limit ws i 0)

@@ -2,13 +2,13 @@
 ghost use mathlib.Core.Path.{_≡_};
 ghost use mathlib.Core.Bool.{_&&_, _||_};
 ghost use mathlib.Core.List.{[]};
-ghost use Prim.Native.Nat.{ℕ, _≤_, _<_};
-ghost use lib.ListN.{length, getD};
+ghost use Prim.Native.Nat.{ℕ, _≤_, _<_, min};
+ghost use lib.ListN.{length, getD, take};
 ghost use lib.Dec.{eqb, ltb};
 ghost use Rattle.lists.specs.Lists.{member};
 ghost use Rattle.purpose.specs.Compliance.{meet, Same, descends, related, inTree, opens};
 ghost use Rattle.purpose.specs.Members.{limit, members, including};
-ghost use Rattle.purpose.specs.Meaning.{treeOf, marksOf, Grows, ClosureOf, admitted, isAbove};
+ghost use Rattle.purpose.specs.Meaning.{treeOf, treeFrom, marksOf, Grows, ClosureOf, admitted, isAbove};
 
 // How many words of 64 bits hold a set of purposes, and the most purposes that a tree has.
 pub const WORDS: usize = 1;
@@ -93,6 +93,39 @@ pub fn add_child(t: Tree, parent: usize) -> Growth
     Growth { ok: false, tree: t }
 }
 
+fn smaller(a: usize, b: usize) -> usize
+    ensures { λ r. ⌜ r ≡ min a b ⌝ }
+{
+    if a < b { a } else { b }
+}
+
+// The tree that `add_root` and then `add_child` for each further parent give, without a copy for each: what is refused is left out.
+pub fn tree_of(parents: &[usize], count: usize) -> Tree
+    ensures { λ r. ⌜ treeOf r ≡ treeFrom (take count (now (parents .entry))) ⌝ }
+{
+    let m = smaller(count, parents.len());
+    if m == 0 {
+        return no_purposes();
+    }
+    let mut ps = [0u8; LIMIT];
+    let mut n: usize = 1;
+    let mut i: usize = 1;
+    while i < m {
+        let q = parents[i];
+        if n < LIMIT {
+            if q < n {
+                ps[n] = q as u8;
+                n += 1;
+            }
+        }
+        i += 1;
+    }
+    Tree {
+        parents: ps,
+        count: n,
+    }
+}
+
 // The empty set.
 pub fn no_members() -> [u64; WORDS]
     ensures { λ r. ⌜ Same (members r) [] ⌝ }
@@ -174,9 +207,9 @@ fn upward(t: Tree) -> [[u64; WORDS]; LIMIT]
 }
 
 // The ancestors of p with those of the first n purposes that have p among their ancestors.
-fn relatives(up: [[u64; WORDS]; LIMIT], n: usize, p: usize) -> [u64; WORDS]
+fn relatives(up: &[[u64; WORDS]; LIMIT], n: usize, p: usize) -> [u64; WORDS]
     requires { ⌜ (n ≤ limit) × (p < n) ⌝ }
-    ensures { λ r. ⌜ ((d : ℕ) → member d (members r) ≡ (member d (members (getD up p [])) || (ltb d n && member p (members (getD up d []))))) ⌝ }
+    ensures { λ r. ⌜ ((d : ℕ) → member d (members r) ≡ (member d (members (getD (now (up .entry)) p [])) || (ltb d n && member p (members (getD (now (up .entry)) d []))))) ⌝ }
 {
     let mut i: usize = 0;
     let mut r = up[p];
@@ -199,7 +232,7 @@ pub fn closure_of(t: Tree, p: usize) -> Closure
     if p < n {
         let up = upward(t);
         let a = up[p];
-        let r = relatives(up, n, p);
+        let r = relatives(&up, n, p);
         return Closure {
             ancestors: a,
             relatives: r,
