@@ -11,7 +11,7 @@ ghost use Rattle.purpose.specs.Members.{limit, members, including};
 ghost use Rattle.purpose.specs.Meaning.{treeOf, treeFrom, marksOf, Grows, ClosureOf, admitted, isAbove};
 
 // How many words of 64 bits hold a set of purposes, and the most purposes that a tree has.
-pub const WORDS: usize = 1;
+pub const WORDS: usize = 4;
 
 pub const LIMIT: usize = WORDS * 64;
 
