@@ -99,6 +99,15 @@ module _ (a : List ℕ) (x n : ℕ) (b : List ℕ) (y : ℕ) (sized : n ≡ leng
     differ-short h = differ-at (never (sameByte (getD a (x + q) 0) (getD b (y + q) 0)) (λ j.
         omega (arith, name-byte-here b (y + q) (same-name-byte _ _ j here))))
 
+  -- words whose first or last bytes differ are not the same
+  pub differ-first : 0 < n → sameByte (getD a x 0) (getD b y 0) ≡ false → sameName (wordAt a x) (wordAt b y) ≡ false
+  differ-first l j = differ-at 0 l (rw (add-zero x, add-zero y) j)
+
+  pub differ-last : 0 < n → sameByte (getD a (x + n - 1) 0) (getD b (y + (n - 1)) 0) ≡ false → sameName (wordAt a x) (wordAt b y) ≡ false
+  differ-last l j =
+      let place : x + n - 1 ≡ x + (n - 1) = omega arith in
+      differ-at (n - 1) (omega arith) (ap (λ (k : ℕ). sameByte (getD a k 0) (getD b (y + (n - 1)) 0)) (sym place) ∙ j)
+
   -- where the other text ends before the word does, the two are the same only if the word is empty
   pub same-beyond : length b < y + n → sameName (wordAt a x) (wordAt b y) ≡ eqb n 0
   same-beyond h = go (eqb n 0) refl

@@ -3,8 +3,10 @@ use text::bytes::byte_at;
 use text::bytes::is_name_byte;
 use text::words::same_byte;
 use text::words::word_end;
-ghost use Prim.Native.Nat.{_+_, _≤_};
+ghost use Prim.Native.Nat.{_+_, _-_, _≤_, ℕ};
 ghost use lib.ListN.{getD, length};
+ghost use mathlib.Core.Bool.{false};
+ghost use mathlib.Core.List.{List};
 ghost use mathlib.Core.Path.{_≡_};
 ghost use Rattle.index.specs.Index.{FoundBelow, foundAs};
 ghost use Rattle.index.specs.Listed.{listed};
@@ -48,6 +50,32 @@ fn same_length_name(line: &[u8], i: usize, len: usize, text: &[u8], p: usize) ->
     true
 }
 
+// Whether the name of len bytes can be the word at p of the text: its first and last bytes fit. Most other names are told apart by this.
+fn may_be(text: &[u8], p: usize, len: usize, first: u8, last: u8) -> bool
+    ensures { λ r. ⌜ ((line : List ℕ) (i : ℕ) → len ≡ length (wordAt line i) → first ≡ getD line i 0 → last ≡ getD line (i + len - 1) 0 → r ≡ false → sameName (wordAt line i) (wordAt (now (text .entry)) p) ≡ false) ⌝ }
+{
+    if len == 0 {
+        return true;
+    }
+    if text.len() < len {
+        return false;
+    }
+    if text.len() - len < p {
+        return false;
+    }
+    if same_byte(last, text[p + (len - 1)]) {
+        return same_byte(first, text[p]);
+    }
+    false
+}
+
+// The place before e, and 0 before the first.
+fn before(e: usize) -> usize
+    ensures { λ r. ⌜ r ≡ e - 1 ⌝ }
+{
+    if e == 0 { 0 } else { e - 1 }
+}
+
 // The first of the n names at the positions from `base` on that is the name from i to e of the line.
 pub(crate) fn find_name_to(
     text: &[u8],
@@ -65,10 +93,15 @@ pub(crate) fn find_name_to(
         return Found::Nothing;
     }
     let len = e - i;
+    let first = byte_at(line, i);
+    let last = byte_at(line, before(e));
     let mut k = 0;
     while k < n {
-        if same_length_name(line, i, len, text, ws[base + k]) {
-            return Found::At(k);
+        let p = ws[base + k];
+        if may_be(text, p, len, first, last) {
+            if same_length_name(line, i, len, text, p) {
+                return Found::At(k);
+            }
         }
         k += 1;
     }
