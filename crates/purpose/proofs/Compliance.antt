@@ -47,13 +47,15 @@ compliance tree p l ancestors relatives up near =
     (meet-closure (inTree tree p) (related tree p) relatives (l .denied) near)
     ∙ spread (inTree tree p) _ _
 
--- the same on the words, for any count of them: two ANDs for each word
-pub compliance-words : (tree : List ℕ) (p : ℕ) (allowed denied : List ℕ) (c : Closure) → ClosureOf tree p c
-    → Words (c .ancestors) → Words (c .relatives)
-    → (overlap (c .ancestors) allowed && not (overlap (c .relatives) denied)) ≡ opens tree (record { allowed = members allowed; denied = members denied }) p
-compliance-words tree p allowed denied c of small small′ =
-    ap₂ (λ (x y : Bool). x && not y) (sym (meet-overlap (c .ancestors) allowed small)) (sym (meet-overlap (c .relatives) denied small′))
-    ∙ compliance tree p (record { allowed = members allowed; denied = members denied }) (members (c .ancestors)) (members (c .relatives)) (of .up) (of .near)
+-- the same on words of 64 bits, for any count of them in each of the four sets: one AND for each word, twice
+pub compliance-words : (tree : List ℕ) (p : ℕ) (allowed denied ancestors relatives : List ℕ)
+    → ((a : ℕ) → member a (members ancestors) ≡ (inTree tree p && descends tree p a))
+    → ((d : ℕ) → member d (members relatives) ≡ (inTree tree p && related tree p d))
+    → Words ancestors → Words relatives
+    → (overlap ancestors allowed && not (overlap relatives denied)) ≡ opens tree (record { allowed = members allowed; denied = members denied }) p
+compliance-words tree p allowed denied ancestors relatives up near small small′ =
+    ap₂ (λ (x y : Bool). x && not y) (sym (meet-overlap ancestors allowed small)) (sym (meet-overlap relatives denied small′))
+    ∙ compliance tree p (record { allowed = members allowed; denied = members denied }) (members ancestors) (members relatives) up near
 
 -- what a label test computes with the closure of p is whether the label is open to p
 pub admitted-opens : (tree : List ℕ) (p : ℕ) (c : Closure) (l : Label) → ClosureOf tree p c → admitted c l ≡ opens tree (marksOf l) p
