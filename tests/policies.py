@@ -51,6 +51,15 @@ def some(n, form):
     return [form.format(i) for i in range(n)]
 
 
+def tree(n, above=lambda i: 0):
+    """n purposes: p0, and each other below the one that `above` gives."""
+    return ["(purpose p0)"] + [f"(purpose p{i} p{above(i)})" for i in range(1, n)]
+
+
+def chain(n):
+    return tree(n, lambda i: i - 1)
+
+
 def row_fill(n):
     return TABLES + ["(row t 1)"] * n
 
@@ -77,7 +86,11 @@ CASES = [
     ("keywords as names", ["(purpose purpose)", "(role row)", "(label deny (allow purpose) (deny))", "(table table none (name num))", "(row table 3)"], 5),
     ("values in any order", after(BASE, "(user ben clerk (level 7) (team red))"), len(BASE) + 1),
     ("user with a second role", after(USERS, "(user ana clerk (team red) (level 1))"), len(USERS) + 1),
-    ("64 purposes", ["(purpose p0)"] + [f"(purpose p{i} p0)" for i in range(1, 64)], 64),
+    ("64 purposes", tree(64), 64),
+    ("65 purposes", tree(65), 65),
+    ("256 purposes", tree(256), 256),
+    ("256 purposes, each below the one before it", chain(256), 256),
+    ("a set of 256 purposes", tree(256) + ["(label l (allow" + "".join(some(256, " p{}")) + ") (deny p255 p192 p191 p128 p127 p64 p63 p0))"], 257),
     ("64 roles", some(64, "(role r{})"), 64),
     ("32 attributes", ["(role r)"] + some(32, "(attr r a{} num)"), 33),
     ("256 users", ["(role r)"] + some(256, "(user u{} r)"), 257),
@@ -125,8 +138,9 @@ CASES = [
     ("12ab", after(TABLES, "(row t 12ab)"), (2, len(TABLES), None)),
     ("+5", after(TABLES, "(row t +5)"), (2, len(TABLES), None)),
     # ---- 3
-    ("65th purpose", ["(purpose p0)"] + [f"(purpose p{i} p0)" for i in range(1, 65)], (3, 64, None)),
-    ("65th purpose, wrong in other ways too", ["(purpose p0)"] + [f"(purpose p{i} p0)" for i in range(1, 64)] + ["(purpose p0 q)"], (3, 64, None)),
+    ("257th purpose", tree(257), (3, 256, None)),
+    ("257th purpose, below the 256th", chain(257), (3, 256, None)),
+    ("257th purpose, wrong in other ways too", tree(256) + ["(purpose p0 q)"], (3, 256, None)),
     ("65th role", some(65, "(role r{})"), (3, 64, None)),
     ("33rd attribute", ["(role r)"] + some(33, "(attr r a{} num)"), (3, 33, None)),
     ("257th user", ["(role r)"] + some(257, "(user u{} r)"), (3, 257, None)),
@@ -138,6 +152,8 @@ CASES = [
     ("17 columns", after(LABELS, WIDER), (3, len(LABELS), None)),
     ("1,025th row", row_fill(1025), (3, len(TABLES) + 1024, None)),
     # ---- 4
+    ("the name of the first of 255 purposes taken", tree(255) + ["(purpose p0 p254)"], (4, 255, ("p0", 0))),
+    ("the name of the last of 255 purposes taken", tree(255) + ["(purpose p254 p0)"], (4, 255, ("p254", 0))),
     ("purpose taken", after(BASE, "(purpose ads bill)"), (4, len(BASE), ("ads", 0))),
     ("taken right of unknown", after(BASE, "(attr nobody level num)"), (4, len(BASE), ("level", 0))),
     ("role taken", after(BASE, "(role desk)"), (4, len(BASE), ("desk", 0))),
@@ -151,6 +167,7 @@ CASES = [
     ("table taken", after(TABLES, "(table e none (a num))"), (4, len(TABLES), ("e", 0))),
     ("column twice", after(LABELS, "(table x none (aa num) (bb num) (aa name))"), (4, len(LABELS), ("aa", 1))),
     # ---- 5
+    ("unknown parent among 255 purposes", chain(255) + ["(purpose p255 p256)"], (5, 255, ("p256", 0))),
     ("unknown parent", after(BASE, "(purpose more nix)"), (5, len(BASE), ("nix", 0))),
     ("own name as parent", ["(purpose all)", "(purpose self self)"], (5, 1, ("self", 1))),
     ("first purpose with a parent", ["(purpose a b)"], (5, 0, ("b", 0))),

@@ -81,6 +81,48 @@ RICH = [
     "(row sub (Dot free) (50 shut))",
 ]
 
+# who asks where a policy is about its purposes alone; behind it stands a grant
+ASKER = ["(role desk)", "(user ana desk)", "(cond-role any desk (ge hour 0))"]
+
+
+def chain(granted):
+    """256 purposes, each below the one before it; one is granted, and two labels allow the first and the last."""
+    return ["(purpose p0)"] + [f"(purpose p{i} p{i - 1})" for i in range(1, 256)] + ASKER + [
+        f"(grant {granted} any)",
+        "(label top (allow p0) (deny))",
+        "(label low (allow p255) (deny))",
+        "(label shut (allow p0) (deny p255))",
+        "(table recs row (who name))",
+        "(row recs top Ada)",
+        "(row recs low Bea)",
+        "(row recs shut Cleo)",
+    ]
+
+
+def words(granted):
+    """256 purposes: p64, p128, p192 and all before p64 below p0, the others below the nearest of these three before them. So the
+    words of 64 bits hold a branch each, but the first; the sets of the label `four` have members in each of the four."""
+    above = lambda i: 0 if i < 64 or i % 64 == 0 else i - i % 64
+    return ["(purpose p0)"] + [f"(purpose p{i} p{above(i)})" for i in range(1, 256)] + ASKER + [
+        f"(grant {granted} any)",
+        "(label free (allow p0) (deny))",
+        "(label nolast (allow p0) (deny p255))",
+        "(label third (allow p192) (deny))",
+        "(label four (allow p1 p64 p128 p192) (deny p2 p65 p129 p193))",
+        "(table recs row (who name))",
+        "(row recs free Ada)",
+        "(row recs nolast Bea)",
+        "(row recs third Cleo)",
+        "(row recs four Dora)",
+    ]
+
+
+def of_words(purpose, names):
+    """A session over `words` with the root granted: which of the four rows are printed for a purpose."""
+    answer = [f"(row {name})" for name in names] + [end(len(names), 4 - len(names), 0)]
+    return one(f"four words, asked for {purpose}", f"(select ana desk {purpose} recs (who))", answer, DAY, words("p0"))
+
+
 DAY = "(clock 2026 100 10)"
 NIGHT = "(clock 2026 100 21)"
 LEAP = "(clock 2028 366 10)"
@@ -229,6 +271,30 @@ SESSIONS = [
     one("cell, count", "(count ana desk post sub (ge due 50))", [end(1, 2, 1)]),
     one("cell, a branch not reached", "(count ana desk post sub (or (ge due 0) (eq who Ida)))", [end(1, 3, 0)]),
     one("cell, another purpose", "(select ana desk bill sub (who due))", ["(row Ida 40)", "(row Bo 75)", "(row Cy 60)", end(3, 1, 0)]),
+    # 256 purposes
+    one("granted at the root, asked 255 below", "(select ana desk p255 recs (who))", ["(row Ada)", "(row Bea)", end(2, 1, 0)], DAY, chain("p0")),
+    one("granted at the root, asked at the root", "(select ana desk p0 recs (who))", ["(row Ada)", end(1, 2, 0)], DAY, chain("p0")),
+    one("granted 255 below, asked at the root", "(select ana desk p0 recs (who))", (14, "p0"), DAY, chain("p255")),
+    one("granted 255 below, asked one above", "(count ana desk p254 recs)", (14, "p254"), DAY, chain("p255")),
+    one("granted and asked at the bottom", "(count ana desk p255 recs)", [end(2, 1, 0)], DAY, chain("p255")),
+    one("a purpose that is not there", "(count ana desk p256 recs)", (12, "p256"), DAY, chain("p0")),
+    of_words("p0", ["Ada"]),
+    of_words("p1", ["Ada", "Bea", "Dora"]),
+    of_words("p2", ["Ada", "Bea"]),
+    of_words("p63", ["Ada", "Bea"]),
+    of_words("p64", ["Ada", "Bea"]),
+    of_words("p65", ["Ada", "Bea"]),
+    of_words("p66", ["Ada", "Bea", "Dora"]),
+    of_words("p128", ["Ada", "Bea"]),
+    of_words("p129", ["Ada", "Bea"]),
+    of_words("p191", ["Ada", "Bea", "Dora"]),
+    of_words("p192", ["Ada", "Cleo"]),
+    of_words("p193", ["Ada", "Bea", "Cleo"]),
+    of_words("p254", ["Ada", "Bea", "Cleo", "Dora"]),
+    of_words("p255", ["Ada", "Cleo", "Dora"]),
+    one("granted in the fourth word, asked below", "(count ana desk p255 recs)", [end(3, 1, 0)], DAY, words("p192")),
+    one("granted in the fourth word, asked in the third", "(count ana desk p191 recs)", (14, "p191"), DAY, words("p192")),
+    one("granted in the first word, asked in the fourth", "(count ana desk p193 recs)", (14, "p193"), DAY, words("p1")),
     # comparisons
     one("lt", "(select ana desk bill nums (n) (lt n 0))", ["(row -9223372036854775808)", end(1, 0, 2)]),
     one("le", "(select ana desk bill nums (n) (le n 0))", ["(row -9223372036854775808)", "(row 0)", end(2, 0, 1)]),
@@ -270,6 +336,8 @@ def cases():
     sample = "".join(line + "\n" for line in SAMPLE).encode()
     yield "no input", sample, b"", b""
     yield "refused policy", sample + b"(purpose x)\n", (DAY + "\n" + SAMPLE_QUERY + "\n").encode(), f"(refused 6 document {len(sample)} 11)\n".encode()
+    most = "".join(line + "\n" for line in chain("p0")[:256])
+    yield "257 purposes", (most + "(purpose p256 p255)\n").encode(), b"", f"(refused 3 document {len(most)} 19)\n".encode()
     yield "unfinished policy", sample + b"(purpose", (DAY + "\n" + SAMPLE_QUERY + "\n").encode(), f"(refused 2 document {len(sample)} 8)\n".encode()
     yield "policy of 60,001 bytes", b"x" * 60001, b"", b"(refused 1 document 0 0)\n"
     yield "a refused policy with no input", sample + b"(grant ads nobody)\n", b"", f"(refused 5 document {len(sample) + 11} 6)\n".encode()

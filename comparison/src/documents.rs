@@ -293,7 +293,7 @@ impl<'r> Builder<'r> {
 
     pub fn label(&mut self) {
         let name = self.fresh(&NAMES, |m, name| m.labels.iter().any(|l| l.name == name));
-        let many = if self.random.chance(1, 30) { 64 } else { 3 };
+        let many = if self.random.chance(1, 30) { 256 } else { 3 };
         let mut allow = self.purpose_set(many);
         let deny = if self.random.chance(1, 2) { self.purpose_set(many - 1) } else { Vec::new() };
         // Labels that allow the root keep a good share of cells open.
@@ -595,7 +595,7 @@ pub fn faulty_line(random: &mut Random, model: &Model) -> Vec<u8> {
 fn full_kind(model: &Model) -> Option<usize> {
     let counts = [
         (model.attributes.len(), 32, 1),
-        (model.purposes.len(), 64, 3),
+        (model.purposes.len(), 256, 3),
         (model.roles.len(), 64, 4),
         (model.users.len(), 256, 5),
         (model.cond_roles.len(), 64, 7),
@@ -629,7 +629,7 @@ pub fn at_bound(random: &mut Random) -> (Model, bool) {
     builder.base();
     let count = |limit: usize| limit + over;
     match kind {
-        0 => while_fewer(&mut builder, count(64), |m| m.purposes.len(), Builder::purpose),
+        0 => while_fewer(&mut builder, count(256), |m| m.purposes.len(), Builder::purpose),
         1 => while_fewer(&mut builder, count(64), |m| m.roles.len(), Builder::role),
         2 => {
             builder.model = Model::default();

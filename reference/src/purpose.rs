@@ -1,7 +1,7 @@
 //! 01, "Purpose tree and labels": a library that knows no texts and no tables.
 
-/// 01: "a tree of at most 64 purposes".
-pub const LIMIT: usize = 64;
+/// 01: "a tree of at most 64 purposes"; 02, Q-5: "The limit becomes 256".
+pub const LIMIT: usize = 256;
 
 /// 01: "each with its parent; only the first has none". Purposes are counted from 0.
 #[derive(Clone, Debug, Default, PartialEq, Eq)]

@@ -4,7 +4,8 @@ use crate::forms::{Form, Given, RowItem, Scheme, Type, Word};
 use crate::policy::{row_label, Labelling, Policy, CLOCK_NAMES};
 use crate::text::Span;
 
-pub const MOST_PURPOSES: usize = 64;
+/// 02, Q-5: "The 65th purpose is accepted and the 257th is 3".
+pub const MOST_PURPOSES: usize = 256;
 pub const MOST_ROLES: usize = 64;
 pub const MOST_ATTRIBUTES: usize = 32;
 pub const MOST_USERS: usize = 256;

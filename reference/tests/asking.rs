@@ -337,6 +337,25 @@ fn scheme_cell_withholds_rows_with_a_closed_named_cell() {
     assert_eq!(answer_text(&doc, "(count u r leaf t (eq a 100))", CLOCK), "(end 0 1 2)\n");
 }
 
+/// 256 purposes, each below the one before it: a grant of the first reaches the last, and one of the last nothing else.
+#[test]
+fn a_chain_of_256_purposes() {
+    let purposes: String = (1..256).map(|n| format!("(purpose p{n} p{})\n", n - 1)).collect();
+    let document = |granted: &str| {
+        format!(
+            "(purpose p0)\n{purposes}(role r)\n(user u r)\n(cond-role c r (ge hour 0))\n(grant {granted} c)\n\
+             (label low (allow p255) (deny))\n(label shut (allow p0) (deny p192))\n(label top (allow p0) (deny))\n\
+             (table t row (k num))\n(row t low 1)\n(row t shut 2)\n(row t top 3)\n"
+        )
+    };
+    let asked = |granted: &str, purpose: &str| answer_text(&document(granted), &format!("(select u r {purpose} t (k))"), CLOCK);
+    assert_eq!(asked("p0", "p255"), "(row 1)\n(row 3)\n(end 2 1 0)\n");
+    assert_eq!(asked("p0", "p254"), "(row 3)\n(end 1 2 0)\n");
+    assert_eq!(asked("p255", "p255"), "(row 1)\n(row 3)\n(end 2 1 0)\n");
+    assert_eq!(query_refused(&document("p255"), b"(count u r p254 t)", CLOCK), (14, 11, 4));
+    assert_eq!(query_refused(&document("p255"), b"(count u r p0 t)", CLOCK), (14, 11, 2));
+}
+
 #[test]
 fn scheme_none_is_open_to_every_purpose() {
     let doc = format!("{BASE}(table t none (k num) (w name))\n(table s none (k num))\n(row t 1 a)\n(row s 7)\n(row t -9223372036854775808 b)\n");

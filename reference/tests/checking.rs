@@ -58,10 +58,15 @@ fn number_2_wrong_form() {
 #[test]
 fn number_3_bounds() {
     let many = |count: usize, line: &dyn Fn(usize) -> String| (0..count).map(|n| line(n) + "\n").collect::<String>();
-    // 64 purposes: the root and 63 below it; "(purpose a000)" is 14 bytes, "(purpose a001 a000)" 19.
+    // 256 purposes: the root and 255 below it; "(purpose a000)" is 14 bytes, "(purpose a001 a000)" 19.
     let purposes = |count: usize| format!("(purpose a000)\n{}", many(count - 1, &|n| format!("(purpose a{:03} a000)", n + 1)));
-    assert_eq!(lines(&purposes(64)), 64);
-    assert_eq!(refused(&purposes(65)), (3, 15 + 63 * 20, 19));
+    for count in [64, 65, 256] {
+        assert_eq!(lines(&purposes(count)), count);
+    }
+    assert_eq!(refused(&purposes(257)), (3, 15 + 255 * 20, 19));
+    // 3 is lower than 4, 5 and 6: a taken name, an unknown parent and a second root are not looked at any more.
+    assert_eq!(refused(&format!("{}(purpose a000 b)\n", purposes(256))), (3, 15 + 255 * 20, 16));
+    assert_eq!(refused(&format!("{}(purpose a000)\n", purposes(256))), (3, 15 + 255 * 20, 14));
     // 64 roles of "(role r000)", 11 bytes.
     let roles = |count| many(count, &|n| format!("(role r{n:03})"));
     assert_eq!(lines(&roles(64)), 64);

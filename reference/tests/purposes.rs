@@ -17,7 +17,7 @@ fn only_the_first_has_no_parent() {
 }
 
 #[test]
-fn sixty_four_are_taken_and_no_more() {
+fn as_many_as_the_limit_are_taken_and_no_more() {
     let mut tree = Tree::new();
     assert_eq!(tree.add(None), Ok(0));
     for p in 1..LIMIT {
@@ -26,10 +26,10 @@ fn sixty_four_are_taken_and_no_more() {
     let before = tree.clone();
     assert_eq!(tree.add(Some(0)), Err(NotTaken));
     assert_eq!(tree, before);
-    assert_eq!(tree.count(), 64);
+    assert_eq!(tree.count(), 256);
     // A chain: the last descends from the first and not the other way round.
-    assert!(tree.descends(63, 0));
-    assert!(!tree.descends(0, 63));
+    assert!(tree.descends(255, 0));
+    assert!(!tree.descends(0, 255));
 }
 
 /// 0 over 1 and 2; 1 over 3.
