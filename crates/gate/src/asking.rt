@@ -533,7 +533,8 @@ fn within_room(a: Answered, room: usize) -> Answered
     match a {
         Answered::Refused(_) => a,
         Answered::Given(f) => {
-            if room < f.len {
+            let len = f.len;
+            if room < len {
                 return Answered::Refused(Refusal {
                     reason: Reason::BufferTooShort,
                     source: Source::Query,
