@@ -203,6 +203,30 @@ pub fn cases() -> Vec<Case> {
     cases
 }
 
+/// Documents without rows: so many purposes, each below the one before it. The root is granted and the last is asked for.
+pub const CHAIN: &str = "chain";
+
+pub fn chain(size: &'static str, purposes: usize) -> Case {
+    let mut text = format!("(purpose {})\n", purpose(0));
+    for number in 1..purposes {
+        text.push_str(&format!("(purpose {} {})\n", purpose(number), purpose(number - 1)));
+    }
+    text.push_str("(role desk)\n(user ana desk)\n(cond-role any desk (ge hour 0))\n");
+    text.push_str(&format!("(grant {} any)\n(table sub none (c00 num) (c01 num))\n", purpose(0)));
+    Case {
+        scheme: CHAIN,
+        size,
+        text: text.into_bytes(),
+        select: format!("(select ana desk {} sub (c00 c01) (gt c00 0))", purpose(purposes - 1)),
+        count: format!("(count ana desk {} sub (gt c00 0))", purpose(purposes - 1)),
+    }
+}
+
+/// The names of purposes are of one length.
+fn purpose(number: usize) -> String {
+    format!("purpose-{number:03}")
+}
+
 /// The cases that are made to be bad, which the goals leave out.
 pub const BAD: [&str; 4] = ["full", "turns", "dear", "front"];
 

@@ -196,6 +196,8 @@ fn once(what: &str, case: &Case) {
 
 fn main() -> std::io::Result<()> {
     let mut cases = documents::cases();
+    cases.push(documents::chain("64", 64));
+    cases.push(documents::chain("256", 256));
     cases.push(documents::full_condition());
     cases.push(documents::turning_condition());
     cases.push(documents::dear_lookups());

@@ -1,7 +1,7 @@
 //! The table: times, ratios of the same run, goals and noise.
 
-use crate::documents::{BAD, Case};
-use crate::{Measured, Samples, CALLS};
+use crate::documents::{BAD, CHAIN, Case};
+use crate::{Call, Measured, Samples, CALLS};
 
 /// The largest of some ratios, and of which row.
 struct Largest(f64, String);
@@ -48,6 +48,7 @@ pub fn print(cases: &[Case], measured: &[Measured], turns: usize, in_a_row: usiz
     println!("Microseconds a call, 10th percentile of {} runs each ({turns} turns of {in_a_row}, all kinds in each turn; the bad inputs: a tenth).", turns * in_a_row);
     println!("SQLite: the loading of the rows beside check, the query alone beside select and count. Growth: over the row of half its size.");
     println!("bytes: one pass of two byte classes over the same text; nine: the same with nine classes.");
+    println!("chain: no rows, 64 and 256 purposes, each below the one before it; growth is that of the second over the first.");
     println!("Bad inputs. full: scheme none, a condition of 64 comparisons that come out alike in most rows; turns: that come out otherwise in nearly every row.");
     println!("dear: 64 labels of 24 bytes alike but for the last two; front: but for the first two.\n");
     println!(
@@ -55,14 +56,20 @@ pub fn print(cases: &[Case], measured: &[Measured], turns: usize, in_a_row: usiz
         "scheme", "bytes", "rows", "call", "gate", "reference", "bytes", "nine", "SQLite", "gate/ref", "g/bytes", "g/nine", "g/SQLite", "growth"
     );
     let (mut by_reference, mut by_pass, mut by_nine, mut grown) = (Largest::new(), Largest::new(), Largest::new(), Largest::new());
+    let mut chained = Largest::new();
     for (place, (case, times)) in cases.iter().zip(measured).enumerate() {
         for (at, call) in CALLS.into_iter().enumerate() {
-            let row = format!("{} {} KB {}", case.scheme, case.size, call.word());
+            let unit = if case.scheme == CHAIN { "purposes" } else { "KB" };
+            let row = format!("{} {} {unit} {}", case.scheme, case.size, call.word());
             let this = &times.calls[at];
             let (gate, reference, sqlite) = (this.gate.time(), this.reference.time(), this.sqlite.time());
             let (pass, nine) = (times.pass.time(), times.pass_nine.time());
             let growth = growth(cases, measured, place, |other| other.calls[at].gate.time());
-            if !BAD.contains(&case.scheme) {
+            if case.scheme == CHAIN {
+                if call != Call::Check {
+                    chained.see(growth.unwrap_or(0.0), &row);
+                }
+            } else if !BAD.contains(&case.scheme) {
                 by_reference.see(gate / reference, &row);
                 if case.size == "60" {
                     by_pass.see(gate / pass, &row);
@@ -89,6 +96,7 @@ pub fn print(cases: &[Case], measured: &[Measured], turns: usize, in_a_row: usiz
     by_pass.say(5.0, "gate/bytes of full documents");
     by_nine.say(5.0, "gate/nine of full documents");
     grown.say(2.2, "growth where the text doubles");
+    chained.say(2.5, "query with 256 purposes over 64");
     println!("\nNoise: spread of the runs");
     let all = |choose: fn(&Measured) -> Vec<&Samples>| measured.iter().flat_map(choose).collect::<Vec<_>>();
     noise("gate", &all(|times| times.calls.iter().map(|call| &call.gate).collect()));
