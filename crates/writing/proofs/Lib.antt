@@ -1,0 +1,3 @@
+-- Laws of writing. Assumes nothing.
+pub mod Writing
+pub mod Digits

@@ -1,0 +1,87 @@
+-- Writes into a buffer, one after the other, and what is left to write. Assumes nothing.
+use Prim.Native.Nat.{_+_, _<_, _^_, _≤_, suc, ℕ}
+use lib.ListN.{drop, length, length-append, length-set, set}
+use lib.Seq.{set-out, sets, sets-eq}
+use mathlib.Core.List.{List, [], _++_, _∷_}
+use mathlib.Core.Path.{_∙_, _≡_, ap, refl, sym}
+use native.Mathlib.Nat.{add-zero}
+use native.Mathlib.Omega.{arith}
+use Rattle.writing.specs.Write.{Stored, Wrote}
+
+-- bytes stored one run after the other are stored as one run
+pub sets-append : (d : List ℕ) (at : ℕ) (s t : List ℕ) → sets (sets d at s) (at + length s) t ≡ sets d at (s ++ t)
+sets-append d at [] t = ap (λ (k : ℕ). sets d k t) (add-zero at)
+sets-append d at (b ∷ s) t =
+    let e : at + suc (length s) ≡ suc at + length s = omega arith in
+    ap (λ (k : ℕ). sets (sets (set d at b) (suc at) s) k t) e ∙ sets-append (set d at b) (suc at) s t
+
+-- nothing is stored in an empty buffer
+pub sets-empty : (at : ℕ) (s : List ℕ) → sets [] at s ≡ []
+sets-empty at [] = refl
+sets-empty at (b ∷ s) = sets-empty (suc at) s
+
+-- one write after another
+pub both : {d e f : List ℕ} {at m r : ℕ} {s t : List ℕ} → Wrote d at s e m → Wrote e m t f r → Wrote d at (s ++ t) f r
+both {d} {e} {f} {at} {m} {r} {s} {t} w v = record { kept = v .kept ∙ w .kept; room = λ h. go h (w .room (omega (arith, h, length-append s t))) }
+  where
+    go : at + length (s ++ t) < 2 ^ 63 → Stored d at s e m → Stored d at (s ++ t) f r
+    go h x =
+        let y = v .room (omega (arith, h, length-append s t, x .behind)) in
+        record {
+          behind = omega (arith, x .behind, y .behind, length-append s t);
+          stored = y .stored ∙ ap (λ (z : List ℕ). sets z m t) (x .stored) ∙ ap (λ (k : ℕ). sets (sets d at s) k t) (x .behind) ∙ sets-append d at s t;
+        }
+
+-- one byte
+pub wrote-byte : (d : List ℕ) (at b : ℕ) → Wrote d at (b ∷ []) (set d at b) (at + 1)
+wrote-byte d at b = record { kept = length-set d at b; room = λ h. record { behind = refl; stored = refl } }
+
+-- a byte past the end
+pub wrote-past : (d : List ℕ) (at b : ℕ) → length d ≤ at → Wrote d at (b ∷ []) d (at + 1)
+wrote-past d at b h = record { kept = refl; room = λ k. record { behind = refl; stored = sym (set-out d at b h) } }
+
+-- a byte where counting ends
+pub wrote-over : (d : List ℕ) (at b : ℕ) → 9223372036854775807 ≤ at → Wrote d at (b ∷ []) d at
+wrote-over d at b h = record { kept = refl; room = λ k. absurd (omega (arith, h, k)) }
+
+-- nothing
+pub wrote-nothing : (d : List ℕ) (at : ℕ) → Wrote d at [] d at
+wrote-nothing d at = record { kept = refl; room = λ k. record { behind = sym (add-zero at); stored = refl } }
+
+-- To write cs into e at m comes to the same as to write bs into d at `at`.
+pub record Ahead (d : List ℕ) (at : ℕ) (bs e : List ℕ) (m : ℕ) (cs : List ℕ) : Type 0 where
+  pub kept : length e ≡ length d
+  pub behind : at + length bs < 2 ^ 63 → m + length cs ≡ at + length bs
+  pub stored : at + length bs < 2 ^ 63 → sets e m cs ≡ sets d at bs
+
+pub start : (d : List ℕ) (at : ℕ) (bs : List ℕ) → Ahead d at bs d at bs
+start d at bs = record { kept = refl; behind = λ h. refl; stored = λ h. refl }
+
+module _ {d e : List ℕ} {at m : ℕ} {bs cs : List ℕ} where
+  -- what is left begins with s, and s is written
+  pub step : (s t : List ℕ) {f : List ℕ} {r : ℕ} → Ahead d at bs e m cs → cs ≡ s ++ t → Wrote e m s f r → Ahead d at bs f r t
+  step s t {f} {r} a q w = record {
+    kept = w .kept ∙ a .kept;
+    behind = λ h. omega (arith, a .behind h, w .room (fits h) .behind, length-append s t, ap length q);
+    stored = λ h. ap (λ (x : List ℕ). sets x r t) (w .room (fits h) .stored) ∙ ap (λ (k : ℕ). sets (sets e m s) k t) (w .room (fits h) .behind) ∙ sets-append e m s t
+        ∙ ap (λ (x : List ℕ). sets e m x) (sym q) ∙ a .stored h;
+  }
+    where
+      fits : at + length bs < 2 ^ 63 → m + length s < 2 ^ 63
+      fits h = omega (arith, h, a .behind h, length-append s t, ap length q)
+
+  -- nothing is left
+  pub done : Ahead d at bs e m cs → cs ≡ [] → Wrote d at bs e m
+  done a q = record {
+    kept = a .kept;
+    room = λ h. record {
+      behind = omega (arith, a .behind h, ap length q);
+      stored = ap (λ (x : List ℕ). sets e m x) (sym q) ∙ a .stored h;
+    };
+  }
+
+-- all bytes fit: the buffer begins with them
+pub filled : (d s : List ℕ) → length s ≤ length d → sets d 0 s ≡ s ++ drop (length s) d
+filled d s h =
+    let e : 0 + length s ≡ length s = omega arith in
+    sets-eq s d 0 (omega arith) ∙ ap (λ (k : ℕ). s ++ drop k d) e

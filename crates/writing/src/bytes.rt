@@ -1,0 +1,70 @@
+// Bytes, words and numbers written into a lent buffer. A byte past its end is counted and not stored, so that a writer that is
+// lent an empty buffer measures.
+use text::bytes::byte_at;
+use text::bytes::is_name_byte;
+ghost use mathlib.Core.List.{[], _∷_};
+ghost use Rattle.text.specs.Numbers.{decimal};
+ghost use Rattle.text.specs.Words.{wordAt};
+ghost use Rattle.writing.specs.Write.{Wrote};
+
+// The largest place that counting comes to, so that no place wraps: no buffer reaches it.
+const MOST: usize = 9223372036854775807;
+
+// Writes one byte.
+pub fn put_byte(out: &mut [u8], at: usize, b: u8) -> usize
+    ensures { λ r. ⌜ Wrote (now (out .entry)) at (b ∷ []) (now (out .exit)) r ⌝ }
+{
+    if at < out.len() {
+        out[at] = b;
+        return at + 1;
+    }
+    if at < MOST {
+        return at + 1;
+    }
+    at
+}
+
+// Writes the bytes of s.
+pub fn put_bytes(out: &mut [u8], at: usize, s: &[u8]) -> usize
+    ensures { λ r. ⌜ Wrote (now (out .entry)) at (now (s .entry)) (now (out .exit)) r ⌝ }
+{
+    let mut to = at;
+    let mut i = 0;
+    while i < s.len() {
+        to = put_byte(out, to, s[i]);
+        i += 1;
+    }
+    to
+}
+
+// Writes the word that stands at a place of a text.
+pub fn put_word(out: &mut [u8], at: usize, text: &[u8], start: usize) -> usize
+    ensures { λ r. ⌜ Wrote (now (out .entry)) at (wordAt (now (text .entry)) start) (now (out .exit)) r ⌝ }
+{
+    let mut to = at;
+    let mut i = start;
+    while is_name_byte(byte_at(text, i)) {
+        to = put_byte(out, to, byte_at(text, i));
+        i += 1;
+    }
+    to
+}
+
+// Writes n in decimal.
+pub fn put_decimal(out: &mut [u8], at: usize, n: usize) -> usize
+    ensures { λ r. ⌜ Wrote (now (out .entry)) at (decimal n) (now (out .exit)) r ⌝ }
+{
+    if n < 10 {
+        return put_byte(out, at, (48 + n) as u8);
+    }
+    let to = put_decimal(out, at, n / 10);
+    put_byte(out, to, (48 + n % 10) as u8)
+}
+
+// Writes a space, and n in decimal.
+pub fn put_number(out: &mut [u8], at: usize, n: usize) -> usize
+    ensures { λ r. ⌜ Wrote (now (out .entry)) at (32 ∷ decimal n) (now (out .exit)) r ⌝ }
+{
+    let next = put_byte(out, at, b' ');
+    put_decimal(out, next, n)
+}

@@ -1,0 +1,2 @@
+// Writing into lent buffers.
+pub mod bytes;
