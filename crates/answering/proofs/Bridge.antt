@@ -11,7 +11,7 @@ use Rattle.answer.specs.Answer.{Answer, answerTo, counted, endLine, rowLine}
 use Rattle.answer.specs.Exactly.{GivesExactly, isGiven}
 use Rattle.answer.specs.Seen.{rowsIn, seenRows}
 use Rattle.answering.specs.Prepared.{Judged, Prepared, wantedBy}
-use Rattle.answering.specs.Write.{answerMarked, lineMarked, linesMarked}
+use Rattle.answering.specs.Lines.{answerMarked, lineMarked, linesMarked}
 use Rattle.answering.specs.declared.tally.Tally.{Tally}
 use Rattle.document.specs.Policy.{Doc, Row}
 use Rattle.index.proofs.ListedLaws.{listed-map, listed-same}

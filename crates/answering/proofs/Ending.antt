@@ -1,31 +1,52 @@
 -- The whole answer from its parts, and the end of answering. Assumes nothing.
-use Prim.Native.Nat.{_<_, _≤_, ℕ}
+use Prim.Native.Nat.{_+_, _<_, _^_, _≤_, ℕ}
 use borrow.Author.Tests.{le-ltb, lt-ltb}
-use lib.ListN.{length}
+use lib.ListN.{length, length-append, length-take, take}
 use mathlib.Core.Bool.{Bool, false, true}
-use mathlib.Core.List.{List}
+use mathlib.Core.List.{List, _++_, _∷_}
 use mathlib.Core.Path.{_∙_, _≡_, ap, subst, sym}
 use native.Mathlib.Omega.{arith}
 use Rattle.answer.specs.Answer.{Answer, counted, endLine}
-use Rattle.answering.proofs.Writing.{both, filled}
+use Rattle.answering.proofs.LineLaws.{lines-short}
 use Rattle.answering.specs.Answering.{Writes, bufferAfter, measuredOf}
-use Rattle.answering.specs.Write.{Wrote, answerMarked, linesMarked}
-use Rattle.answering.specs.declared.answers.Measured.{Measured}
+use Rattle.answering.specs.Lines.{answerMarked, linesMarked}
+use Rattle.text.specs.Bytes.{ascii}
+use Rattle.text.specs.Numbers.{decimal}
+use Rattle.writing.proofs.Digits.{decimal-short}
+use Rattle.writing.proofs.Writing.{both, filled}
+use Rattle.writing.specs.Write.{Stored, Wrote}
 
-module _ (text ws cs : List ℕ) (marks : List Bool) (k p w u : ℕ) {selecting : Bool} {d f : List ℕ} {n : ℕ} where
-  -- a select: the lines, then the end line
-  pub select-written : {e : List ℕ} {m : ℕ} → selecting ≡ true → Wrote d 0 (linesMarked text ws cs marks k) e m → Wrote e m (endLine p w u) f n
-      → Wrote d 0 (answerMarked text ws cs marks k selecting p w u .bytes) f n
+-- how long an end line is at most
+end-short : (p w u : ℕ) → length (endLine p w u) ≤ 69
+unfolding endLine
+end-short p w u =
+    let a : List ℕ = ascii "(end " ++ decimal p in
+    let b : List ℕ = a ++ 32 ∷ decimal w in
+    let c : List ℕ = b ++ 32 ∷ decimal u in
+    omega (arith, decimal-short p, decimal-short w, decimal-short u, length-append a (32 ∷ decimal w), length-append b (32 ∷ decimal u), length-append c (ascii ")\n"))
+
+module _ (text ws cs : List ℕ) (marks : List Bool) (chosen k p w u : ℕ) (small : length text ≤ 60000) (few : chosen ≤ 16) (rows : k ≤ 1024) where
+  -- an answer is far shorter than a machine's longest array
+  short : (selecting : Bool) → 0 + length (answerMarked text ws (take chosen cs) marks k selecting p w u .bytes) < 2 ^ 63
   unfolding answerMarked counted
-  select-written is v z = subst (λ b. Wrote d 0 (answerMarked text ws cs marks k b p w u .bytes) f n) (sym is) (both v z)
+  short true =
+      let l : length (take chosen cs) ≤ 16 = omega (arith, few, length-take chosen cs) in
+      omega (arith, rows, length-append (linesMarked text ws (take chosen cs) marks k) (endLine p w u), lines-short text ws (take chosen cs) marks small l k, end-short p w u)
+  short false = omega (arith, end-short p w u)
+
+  -- a select: the lines, then the end line
+  pub select-written : {selecting : Bool} {d e f : List ℕ} {m n : ℕ} → selecting ≡ true → Wrote d 0 (linesMarked text ws (take chosen cs) marks k) e m → Wrote e m (endLine p w u) f n
+      → Stored d 0 (answerMarked text ws (take chosen cs) marks k selecting p w u .bytes) f n
+  unfolding answerMarked counted
+  select-written {selecting} {d} {e} {f} {m} {n} is v z = subst (λ b. Stored d 0 (answerMarked text ws (take chosen cs) marks k b p w u .bytes) f n) (sym is) (both v z .room (short true))
 
   -- a count: the end line alone
-  pub count-written : selecting ≡ false → Wrote d 0 (endLine p w u) f n → Wrote d 0 (answerMarked text ws cs marks k selecting p w u .bytes) f n
+  pub count-written : {selecting : Bool} {d f : List ℕ} {n : ℕ} → selecting ≡ false → Wrote d 0 (endLine p w u) f n → Stored d 0 (answerMarked text ws (take chosen cs) marks k selecting p w u .bytes) f n
   unfolding answerMarked counted
-  count-written is z = subst (λ b. Wrote d 0 (answerMarked text ws cs marks k b p w u .bytes) f n) (sym is) z
+  count-written {selecting} {d} {f} {n} is z = subst (λ b. Stored d 0 (answerMarked text ws (take chosen cs) marks k b p w u .bytes) f n) (sym is) (z .room (short false))
 
 -- what is behind a text written from the start is its length
-pub size-written : {d bytes f : List ℕ} {n : ℕ} → Wrote d 0 bytes f n → n ≡ length bytes
+pub size-written : {d bytes f : List ℕ} {n : ℕ} → Stored d 0 bytes f n → n ≡ length bytes
 size-written w = omega (arith, w .behind)
 
 -- the answer was measured
@@ -40,7 +61,7 @@ module _ (d : List ℕ) (a : Answer) {n : ℕ} (size : n ≡ length (a .bytes)) 
   no-room h = record { is = figures; buffer = rw (lt-ltb (length d) (length (a .bytes)) (omega (arith, h, size))) }
 
   -- the buffer has room, and it was written
-  pub written : n ≤ length d → {f : List ℕ} {m : ℕ} → Wrote d 0 (a .bytes) f m → Writes a d f (record { len = n; tally = record { passed = a .passed; withheld = a .withheld; unmatched = a .unmatched } })
+  pub written : n ≤ length d → {f : List ℕ} {m : ℕ} → Stored d 0 (a .bytes) f m → Writes a d f (record { len = n; tally = record { passed = a .passed; withheld = a .withheld; unmatched = a .unmatched } })
   unfolding bufferAfter
   written h v =
       let l : length (a .bytes) ≤ length d = omega (arith, h, size) in

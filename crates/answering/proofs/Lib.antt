@@ -4,8 +4,6 @@ pub mod OpenCells
 pub mod TruthLaws
 pub mod MatchLaws
 pub mod FateLaws
-pub mod Writing
-pub mod Digits
 pub mod LineLaws
 pub mod Ending
 pub mod Bridge

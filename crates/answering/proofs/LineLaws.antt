@@ -2,14 +2,13 @@
 use Prim.Native.Nat.{_*_, _+_, _<_, _≤_, suc, zero, ℕ}
 use borrow.Author.Tests.{ltb-false, ltb-true}
 use lib.Dec.{ltb}
-use lib.ListN.{List·getD-eq-default, drop, drop-of-length-le, getD, length, length-append, length-drop, take}
+use lib.ListN.{List·getD-eq-default, drop, drop-of-length-le, getD, length, length-append, length-drop}
 use mathlib.Core.Bool.{Bool, false, true}
 use mathlib.Core.List.{List, [], _++_, _∷_, append-assoc, append-nil, flatten}
 use mathlib.Core.Path.{_∙_, _≡_, ap, refl, subst, sym}
 use native.Mathlib.Omega.{arith}
 use Rattle.answer.specs.Answer.{rowLine}
-use Rattle.answering.proofs.Writing.{both, wrote-nothing}
-use Rattle.answering.specs.Write.{LineWritten, LinesWritten, Wrote, lineMarked, linesMarked, spaced}
+use Rattle.answering.specs.Lines.{lineMarked, linesMarked, spaced}
 use Rattle.document.specs.Policy.{Row}
 use Rattle.index.proofs.ListedLaws.{length-listed, listed-getD, listed-more}
 use Rattle.index.specs.Index.{Cut, Rows, rowIn, valueIn}
@@ -18,6 +17,8 @@ use Rattle.text.proofs.Lefts.{drop-here}
 use Rattle.text.specs.Bytes.{ascii, isNameByte}
 use Rattle.text.specs.Numbers.{Value}
 use Rattle.text.specs.Words.{nameBytes, wordAt}
+use Rattle.writing.proofs.Writing.{both, wrote-nothing}
+use Rattle.writing.specs.Write.{Wrote}
 
 -- ---- words
 
@@ -31,7 +32,7 @@ run-short (b ∷ bs) = go (isNameByte b) refl (run-short bs)
     go false k ih = rw (k, nameBytes) (omega arith)
 
 -- a word is no longer than the text
-pub word-short : (s : List ℕ) (at : ℕ) → length (wordAt s at) ≤ length s
+word-short : (s : List ℕ) (at : ℕ) → length (wordAt s at) ≤ length s
 word-short s at = omega (arith, run-short (drop at s), length-drop at s)
 
 -- at the end stands the empty word
@@ -81,10 +82,10 @@ module _ (vs : List Value) where
   spaced-short (c ∷ cs) h = omega (arith, length-append (32 ∷ getD vs c []) (spaced cs vs), h c, spaced-short cs h)
 
 module _ (text ws : List ℕ) (r width : ℕ) (cs : List ℕ) (small : length text ≤ 60000) (few : length cs ≤ 16) where
-  pub values-short : length (spaced cs (listed (valueIn text ws r) width)) ≤ 960016
+  values-short : length (spaced cs (listed (valueIn text ws r) width)) ≤ 960016
   values-short = omega (arith, small, few, spaced-short (listed (valueIn text ws r) width) cs (λ c. omega (arith, small, values-fit text ws r width c)))
 
-  pub row-short : length (rowLine cs (listed (valueIn text ws r) width)) ≤ 960022
+  row-short : length (rowLine cs (listed (valueIn text ws r) width)) ≤ 960022
   unfolding rowLine spaced
   row-short = omega (arith, values-short, length-append (ascii "(row" ++ spaced cs (listed (valueIn text ws r) width)) (ascii ")\n"))
 
@@ -92,21 +93,16 @@ module _ (text ws : List ℕ) (r width : ℕ) (cs : List ℕ) (small : length te
 
 module _ (text ws cs : List ℕ) (r : ℕ) {marked : Bool} where
   -- the line of a marked row
-  pub line-written : {d e : List ℕ} {at next width : ℕ} → length text ≤ 60000 → length cs ≤ 16 → r < 1024 → marked ≡ true → Cut r 1024 (getD ws (1024 + r) 0) width
-      → Wrote d at (rowLine cs (listed (valueIn text ws r) width)) e next → LineWritten text ws cs r marked d at e next
+  pub line-written : {d e : List ℕ} {at next width : ℕ} → r < 1024 → marked ≡ true → Cut r 1024 (getD ws (1024 + r) 0) width
+      → Wrote d at (rowLine cs (listed (valueIn text ws r) width)) e next → getD ws (1024 + r) 0 ≤ 16 → Wrote d at (lineMarked text ws cs r marked) e next
   unfolding lineMarked rowIn
-  line-written {d} {e} {at} {next} {width} small few inside is cut w = record {
-    short = omega (arith, w .behind, row-short text ws r width cs small few);
-    line = λ n. subst (λ b. Wrote d at (lineMarked text ws cs r b) e next) (sym is) (subst (λ k. Wrote d at (rowLine cs (listed (valueIn text ws r) k)) e next) (cut .is inside n) w);
-  }
+  line-written {d} {e} {at} {next} inside is cut w n =
+      subst (λ b. Wrote d at (lineMarked text ws cs r b) e next) (sym is) (subst (λ k. Wrote d at (rowLine cs (listed (valueIn text ws r) k)) e next) (cut .is inside n) w)
 
   -- another row has none
-  pub line-none : (d : List ℕ) (at : ℕ) → marked ≡ false → LineWritten text ws cs r marked d at d at
+  pub line-none : (d : List ℕ) (at : ℕ) → marked ≡ false → Wrote d at (lineMarked text ws cs r marked) d at
   unfolding lineMarked
-  line-none d at is = record {
-    short = omega arith;
-    line = λ n. subst (λ b. Wrote d at (lineMarked text ws cs r b) d at) (sym is) (wrote-nothing d at);
-  }
+  line-none d at is = subst (λ b. Wrote d at (lineMarked text ws cs r b) d at) (sym is) (wrote-nothing d at)
 
 flatten-last : (ls : List (List ℕ)) (l : List ℕ) → flatten (ls ++ (l ∷ [])) ≡ flatten ls ++ l
 unfolding flatten
@@ -131,18 +127,26 @@ module _ (text ws cs : List ℕ) (marks : List Bool) where
       line : ℕ → List ℕ
       line r = lineMarked text ws cs r (getD marks r false)
 
-  pub lines-start : (d : List ℕ) → LinesWritten text ws cs marks 0 d d 0
+  pub lines-start : (d : List ℕ) → Wrote d 0 (linesMarked text ws cs marks 0) d 0
   unfolding linesMarked listed flatten
-  lines-start d = record { short = omega arith; lines = λ rs h. wrote-nothing d 0 }
+  lines-start d = wrote-nothing d 0
 
-  pub lines-more : {d e f : List ℕ} {k m n : ℕ} {b : Bool} → LinesWritten text ws cs marks k d e m → b ≡ getD marks k false → LineWritten text ws cs k b e m f n → LinesWritten text ws cs marks (k + 1) d f n
-  lines-more {d} {e} {f} {k} {m} {n} g is w = record {
-    short = omega (arith, g .short, w .short);
-    lines = λ rs h. subst (λ l. Wrote d 0 l f n) (ap (λ b. linesMarked text ws cs marks k ++ lineMarked text ws cs k b) is ∙ sym (marked-more k)) (both (g .lines _ (fewer-rows text ws k rs h)) (w .line (h .narrow k (omega arith))));
-  }
+  pub lines-more : {d e f : List ℕ} {k m n : ℕ} {b : Bool} → ((rs : List Row) → Rows text ws k rs → Wrote d 0 (linesMarked text ws cs marks k) e m) → b ≡ getD marks k false
+      → (getD ws (1024 + k) 0 ≤ 16 → Wrote e m (lineMarked text ws cs k b) f n) → (rs : List Row) → Rows text ws (k + 1) rs → Wrote d 0 (linesMarked text ws cs marks (k + 1)) f n
+  lines-more {d} {e} {f} {k} {m} {n} g is w rs h =
+      subst (λ l. Wrote d 0 l f n) (ap (λ b. linesMarked text ws cs marks k ++ lineMarked text ws cs k b) is ∙ sym (marked-more k)) (both (g _ (fewer-rows text ws k rs h)) (w (h .narrow k (omega arith))))
 
--- the first k of a list that has as many
-pub take-long : (k : ℕ) (xs : List ℕ) → k ≤ length xs → length (take k xs) ≡ k
-take-long zero xs h = refl
-take-long (suc k) [] h = absurd (omega (arith, h))
-take-long (suc k) (x ∷ xs) h = omega (arith, take-long k xs (omega (arith, h)))
+  module _ (small : length text ≤ 60000) (few : length cs ≤ 16) where
+    -- how long a line is at most
+    line-short : (r : ℕ) (b : Bool) → length (lineMarked text ws cs r b) ≤ 960022
+    unfolding lineMarked rowIn
+    line-short r true = row-short text ws r (getD ws (1024 + r) 0) cs small few
+    line-short r false = omega arith
+
+    -- and how long so many lines are
+    pub lines-short : (k : ℕ) → length (linesMarked text ws cs marks k) ≤ k * 960022
+    unfolding linesMarked listed flatten
+    lines-short zero = omega arith
+    lines-short (suc k) =
+        let e : suc k ≡ k + 1 = omega arith in
+        omega (arith, lines-short k, ap (λ n. length (linesMarked text ws cs marks n)) e, ap length (marked-more k), length-append (linesMarked text ws cs marks k) (lineMarked text ws cs k (getD marks k false)), line-short k (getD marks k false))

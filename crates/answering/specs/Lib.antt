@@ -1,5 +1,5 @@
 -- What answering over the rows gives. Assumes nothing.
-pub mod Write
+pub mod Lines
 pub mod Prepared
 pub mod Answering
 pub mod Judging

@@ -1,8 +1,8 @@
 // The whole answer: measured first, and then, where there is room, written straight into the lent buffer.
 use crate::judging::judge_rows;
+use crate::lines::put_end;
 use crate::lines::put_lines;
 use crate::tally::Tally;
-use crate::write::put_end;
 use index::layout::COLUMNS;
 use index::layout::LABELS;
 use index::layout::ROW_CELLS;
@@ -16,11 +16,12 @@ ghost use mathlib.Core.Path.{_≡_};
 ghost use Rattle.answer.specs.Answer.{answerTo};
 ghost use Rattle.answer.specs.Seen.{seenRows};
 ghost use Rattle.answering.specs.Answering.{Writes};
+ghost use Rattle.answering.specs.Lines.{answerMarked};
 ghost use Rattle.answering.specs.Prepared.{Prepared};
-ghost use Rattle.answering.specs.Write.{Wrote, answerMarked};
 ghost use Rattle.document.specs.Policy.{Doc, Row};
 ghost use Rattle.index.specs.Index.{Rows};
 ghost use Rattle.query.specs.Query.{Query};
+ghost use Rattle.writing.specs.Write.{Stored};
 
 // How long a text may be.
 const TEXT_BYTES: usize = 60000;
@@ -46,7 +47,7 @@ fn put_answer(
     unmatched: usize,
 ) -> usize
     requires { ⌜ (length (now text) ≤ 60000) × (chosen ≤ 16) × (count ≤ 1024) ⌝ }
-    ensures { λ x. ⌜ ((rs : List Row) → Rows (now (text .entry)) (now (rows .entry)) count rs → Wrote (now (out .entry)) 0 (answerMarked (now (text .entry)) (now (rows .entry)) (take chosen (now (columns .entry))) (now (marks .entry)) count select passed withheld unmatched .bytes) (now (out .exit)) x) ⌝ }
+    ensures { λ x. ⌜ ((rs : List Row) → Rows (now (text .entry)) (now (rows .entry)) count rs → Stored (now (out .entry)) 0 (answerMarked (now (text .entry)) (now (rows .entry)) (take chosen (now (columns .entry))) (now (marks .entry)) count select passed withheld unmatched .bytes) (now (out .exit)) x) ⌝ }
 {
     if select {
         let at = put_lines(out, text, rows, count, marks, columns, chosen);

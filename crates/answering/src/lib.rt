@@ -5,4 +5,3 @@ mod comparing;
 mod judging;
 mod lines;
 pub mod tally;
-mod write;

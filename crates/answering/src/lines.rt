@@ -1,18 +1,23 @@
-// The lines of the rows that are given.
+// The lines of an answer: those of the rows that are given, and the last.
 use crate::cells::value_place;
-use crate::write::put_byte;
-use crate::write::put_bytes;
-use crate::write::put_word;
 use index::layout::ROW_CELLS;
 use index::layout::ROWS;
 use index::rows::row_values;
-ghost use Prim.Native.Nat.{_<_, _^_, _≤_};
-ghost use lib.ListN.{length, take};
+use writing::bytes::put_byte;
+use writing::bytes::put_bytes;
+use writing::bytes::put_decimal;
+use writing::bytes::put_number;
+use writing::bytes::put_word;
+ghost use Prim.Native.Nat.{_+_, _<_, _≤_};
+ghost use lib.ListN.{getD, length, take};
+ghost use mathlib.Core.List.{List};
 ghost use mathlib.Core.Path.{_≡_};
-ghost use Rattle.answer.specs.Answer.{rowLine};
-ghost use Rattle.answering.specs.Write.{LineWritten, LinesWritten, Wrote, spaced};
-ghost use Rattle.index.specs.Index.{valueIn};
+ghost use Rattle.answer.specs.Answer.{endLine, rowLine};
+ghost use Rattle.answering.specs.Lines.{lineMarked, linesMarked, spaced};
+ghost use Rattle.document.specs.Policy.{Row};
+ghost use Rattle.index.specs.Index.{Rows, valueIn};
 ghost use Rattle.index.specs.Listed.{listed};
+ghost use Rattle.writing.specs.Write.{Wrote};
 
 // Writes the values of row r in some columns, each after a space.
 fn put_values(
@@ -24,7 +29,7 @@ fn put_values(
     width: usize,
     columns: &[usize],
 ) -> usize
-    requires { ⌜ (at < 2 ^ 60) × (length (now text) ≤ 60000) × (length (now columns) ≤ 16) × (r < 1024) × (width ≤ 16) ⌝ }
+    requires { ⌜ (r < 1024) × (width ≤ 16) ⌝ }
     ensures { λ x. ⌜ Wrote (now (out .entry)) at (spaced (now (columns .entry)) (listed (valueIn (now (text .entry)) (now (rows .entry)) r) width)) (now (out .exit)) x ⌝ }
 {
     let mut to = at;
@@ -48,7 +53,7 @@ fn put_row(
     width: usize,
     columns: &[usize],
 ) -> usize
-    requires { ⌜ (at < 2 ^ 59) × (length (now text) ≤ 60000) × (length (now columns) ≤ 16) × (r < 1024) × (width ≤ 16) ⌝ }
+    requires { ⌜ (r < 1024) × (width ≤ 16) ⌝ }
     ensures { λ x. ⌜ Wrote (now (out .entry)) at (rowLine (now (columns .entry)) (listed (valueIn (now (text .entry)) (now (rows .entry)) r) width)) (now (out .exit)) x ⌝ }
 {
     let a = put_bytes(out, at, b"(row");
@@ -66,8 +71,8 @@ fn put_line(
     marked: bool,
     columns: &[usize],
 ) -> usize
-    requires { ⌜ (at < 2 ^ 59) × (length (now text) ≤ 60000) × (length (now columns) ≤ 16) × (r < 1024) ⌝ }
-    ensures { λ x. ⌜ LineWritten (now (text .entry)) (now (rows .entry)) (now (columns .entry)) r marked (now (out .entry)) at (now (out .exit)) x ⌝ }
+    requires { ⌜ r < 1024 ⌝ }
+    ensures { λ x. ⌜ (getD (now (rows .entry)) (1024 + r) 0 ≤ 16 → Wrote (now (out .entry)) at (lineMarked (now (text .entry)) (now (rows .entry)) (now (columns .entry)) r marked) (now (out .exit)) x) ⌝ }
 {
     if marked {
         let width = row_values(rows, r);
@@ -85,8 +90,8 @@ fn put_marked(
     marks: &[bool],
     columns: &[usize],
 ) -> usize
-    requires { ⌜ (length (now text) ≤ 60000) × (length (now columns) ≤ 16) × (count ≤ 1024) × (length (now marks) ≡ 1024) ⌝ }
-    ensures { λ x. ⌜ LinesWritten (now (text .entry)) (now (rows .entry)) (now (columns .entry)) (now (marks .entry)) count (now (out .entry)) (now (out .exit)) x ⌝ }
+    requires { ⌜ (count ≤ 1024) × (length (now marks) ≡ 1024) ⌝ }
+    ensures { λ x. ⌜ ((rs : List Row) → Rows (now (text .entry)) (now (rows .entry)) count rs → Wrote (now (out .entry)) 0 (linesMarked (now (text .entry)) (now (rows .entry)) (now (columns .entry)) (now (marks .entry)) count) (now (out .exit)) x) ⌝ }
 {
     let mut to = 0;
     let mut r = 0;
@@ -107,10 +112,27 @@ pub(crate) fn put_lines(
     columns: &[usize; 80],
     chosen: usize,
 ) -> usize
-    requires { ⌜ (length (now text) ≤ 60000) × (chosen ≤ 16) × (count ≤ 1024) ⌝ }
-    ensures { λ x. ⌜ LinesWritten (now (text .entry)) (now (rows .entry)) (take chosen (now (columns .entry))) (now (marks .entry)) count (now (out .entry)) (now (out .exit)) x ⌝ }
+    requires { ⌜ (chosen ≤ 16) × (count ≤ 1024) ⌝ }
+    ensures { λ x. ⌜ ((rs : List Row) → Rows (now (text .entry)) (now (rows .entry)) count rs → Wrote (now (out .entry)) 0 (linesMarked (now (text .entry)) (now (rows .entry)) (take chosen (now (columns .entry))) (now (marks .entry)) count) (now (out .exit)) x) ⌝ }
 {
     let marked: &[bool] = marks;
     let numbers: &[usize] = columns;
     put_marked(out, text, rows, count, marked, &numbers[..chosen])
+}
+
+// Writes the last line of an answer.
+pub(crate) fn put_end(
+    out: &mut [u8],
+    at: usize,
+    passed: usize,
+    withheld: usize,
+    unmatched: usize,
+) -> usize
+    ensures { λ r. ⌜ Wrote (now (out .entry)) at (endLine passed withheld unmatched) (now (out .exit)) r ⌝ }
+{
+    let a = put_bytes(out, at, b"(end ");
+    let b = put_decimal(out, a, passed);
+    let c = put_number(out, b, withheld);
+    let d = put_number(out, c, unmatched);
+    put_bytes(out, d, b")\n")
 }

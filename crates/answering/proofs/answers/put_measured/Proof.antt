@@ -3,7 +3,7 @@ use borrow.Author.Needs.{needs}
 use lib.ListN.{take}
 use Rattle.answer.specs.Answer.{counted}
 use Rattle.answering.proofs.Ending.{no-room, written}
-use Rattle.answering.specs.Write.{answerMarked}
+use Rattle.answering.specs.Lines.{answerMarked}
 use Rattle.answering.proofs.answers.put_measured.Statement.{statement}
 use Rattle.answering.proofs.answers.put_measured.Tie as tie
 

@@ -8,16 +8,16 @@ row-values-requires : tie.Need-row-values-requires
 row-values-requires c κs = search needs
 
 put-row-requires : tie.Need-put-row-requires
-put-row-requires c κs = (c .before .before .before .before .before .before .pre .0, c .before .before .before .before .before .before .pre .1, c .before .before .before .before .before .before .pre .2, c .before .before .before .before .before .before .pre .3, c .before .row-values .ensures .few)
+put-row-requires c κs = (c .before .before .before .before .before .before .pre, c .before .row-values .ensures .few)
 
 same-length : tie.Need-same-length
 same-length c = search needs
 
 returns : tie.Need-returns
-returns c = line-written (c .before .before .before .before .before .before .before .before .before .args .text .now) (c .before .before .before .before .before .before .before .before .before .args .rows .now) (c .before .before .before .before .before .before .before .before .before .args .columns .now) (c .before .before .before .before .before .before .before .before .before .args .r) (c .before .before .before .before .before .before .before .before .before .pre .1) (c .before .before .before .before .before .before .before .before .before .pre .2) (c .before .before .before .before .before .before .before .before .before .pre .3) (c .before .before .before .before .before .if1 .taken) (c .before .before .before .before .row-values .ensures) (c .before .before .put-row .ensures)
+returns c = line-written (c .before .before .before .before .before .before .before .before .before .args .text .now) (c .before .before .before .before .before .before .before .before .before .args .rows .now) (c .before .before .before .before .before .before .before .before .before .args .columns .now) (c .before .before .before .before .before .before .before .before .before .args .r) (c .before .before .before .before .before .before .before .before .before .pre) (c .before .before .before .before .before .if1 .taken) (c .before .before .before .before .row-values .ensures) (c .before .before .put-row .ensures)
 
 returns-2 : tie.Need-returns-2
-returns-2 c = line-none (c .before .before .before .before .args .text .now) (c .before .before .before .before .args .rows .now) (c .before .before .before .before .args .columns .now) (c .before .before .before .before .args .r) (c .before .before .before .before .args .out .now) (c .before .before .before .before .args .at) (c .if1 .left)
+returns-2 c = λ n. line-none (c .before .before .before .before .args .text .now) (c .before .before .before .before .args .rows .now) (c .before .before .before .before .args .columns .now) (c .before .before .before .before .args .r) (c .before .before .before .before .args .out .now) (c .before .before .before .before .args .at) (c .if1 .left)
 
 pub put-line-spec : {M : Type 1} → statement M
 put-line-spec =

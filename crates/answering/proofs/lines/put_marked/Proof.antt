@@ -3,27 +3,31 @@
 use Prim.Native.Nat.{_-_, _≤_}
 use borrow.Author.Needs.{needs}
 use lib.ListN.{length}
+use mathlib.Core.List.{List}
 use mathlib.Core.Path.{_≡_, refl, subst}
 use native.Mathlib.Omega.{arith}
 use Rattle.answering.proofs.LineLaws.{lines-more, lines-start}
-use Rattle.answering.specs.Write.{LinesWritten}
+use Rattle.answering.specs.Lines.{linesMarked}
+use Rattle.document.specs.Policy.{Row}
+use Rattle.index.specs.Index.{Rows}
+use Rattle.writing.specs.Write.{Wrote}
 use Rattle.answering.proofs.lines.put_marked.Statement.{statement}
 use Rattle.answering.proofs.lines.put_marked.Tie as tie
 
 abbrev Inv-loop : tie.InvT-loop
-Inv-loop out₀ text rows count marks columns to₀ r₀ out to r = (r ≤ count) × (length out ≡ length out₀) × LinesWritten text rows columns marks r out₀ out to
+Inv-loop out₀ text rows count marks columns to₀ r₀ out to r = (r ≤ count) × (length out ≡ length out₀) × ((rs : List Row) → Rows text rows r rs → Wrote out₀ 0 (linesMarked text rows columns marks r) out to)
 
 abbrev μ-loop : tie.MeasureT-loop
 μ-loop out₀ text rows count marks columns to₀ r₀ out to r = count - r
 
 loop-holds : tie.Need-loop-holds Inv-loop μ-loop
-loop-holds c = (omega arith, refl, lines-start (c .before .before .before .before .args .text .now) (c .before .before .before .before .args .rows .now) (c .before .before .before .before .args .columns .now) (c .before .before .before .before .args .marks .now) (c .before .before .before .before .args .out .now))
+loop-holds c = (omega arith, refl, λ rs h. lines-start (c .before .before .before .before .args .text .now) (c .before .before .before .before .args .rows .now) (c .before .before .before .before .args .columns .now) (c .before .before .before .before .args .marks .now) (c .before .before .before .before .args .out .now))
 
 shared-slice-read-put-line : tie.Need-shared-slice-read-put-line Inv-loop μ-loop
 shared-slice-read-put-line c = search needs
 
 put-line-requires : tie.Need-put-line-requires Inv-loop μ-loop
-put-line-requires c κs = omega (arith, c .before .before .before .loop .inv .2 .short)
+put-line-requires c κs = omega arith
 
 add-r : tie.Need-add-r Inv-loop μ-loop
 add-r c = omega arith
@@ -40,7 +44,8 @@ same-length c = c .before .loop .inv .1
 returns : tie.Need-returns Inv-loop μ-loop
 returns c =
     let e : c .before .loop .r ≡ c .before .before .before .before .before .before .args .count = omega arith in
-    subst (λ k. LinesWritten (c .before .before .before .before .before .before .args .text .now) (c .before .before .before .before .before .before .args .rows .now) (c .before .before .before .before .before .before .args .columns .now) (c .before .before .before .before .before .before .args .marks .now) k (c .before .before .before .before .before .before .args .out .now) (c .before .loop .out) (c .before .loop .to)) e (c .before .loop .inv .2)
+    let A = c .before .before .before .before .before .before .args in
+    subst (λ k. (rs : List Row) → Rows (A .text .now) (A .rows .now) k rs → Wrote (A .out .now) 0 (linesMarked (A .text .now) (A .rows .now) (A .columns .now) (A .marks .now) k) (c .before .loop .out) (c .before .loop .to)) e (c .before .loop .inv .2)
 
 pub put-marked-spec : {M : Type 1} → statement M
 put-marked-spec =

@@ -1,10 +1,8 @@
 -- `answering::lines::put_row` meets its contract. Assumes nothing.
 use borrow.Author.Needs.{needs}
-use native.Mathlib.Omega.{arith}
 use Rattle.answer.specs.Answer.{rowLine}
-use Rattle.answering.proofs.LineLaws.{values-short}
-use Rattle.answering.proofs.Writing as w
-use Rattle.answering.specs.Write.{spaced}
+use Rattle.writing.proofs.Writing as w
+use Rattle.answering.specs.Lines.{spaced}
 use Rattle.answering.proofs.lines.put_row.Statement.{statement}
 use Rattle.answering.proofs.lines.put_row.Tie as tie
 
@@ -21,7 +19,7 @@ slice-aggregate-put-bytes-2 : tie.Need-slice-aggregate-put-bytes-2
 slice-aggregate-put-bytes-2 c = search needs
 
 put-bytes-requires-2 : tie.Need-put-bytes-requires-2
-put-bytes-requires-2 c κs = omega (arith, c .before .before .before .before .before .before .before .before .put-bytes .ensures .behind, c .before .before .before .before .put-values .ensures .behind, values-short (c .before .before .before .before .before .before .before .before .before .before .before .before .before .before .args .text .now) (c .before .before .before .before .before .before .before .before .before .before .before .before .before .before .args .rows .now) (c .before .before .before .before .before .before .before .before .before .before .before .before .before .before .args .r) (c .before .before .before .before .before .before .before .before .before .before .before .before .before .before .args .width) (c .before .before .before .before .before .before .before .before .before .before .before .before .before .before .args .columns .now) (c .before .before .before .before .before .before .before .before .before .before .before .before .before .before .pre .1) (c .before .before .before .before .before .before .before .before .before .before .before .before .before .before .pre .2))
+put-bytes-requires-2 c κs = search needs
 
 same-length : tie.Need-same-length
 same-length c = search needs

@@ -5,9 +5,9 @@ use borrow.Author.Needs.{needs}
 use lib.ListN.{drop, getD, length}
 use mathlib.Core.List.{[], _∷_}
 use native.Mathlib.Omega.{arith}
-use Rattle.answering.proofs.LineLaws.{spaced-more, spaced-none, values-short}
-use Rattle.answering.proofs.Writing as w
-use Rattle.answering.specs.Write.{spaced}
+use Rattle.answering.proofs.LineLaws.{spaced-more, spaced-none}
+use Rattle.writing.proofs.Writing as w
+use Rattle.answering.specs.Lines.{spaced}
 use Rattle.index.specs.Index.{valueIn}
 use Rattle.index.specs.Listed.{listed}
 use Rattle.answering.proofs.lines.put_values.Statement.{statement}
@@ -32,10 +32,10 @@ value-place-requires : tie.Need-value-place-requires Inv-loop μ-loop
 value-place-requires c κs = search needs
 
 put-byte-requires : tie.Need-put-byte-requires Inv-loop μ-loop
-put-byte-requires c κs = omega (arith, values-short (c .before .before .before .before .before .before .before .before .args .text .now) (c .before .before .before .before .before .before .before .before .args .rows .now) (c .before .before .before .before .before .before .before .before .args .r) (c .before .before .before .before .before .before .before .before .args .width) (c .before .before .before .before .before .before .before .before .args .columns .now) (c .before .before .before .before .before .before .before .before .pre .1) (c .before .before .before .before .before .before .before .before .pre .2))
+put-byte-requires c κs = search needs
 
 put-word-requires : tie.Need-put-word-requires Inv-loop μ-loop
-put-word-requires c κs = omega (arith, c .before .before .before .put-byte .ensures .behind, values-short (c .before .before .before .before .before .before .before .before .before .before .before .before .args .text .now) (c .before .before .before .before .before .before .before .before .before .before .before .before .args .rows .now) (c .before .before .before .before .before .before .before .before .before .before .before .before .args .r) (c .before .before .before .before .before .before .before .before .before .before .before .before .args .width) (c .before .before .before .before .before .before .before .before .before .before .before .before .args .columns .now) (c .before .before .before .before .before .before .before .before .before .before .before .before .pre .1) (c .before .before .before .before .before .before .before .before .before .before .before .before .pre .2))
+put-word-requires c κs = search needs
 
 add-i : tie.Need-add-i Inv-loop μ-loop
 add-i c = omega arith
@@ -49,10 +49,10 @@ loop-again c =
     let cs = c .before .before .before .before .before .before .before .before .before .before .before .before .before .before .before .args .columns .now in
     let i = c .before .before .before .before .before .before .before .before .before .before .before .loop .i in
     w.step (32 ∷ getD vs (getD cs i 0) []) (spaced (drop (i + 1) cs) vs) (c .before .before .before .before .before .before .before .before .before .before .before .loop .inv) (spaced-more vs cs i (c .before .before .before .before .before .before .before .before .before .before .loop-test .taken))
-    (rw (c .before .before .before .before .before .before .before .before .value-place .ensures (c .before .before .before .before .before .before .before .before .before .before .before .before .before .before .before .pre .3) (c .before .before .before .before .before .before .before .before .before .before .before .before .before .before .before .pre .4)) at (w.both (c .before .before .before .before .before .before .put-byte .ensures) (c .before .before .put-word .ensures)))
+    (rw (c .before .before .before .before .before .before .before .before .value-place .ensures (c .before .before .before .before .before .before .before .before .before .before .before .before .before .before .before .pre .0) (c .before .before .before .before .before .before .before .before .before .before .before .before .before .before .before .pre .1)) at (w.both (c .before .before .before .before .before .before .put-byte .ensures) (c .before .before .put-word .ensures)))
 
 same-length : tie.Need-same-length Inv-loop μ-loop
-same-length c = w.ahead-kept (c .before .loop .inv)
+same-length c = c .before .loop .inv .kept
 
 returns : tie.Need-returns Inv-loop μ-loop
 returns c = w.done (c .before .loop .inv) (spaced-none (listed (valueIn (c .before .before .before .before .before .args .text .now) (c .before .before .before .before .before .args .rows .now) (c .before .before .before .before .before .args .r)) (c .before .before .before .before .before .args .width)) (c .before .before .before .before .before .args .columns .now) (c .before .loop .i) (c .loop-test .left))

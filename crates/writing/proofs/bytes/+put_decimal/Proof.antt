@@ -5,7 +5,7 @@ use native.Mathlib.Omega.{arith}
 use mathlib.Core.Path.{_∙_}
 use Rattle.writing.proofs.Writing as w
 use Rattle.writing.proofs.Digits.{decimal-more, decimal-one}
-use Prim.Native.Nat.{_/_, _<_, ℕ}
+use Prim.Native.Nat.{_<_, ℕ}
 use borrow.Fn.Kinds.{In}
 use borrow.Fn.PlainCycle.{Measures, and, falls, is}
 use Rattle.writing.proofs.bytes.put_decimal.Reads as put-decimal

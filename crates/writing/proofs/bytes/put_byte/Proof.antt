@@ -1,4 +1,4 @@
--- `writing::bytes::put_byte` meets its contract. A byte past the end changes nothing. Assumes nothing.
+-- `writing::bytes::put_byte` meets its contract. A byte past the end is counted; at the largest place nothing is. Assumes nothing.
 use Rattle.writing.proofs.Writing as w
 use borrow.Author.Needs.{needs}
 use Rattle.writing.proofs.bytes.put_byte.Statement.{statement}
