@@ -1,3 +1,2 @@
--- Laws of what the programs share: a line put together, and a number's digits as the kit writes them.
-pub mod Adding
-pub mod Digits
+-- Laws of what the programs share: the lines that are printed. Assumes nothing.
+pub mod LineLaws

@@ -2,91 +2,53 @@
 use text::refusals::Refusal;
 use text::refusals::Source;
 use text::refusals::number;
-ghost use Prim.Native.Nat.{_+_, _≤_};
-ghost use lib.ListN.{length, take};
+use writing::bytes::put_bytes;
+use writing::bytes::put_decimal;
+use writing::bytes::put_number;
+ghost use lib.ListN.{take};
 ghost use mathlib.Core.List.{_∷_};
 ghost use mathlib.Core.Path.{_≡_};
 ghost use Rattle.answer.specs.Session.{refusalLine, sourceName};
 ghost use Rattle.io.specs.Counts.{Counts};
-ghost use Rattle.programs.specs.Lines.{Added, acceptedLine};
-ghost use Rattle.text.specs.Numbers.{decimal};
+ghost use Rattle.programs.specs.Lines.{acceptedLine};
 ghost use Rattle.text.specs.Reasons.{refusalOf, sourceOf};
+ghost use Rattle.writing.specs.Write.{Wrote};
 
 // More than the longest line has: 3 numbers of 20 digits, and 22 bytes.
 pub const ROOM: usize = 128;
 
-// Adds the bytes of s behind the first `at`.
-fn add_bytes(line: &mut [u8], at: usize, s: &[u8]) -> usize
-    requires { ⌜ at + length (now s) ≤ length (now line) ⌝ }
-    ensures { λ r. ⌜ Added (now (line .entry)) at (now (s .entry)) (now (line .exit)) r ⌝ }
-{
-    let mut i = 0;
-    while i < s.len() {
-        line[at + i] = s[i];
-        i += 1;
-    }
-    at + i
-}
-
-// Adds n in decimal.
-fn add_decimal(line: &mut [u8], at: usize, n: usize) -> usize
-    requires { ⌜ at + 20 ≤ length (now line) ⌝ }
-    ensures { λ r. ⌜ Added (now (line .entry)) at (decimal n) (now (line .exit)) r ⌝ }
-    ensures { λ r. ⌜ r ≤ at + 20 ⌝ }
-{
-    let mut digits = [0u8; 20];
-    let k = io::decimal(n as u64, &mut digits);
-    add_bytes(line, at, &digits[..k])
-}
-
-// Adds a space, and n in decimal.
-fn add_number(line: &mut [u8], at: usize, n: usize) -> usize
-    requires { ⌜ at + 21 ≤ length (now line) ⌝ }
-    ensures { λ r. ⌜ Added (now (line .entry)) at (32 ∷ decimal n) (now (line .exit)) r ⌝ }
-    ensures { λ r. ⌜ r ≤ at + 21 ⌝ }
-{
-    let next = add_bytes(line, at, b" ");
-    add_decimal(line, next, n)
-}
-
-// Adds a space, and `document` or `query`.
-fn add_source(line: &mut [u8], at: usize, source: Source) -> usize
-    requires { ⌜ at + 9 ≤ length (now line) ⌝ }
-    ensures { λ r. ⌜ Added (now (line .entry)) at (32 ∷ sourceName (sourceOf source)) (now (line .exit)) r ⌝ }
-    ensures { λ r. ⌜ r ≤ at + 9 ⌝ }
+// Writes a space, and `document` or `query`.
+fn put_source(line: &mut [u8], at: usize, source: Source) -> usize
+    ensures { λ r. ⌜ Wrote (now (line .entry)) at (32 ∷ sourceName (sourceOf source)) (now (line .exit)) r ⌝ }
 {
     match source {
-        Source::Document => add_bytes(line, at, b" document"),
-        Source::Query => add_bytes(line, at, b" query"),
+        Source::Document => put_bytes(line, at, b" document"),
+        Source::Query => put_bytes(line, at, b" query"),
     }
 }
 
-// Puts a refusal at the start of the line.
+// Writes a refusal at the start of the line.
 fn put_refusal(line: &mut [u8], refusal: Refusal) -> usize
-    requires { ⌜ 128 ≤ length (now line) ⌝ }
-    ensures { λ r. ⌜ Counts r (now (line .exit)) ⌝ }
-    ensures { λ r. ⌜ take r (now (line .exit)) ≡ refusalLine (refusalOf refusal) ⌝ }
+    ensures { λ r. ⌜ Wrote (now (line .entry)) 0 (refusalLine (refusalOf refusal)) (now (line .exit)) r ⌝ }
 {
     let reason = refusal.reason;
     let source = refusal.source;
-    let a = add_bytes(line, 0, b"(refused ");
-    let b = add_decimal(line, a, number(reason));
-    let c = add_source(line, b, source);
-    let d = add_number(line, c, refusal.start);
-    let e = add_number(line, d, refusal.len);
-    add_bytes(line, e, b")\n")
+    let a = put_bytes(line, 0, b"(refused ");
+    let b = put_decimal(line, a, number(reason));
+    let c = put_source(line, b, source);
+    let d = put_number(line, c, refusal.start);
+    let e = put_number(line, d, refusal.len);
+    put_bytes(line, e, b")\n")
 }
 
-// Puts what acceptance gives at the start of the line.
+// Writes what acceptance gives at the start of the line.
 fn put_accepted(line: &mut [u8], lines: usize, reserve: usize) -> usize
-    requires { ⌜ 128 ≤ length (now line) ⌝ }
-    ensures { λ r. ⌜ Counts r (now (line .exit)) ⌝ }
-    ensures { λ r. ⌜ take r (now (line .exit)) ≡ acceptedLine lines reserve ⌝ }
+    ensures { λ r. ⌜ Wrote (now (line .entry)) 0 (acceptedLine lines reserve) (now (line .exit)) r ⌝ }
 {
-    let a = add_bytes(line, 0, b"(accepted");
-    let b = add_number(line, a, lines);
-    let c = add_number(line, b, reserve);
-    add_bytes(line, c, b")\n")
+    let a = put_bytes(line, 0, b"(accepted");
+    let b = put_number(line, a, lines);
+    let c = put_number(line, b, reserve);
+    put_bytes(line, c, b")\n")
 }
 
 // The line of a refusal.

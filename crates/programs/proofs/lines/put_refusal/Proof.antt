@@ -1,62 +1,58 @@
 -- `programs::lines::put_refusal` meets its contract: its parts stand one behind the other. Assumes nothing.
 use borrow.Author.Needs.{needs}
-use lib.Seq.{length-take-le}
-use mathlib.Core.Path.{sym}
-use native.Mathlib.Omega.{arith}
 use Rattle.answer.specs.Session.{refusalLine}
-use Rattle.programs.proofs.Adding.{added-both}
+use Rattle.writing.proofs.Writing.{both}
 use Rattle.programs.proofs.lines.put_refusal.Statement.{statement}
 use Rattle.programs.proofs.lines.put_refusal.Tie as tie
 
-slice-aggregate-add-bytes : tie.Need-slice-aggregate-add-bytes
-slice-aggregate-add-bytes c = search needs
+slice-aggregate-put-bytes : tie.Need-slice-aggregate-put-bytes
+slice-aggregate-put-bytes c = search needs
 
-add-bytes-requires : tie.Need-add-bytes-requires
-add-bytes-requires c κs = omega arith
+put-bytes-requires : tie.Need-put-bytes-requires
+put-bytes-requires c κs = search needs
 
 number-requires : tie.Need-number-requires
 number-requires c κs = search needs
 
-add-decimal-requires : tie.Need-add-decimal-requires
-add-decimal-requires c κs = omega arith
+put-decimal-requires : tie.Need-put-decimal-requires
+put-decimal-requires c κs = search needs
 
-add-source-requires : tie.Need-add-source-requires
-add-source-requires c κs = omega arith
+put-source-requires : tie.Need-put-source-requires
+put-source-requires c κs = search needs
 
-add-number-requires : tie.Need-add-number-requires
-add-number-requires c κs = omega arith
+put-number-requires : tie.Need-put-number-requires
+put-number-requires c κs = search needs
 
-add-number-requires-2 : tie.Need-add-number-requires-2
-add-number-requires-2 c κs = omega arith
+put-number-requires-2 : tie.Need-put-number-requires-2
+put-number-requires-2 c κs = search needs
 
-slice-aggregate-add-bytes-2 : tie.Need-slice-aggregate-add-bytes-2
-slice-aggregate-add-bytes-2 c = search needs
+slice-aggregate-put-bytes-2 : tie.Need-slice-aggregate-put-bytes-2
+slice-aggregate-put-bytes-2 c = search needs
 
-add-bytes-requires-2 : tie.Need-add-bytes-requires-2
-add-bytes-requires-2 c κs = omega arith
+put-bytes-requires-2 : tie.Need-put-bytes-requires-2
+put-bytes-requires-2 c κs = search needs
 
 same-length : tie.Need-same-length
-same-length c = omega arith
+same-length c = search needs
 
 returns : tie.Need-returns
 unfolding refusalLine
 returns c =
-    let called = rw (c .before .before .before .before .before .before .before .before .before .before .before .before .before .before .before .before .before .before .before .before .number .ensures) at (c .before .before .before .before .before .before .before .before .before .before .before .before .before .before .before .before .before .before .before .add-decimal .ensures .0) in
-    let all = added-both (added-both (added-both (added-both (added-both (c .before .before .before .before .before .before .before .before .before .before .before .before .before .before .before .before .before .before .before .before .before .before .before .before .add-bytes .ensures) called) (c .before .before .before .before .before .before .before .before .before .before .before .before .before .before .before .add-source .ensures .0)) (c .before .before .before .before .before .before .before .before .before .before .before .add-number .ensures .0)) (c .before .before .before .before .before .before .before .add-number2 .ensures .0)) (c .before .before .add-bytes2 .ensures) in
-    ((omega arith, sym (length-take-le _ _ (omega arith))), all .put)
+    let called = rw (c .before .before .before .before .before .before .before .before .before .before .before .before .before .before .before .before .before .before .before .before .number .ensures) at (c .before .before .before .before .before .before .before .before .before .before .before .before .before .before .before .before .before .before .before .put-decimal .ensures) in
+    both (both (both (both (both (c .before .before .before .before .before .before .before .before .before .before .before .before .before .before .before .before .before .before .before .before .before .before .before .before .put-bytes .ensures) called) (c .before .before .before .before .before .before .before .before .before .before .before .before .before .before .before .put-source .ensures)) (c .before .before .before .before .before .before .before .before .before .before .before .put-number .ensures)) (c .before .before .before .before .before .before .before .put-number2 .ensures)) (c .before .before .put-bytes2 .ensures)
 
 pub put-refusal-spec : {M : Type 1} → statement M
 put-refusal-spec =
     tie.close
     (tie.spec
-    slice-aggregate-add-bytes
-    add-bytes-requires
+    slice-aggregate-put-bytes
+    put-bytes-requires
     number-requires
-    add-decimal-requires
-    add-source-requires
-    add-number-requires
-    add-number-requires-2
-    slice-aggregate-add-bytes-2
-    add-bytes-requires-2
+    put-decimal-requires
+    put-source-requires
+    put-number-requires
+    put-number-requires-2
+    slice-aggregate-put-bytes-2
+    put-bytes-requires-2
     same-length
     returns)
