@@ -3,7 +3,7 @@ use Prim.Native.Nat.{ℕ}
 use lib.Dec.{ltb}
 use lib.ListN.{drop, length, take}
 use mathlib.Core.Bool.{not}
-use mathlib.Core.List.{List, _++_}
+use mathlib.Core.List.{List, [], _++_}
 use Rattle.document.specs.Check.{check}
 use Rattle.document.specs.Lookup.{purposeOf, userOf}
 use Rattle.document.specs.Policy.{Doc}
@@ -13,7 +13,7 @@ use Rattle.query.specs.Authority.{Clock, firstGrant, inRange}
 use Rattle.query.specs.Query.{closedPart, mistypedQuery, resolved, unknownColumn, unknownParty}
 use Rattle.query.specs.QueryForm.{QueryForm, queryOf}
 use Rattle.lists.specs.Lists.{known}
-use Rattle.text.specs.Refusal.{Refusal, Result, Source, _>>=_, _>>_, accepted, document, need, pointing, pointingAll, pointingNowhere, query, refuseAt, refuseIf, refused}
+use Rattle.text.specs.Refusal.{Refusal, Result, Source, _>>=_, _>>_, accepted, document, file, need, pointing, pointingAll, pointingNowhere, query, refuseAt, refuseIf, refused}
 
 -- an accepted answer, and the position of the grant that authorised it
 pub record Answered : Type 0 where
@@ -65,10 +65,11 @@ unfoldable pub after : Outcome → List ℕ → List ℕ
 after (refused r) buffer = buffer
 after (accepted a) buffer = a .answer .bytes ++ drop (length (a .answer .bytes)) buffer
 
--- the text that a refusal points into
+-- the text that a refusal points into; of a file, which neither is, no byte is handed back (02, Q-1)
 unfoldable pub pointedText : (doc text : List ℕ) → Source → List ℕ
 pointedText doc text document = doc
 pointedText doc text query = text
+pointedText doc text file = []
 
 -- the part that a refusal hands back
 unfoldable pub partOf : (doc text : List ℕ) → Refusal → List ℕ

@@ -41,6 +41,12 @@ module _ (doc text : List ℕ) (r : Refusal) where
   unfolding partOf pointedText
   part-query e = ap (λ v. take (r .len) (drop (r .start) (pointedText doc text (sourceOf v)))) (sym e)
 
+  pub part-file : r .source ≡ source.File → [] ≡ partOf doc text (refusalOf r)
+  unfolding partOf pointedText
+  part-file e =
+      let none : List ℕ = [] in
+      nothing-in (take (r .len) (drop (r .start) none)) (omega (arith, length-take (r .len) (drop (r .start) none), length-drop (r .start) none)) ∙ ap (λ v. take (r .len) (drop (r .start) (pointedText doc text (sourceOf v)))) (sym e)
+
 -- each answer is that of asking, so alike documents give the same
 pub asks-both : {a b text : List ℕ} {c : Clock} {out out′ other other′ : List ℕ} {r : Pair} → Asks a text c out out′ (r .first) → Asks b text c other other′ (r .second) → AsksBoth a b text c out out′ other other′ r
 asks-both {a} {b} {text} {c} {out} {out′} {other} {other′} {r} x y = record {

@@ -20,7 +20,8 @@ fn piece(s: &[u8], start: usize, len: usize) -> &[u8]
     &s[start..]
 }
 
-// The part that a refusal hands back, of the document or of the query, whichever it points into.
+// The part that a refusal hands back, of the document or of the query, whichever it points into. A file's refusals hand back
+// nothing of it.
 pub fn part<'a>(doc: &'a [u8], query: &'a [u8], r: Refusal) -> &'a [u8]
     ensures { λ x. ⌜ now x ≡ partOf (now (doc .entry)) (now (query .entry)) (refusalOf r) ⌝ }
 {
@@ -28,5 +29,6 @@ pub fn part<'a>(doc: &'a [u8], query: &'a [u8], r: Refusal) -> &'a [u8]
     match source {
         Source::Document => piece(doc, r.start, r.len),
         Source::Query => piece(query, r.start, r.len),
+        Source::File => &query[..0],
     }
 }

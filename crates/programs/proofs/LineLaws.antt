@@ -10,7 +10,7 @@ use Rattle.io.specs.Counts.{Counts}
 use Rattle.programs.specs.Lines.{acceptedLine}
 use Rattle.text.specs.Bytes.{ascii}
 use Rattle.text.specs.Numbers.{decimal}
-use Rattle.text.specs.Refusal.{Refusal, Source, document, query}
+use Rattle.text.specs.Refusal.{Refusal, Source, document, file, query}
 use Rattle.writing.proofs.Digits.{decimal-short}
 use Rattle.writing.proofs.Writing.{filled}
 use Rattle.writing.specs.Write.{Wrote}
@@ -19,6 +19,7 @@ source-short : (s : Source) → length (sourceName s) ≤ 8
 unfolding sourceName
 source-short document = omega arith
 source-short query = omega arith
+source-short file = omega arith
 
 -- a refusal's line has at most 82 bytes
 pub refusal-short : (x : Refusal) → length (refusalLine x) ≤ 128

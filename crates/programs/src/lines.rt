@@ -17,13 +17,14 @@ ghost use Rattle.writing.specs.Write.{Wrote};
 // More than the longest line has: 3 numbers of 20 digits, and 22 bytes.
 pub const ROOM: usize = 128;
 
-// Writes a space, and `document` or `query`.
+// Writes a space, and `document`, `query` or `file`.
 fn put_source(line: &mut [u8], at: usize, source: Source) -> usize
     ensures { λ r. ⌜ Wrote (now (line .entry)) at (32 ∷ sourceName (sourceOf source)) (now (line .exit)) r ⌝ }
 {
     match source {
         Source::Document => put_bytes(line, at, b" document"),
         Source::Query => put_bytes(line, at, b" query"),
+        Source::File => put_bytes(line, at, b" file"),
     }
 }
 

@@ -2,7 +2,7 @@
 ghost use mathlib.Core.Path.{_≡_};
 ghost use Rattle.text.specs.Reasons.{numberOf};
 
-// Why a document or a query is refused; each case has its number in the paper.
+// Why a document, a query or a file is refused; each case has its number in the paper.
 pub enum Reason {
     TooLong,
     WrongForm,
@@ -22,12 +22,16 @@ pub enum Reason {
     MistypedQuery,
     Closed,
     BufferTooShort,
+    MalformedRecord,
+    UnfitField,
+    ImportTooShort,
 }
 
 // The text that a refusal points into.
 pub enum Source {
     Document,
     Query,
+    File,
 }
 
 // A refusal: why, and the part handed back, by the place of its first byte and its length.
@@ -61,5 +65,8 @@ pub fn number(r: Reason) -> usize
         Reason::MistypedQuery => 16,
         Reason::Closed => 17,
         Reason::BufferTooShort => 18,
+        Reason::MalformedRecord => 19,
+        Reason::UnfitField => 20,
+        Reason::ImportTooShort => 21,
     }
 }
