@@ -1,2 +1,3 @@
 -- What writing into a lent buffer gives. Assumes nothing.
 pub mod Write
+pub mod Copy
