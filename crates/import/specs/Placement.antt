@@ -1,0 +1,43 @@
+-- What the functions say that write row lines: they go by the file's positions, and are right where the file was read there and its fields are names and numbers.
+use Prim.Native.Nat.{_≤_, ℕ}
+use lib.ListN.{length}
+use mathlib.Core.Bool.{true}
+use mathlib.Core.List.{List, _∷_}
+use mathlib.Core.Option.{none, some}
+use mathlib.Core.Path.{_≡_}
+use Rattle.form.specs.RowText.{spaced}
+use Rattle.import.specs.Fields.{Field, field}
+use Rattle.import.specs.Importing.{firstUnfit, lineOf, linesOf}
+use Rattle.import.specs.Records.{Entry, fields, records, split}
+use Rattle.import.specs.declared.rows.Placed.{Placed}
+use Rattle.lists.specs.Lists.{allOf}
+use Rattle.text.specs.Names.{Name}
+use Rattle.text.specs.Numbers.{isValue}
+use Rattle.text.specs.Reader.{Left, from}
+use Rattle.writing.specs.Write.{Wrote}
+
+-- the bytes were written, and r says where to go on in the buffer and in the file
+pub record Placing (l : Left) (before : List ℕ) (to : ℕ) (bytes after : List ℕ) (r : Placed) : Type 0 where
+  pub wrote : Wrote before to bytes after (r .to)
+  pub next : r .at ≡ l .at
+
+-- a space and a field; in any case the buffer keeps its length, and r goes on in the file
+pub record FieldPlaced (s : List ℕ) (at : ℕ) (before : List ℕ) (to : ℕ) (after : List ℕ) (r : Placed) : Type 0 where
+  pub kept : length after ≡ length before
+  pub on : at ≤ r .at
+  pub placed : (v : Field) (l : Left) → field (from s at) ≡ some (v, l) → isValue v ≡ true → Placing l before to (32 ∷ v) after r
+
+-- the fields of a record, each behind a space
+pub record FieldsPlaced (s : List ℕ) (at : ℕ) (before : List ℕ) (to : ℕ) (after : List ℕ) (r : Placed) : Type 0 where
+  pub kept : length after ≡ length before
+  pub placed : (vs : List Field) (l : Left) → fields (from s at) ≡ some (vs, l) → allOf isValue vs ≡ true → Placing l before to (spaced vs) after r
+
+-- the row line of a record
+pub record RowPlaced (s : List ℕ) (at : ℕ) (t label : Name) (before : List ℕ) (to : ℕ) (after : List ℕ) (r : Placed) : Type 0 where
+  pub kept : length after ≡ length before
+  pub placed : (vs : List Field) (l : Left) → fields (from s at) ≡ some (vs, l) → allOf isValue vs ≡ true → Placing l before to (lineOf t label vs) after r
+
+-- the row lines of a file
+pub record RowsPlaced (s : List ℕ) (count : ℕ) (t label : Name) (before after : List ℕ) (next : ℕ) : Type 0 where
+  pub kept : length after ≡ length before
+  pub placed : (es : List Entry) → records s ≡ split es → firstUnfit es ≡ none → count ≡ length es → Wrote before 0 (linesOf t label es) after next

@@ -1,0 +1,73 @@
+// Row lines, written from a file of which it is known that its fields are names and numbers.
+use text::bytes::byte_at;
+use text::walking::skip_byte;
+use writing::bytes::copy_word;
+use writing::bytes::put_byte;
+use writing::bytes::put_bytes;
+ghost use Rattle.import.specs.Placement.{FieldPlaced, FieldsPlaced, RowPlaced, RowsPlaced};
+
+// Where the next byte goes in the buffer, and where to read on in the file.
+pub struct Placed {
+    pub to: usize,
+    pub at: usize,
+}
+
+// Writes a space and the field at a position. Gives where the field ends.
+fn put_field(out: &mut [u8], to: usize, s: &[u8], at: usize) -> Placed
+    ensures { λ r. ⌜ FieldPlaced (now (s .entry)) at (now (out .entry)) to (now (out .exit)) r ⌝ }
+{
+    let start = skip_byte(s, at, b'"');
+    let next = put_byte(out, to, b' ');
+    let c = copy_word(out, next, s, start);
+    Placed {
+        to: c.to,
+        at: c.from + (start - at),
+    }
+}
+
+// Writes the fields of the record at a position, each behind a space. Gives where the next record begins.
+fn put_fields(out: &mut [u8], to: usize, s: &[u8], at: usize) -> Placed
+    ensures { λ r. ⌜ FieldsPlaced (now (s .entry)) at (now (out .entry)) to (now (out .exit)) r ⌝ }
+{
+    let mut t = to;
+    let mut i = at;
+    loop {
+        let p = put_field(out, t, s, i);
+        t = p.to;
+        let e = p.at;
+        if byte_at(s, e) != b',' {
+            let next = skip_byte(s, skip_byte(s, e, b'\r'), b'\n');
+            return Placed { to: t, at: next };
+        }
+        i = e + 1;
+    }
+}
+
+// Writes the row line of the record at a position. Gives where the next record begins.
+fn put_row(out: &mut [u8], to: usize, s: &[u8], at: usize, table: &[u8], label: &[u8]) -> Placed
+    ensures { λ r. ⌜ RowPlaced (now (s .entry)) at (now (table .entry)) (now (label .entry)) (now (out .entry)) to (now (out .exit)) r ⌝ }
+{
+    let a = put_bytes(out, to, b"(row ");
+    let b = put_bytes(out, a, table);
+    let c = put_byte(out, b, b' ');
+    let d = put_bytes(out, c, label);
+    let p = put_fields(out, d, s, at);
+    let e = put_bytes(out, p.to, b")\n");
+    Placed { to: e, at: p.at }
+}
+
+// Writes the row lines of the file's records, of which there are count.
+pub(crate) fn put_rows(out: &mut [u8], s: &[u8], count: usize, table: &[u8], label: &[u8]) -> usize
+    ensures { λ r. ⌜ RowsPlaced (now (s .entry)) count (now (table .entry)) (now (label .entry)) (now (out .entry)) (now (out .exit)) r ⌝ }
+{
+    let mut to = 0;
+    let mut at = 0;
+    let mut k = 0;
+    while k < count {
+        let p = put_row(out, to, s, at, table, label);
+        to = p.to;
+        at = p.at;
+        k += 1;
+    }
+    to
+}
