@@ -56,7 +56,7 @@ behindLabel-placeless (plain w ∷ is) = go (isName (w .bytes))
     go false = refl
 behindLabel-placeless (labelled v l ∷ is) = refl
 
-rowValues-placeless : (s : Scheme ℕ) (is : List Item) → rowValues s (map placelessItem is) ≡ Option·map (map placeless) (rowValues s is)
+pub rowValues-placeless : (s : Scheme ℕ) (is : List Item) → rowValues s (map placelessItem is) ≡ Option·map (map placeless) (rowValues s is)
 unfolding rowValues
 rowValues-placeless unlabelled is = plainValues-placeless is
 rowValues-placeless (byTable l) is = plainValues-placeless is
@@ -80,7 +80,7 @@ bracketLabels-placeless [] = refl
 bracketLabels-placeless (plain w ∷ is) = bracketLabels-placeless is
 bracketLabels-placeless (labelled v l ∷ is) = ap (λ ws. placeless l ∷ ws) (bracketLabels-placeless is)
 
-rowLabels-placeless : (s : Scheme ℕ) (is : List Item) → rowLabels s (map placelessItem is) ≡ map placeless (rowLabels s is)
+pub rowLabels-placeless : (s : Scheme ℕ) (is : List Item) → rowLabels s (map placelessItem is) ≡ map placeless (rowLabels s is)
 unfolding rowLabels
 rowLabels-placeless unlabelled is = refl
 rowLabels-placeless (byTable l) is = refl
@@ -104,7 +104,7 @@ rowMeant-placeless d t is =
     )
 
 -- a form whose parts are those of a row form is a row form
-row-form : (f : Form) (t : Word) (is : List Item) → rowParts f ≡ some (t, is) → (u : Word) × (js : List Item) × (f ≡ row u js) × (placeless u ≡ t) × (map placelessItem js ≡ is)
+pub row-form : (f : Form) (t : Word) (is : List Item) → rowParts f ≡ some (t, is) → (u : Word) × (js : List Item) × (f ≡ row u js) × (placeless u ≡ t) × (map placelessItem js ≡ is)
 unfolding rowParts
 row-form (row u js) t is e = let p = Option·some-injective _ _ e in (u, js, refl, ap (λ x. x .0) p, ap (λ x. x .1) p)
 row-form (purpose n p) t is e = absurd (Option·none-ne-some _ e)

@@ -3,7 +3,7 @@ use Prim.Native.Nat.{_+_, _-_, _<_, _≤_, suc, ℕ}
 use borrow.Author.Tests.{eq-eqb, ne-eqb, not-true}
 use lib.Dec.{eqb}
 use lib.ListN.{drop, drop-of-length-le, getD, length, take}
-use mathlib.Core.Bool.{Bool, false, not, true}
+use mathlib.Core.Bool.{Bool, cond, false, not, true}
 use mathlib.Core.List.{List, [], _++_, _∷_}
 use mathlib.Core.Path.{_∙_, _≡_, ap, ap₂, refl, sym}
 use native.Mathlib.Omega.{arith}
@@ -35,6 +35,30 @@ cut-last [] h = refl
 cut-last (b ∷ line) h =
     let n = no-feed-first b line h in
     rw (cut-last line (n .1), n .0)
+
+-- ---- two texts joined
+
+-- pieces with further pieces behind them: what stood behind the last line feed begins the next piece
+unfoldable pub joined : List ℕ → List (List ℕ) → Pieces → Pieces
+joined piece [] ps = record { head = piece ++ ps .head; others = ps .others }
+joined piece (q ∷ qs) ps = record { head = piece; others = joined q qs ps .head ∷ joined q qs ps .others }
+
+-- the pieces of two texts joined
+pub cut-joined : (xs ys : List ℕ) → cut (xs ++ ys) ≡ joined (cut xs .head) (cut xs .others) (cut ys)
+unfolding cut inFront joined
+cut-joined [] ys = refl
+cut-joined (b ∷ xs) ys = ap (inFront b) (cut-joined xs ys) ∙ go (eqb b 10) (cut xs .head) (cut xs .others) (cut ys)
+  where
+    longer : (piece : List ℕ) (qs : List (List ℕ)) (ps : Pieces) → _≡_ {A = Pieces} (record { head = b ∷ joined piece qs ps .head; others = joined piece qs ps .others }) (joined (b ∷ piece) qs ps)
+    longer piece [] ps = unfold joined in refl
+    longer piece (q ∷ qs) ps = unfold joined in refl
+
+    go : (x : Bool) (piece : List ℕ) (qs : List (List ℕ)) (ps : Pieces)
+        → cond {A = Pieces} x (record { head = []; others = joined piece qs ps .head ∷ joined piece qs ps .others }) (record { head = b ∷ joined piece qs ps .head; others = joined piece qs ps .others })
+        ≡ joined (cond {A = Pieces} x (record { head = []; others = piece ∷ qs }) (record { head = b ∷ piece; others = qs }) .head)
+        (cond {A = Pieces} x (record { head = []; others = piece ∷ qs }) (record { head = b ∷ piece; others = qs }) .others) ps
+    go true piece qs ps = unfold joined in refl
+    go false piece qs ps = longer piece qs ps
 
 -- ---- the same at positions of a text, as a loop of code goes through it
 
