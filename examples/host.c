@@ -41,6 +41,11 @@ static const char wrong_policy[] = POLICY_BEFORE_BO "(grant bill junior)\n";
 static const char query[] = "(select ana desk post sub (who) (gt due 50))";
 static const char query_bill[] = "(select ana desk bill sub (who) (gt due 50))";
 
+/* A list from the billing house, and the table for it; and one whose second record has a field too few. */
+static const char list[] = "Ida,40\r\n\"Bo\",75\r\n";
+static const char list_table[] = "(table list row (who name) (due num))\n";
+static const char wrong_list[] = "Ida,40\r\nBo\r\n";
+
 /* The clock of the sample: day 366 of a leap year, ten o'clock. */
 enum { YEAR = 2028, DAY = 366, HOUR = 10 };
 
@@ -50,6 +55,7 @@ enum { MARK = 0xA5 };
 /* Static, so that the stack is left to the gate. No reserve is larger. */
 static uint8_t buffer[GATE_RESERVE_BYTES];
 static uint8_t buffer10[GATE_RESERVE_BYTES];
+static uint8_t grown[GATE_DOCUMENT_BYTES];
 
 /* A string constant as a text, without the zero byte at its end. */
 static struct text text_of(const char *s)
@@ -68,7 +74,7 @@ static size_t least(uint64_t figure, size_t len)
 /* The part of a refusal, taken from the text that holds it. */
 static struct text part_of(struct text doc, struct text asked, const uint64_t figures[GATE_FIGURES])
 {
-    struct text t = figures[GATE_SOURCE] == GATE_IN_DOCUMENT ? doc : asked;
+    struct text t = figures[GATE_SOURCE] == GATE_IN_DOCUMENT ? doc : asked; /* the query, or a list */
     size_t start = least(figures[GATE_START], t.len);
     struct text part = {t.bytes + start, least(figures[GATE_PART], t.len - start)};
     return part;
@@ -89,6 +95,28 @@ static uint64_t measure(struct text doc, struct text asked, uint64_t figures[GAT
     return gate_measure(doc.bytes, doc.len, asked.bytes, asked.len, YEAR, DAY, HOUR, figures);
 }
 
+static uint64_t import_list(struct text file, uint8_t *out, size_t out_len, uint64_t figures[GATE_FIGURES])
+{
+    struct text table = text_of("list");
+    struct text label = text_of("free");
+    return gate_import(file.bytes, file.len, table.bytes, table.len, label.bytes, label.len, out, out_len, figures);
+}
+
+static uint64_t measure_list(struct text file, uint64_t figures[GATE_FIGURES])
+{
+    struct text table = text_of("list");
+    struct text label = text_of("free");
+    return gate_measure_import(file.bytes, file.len, table.bytes, table.len, label.bytes, label.len, figures);
+}
+
+/* Copies a text behind what stands in `grown`, as far as there is room, and gives the new length. */
+static size_t append(size_t at, const void *bytes, size_t len)
+{
+    size_t n = least(len, sizeof grown - at);
+    memcpy(grown + at, bytes, n);
+    return at + n;
+}
+
 /* Bytes as they are; a text may hold any. */
 static void print_bytes(const uint8_t *bytes, size_t len)
 {
@@ -98,8 +126,8 @@ static void print_bytes(const uint8_t *bytes, size_t len)
 static void print_refused(uint64_t number, struct text doc, struct text asked, const uint64_t figures[GATE_FIGURES])
 {
     struct text part = part_of(doc, asked, figures);
-    printf("refused %" PRIu64 " %s %" PRIu64 " %" PRIu64 ": [", number,
-           figures[GATE_SOURCE] == GATE_IN_DOCUMENT ? "document" : "query", figures[GATE_START], figures[GATE_PART]);
+    const char *source = figures[GATE_SOURCE] == GATE_IN_DOCUMENT ? "document" : figures[GATE_SOURCE] == GATE_IN_QUERY ? "query" : "file";
+    printf("refused %" PRIu64 " %s %" PRIu64 " %" PRIu64 ": [", number, source, figures[GATE_START], figures[GATE_PART]);
     print_bytes(part.bytes, part.len);
     printf("]\n");
 }
@@ -159,6 +187,7 @@ int main(void)
     struct text asked = text_of(query);
     struct text asked_bill = text_of(query_bill);
     struct text empty = text_of("");
+    struct text document = {grown, 0};
     uint64_t figures[GATE_FIGURES];
     uint64_t figures10[GATE_FIGURES];
     uint64_t number;
@@ -221,6 +250,26 @@ int main(void)
     print_checked(number, wrong, figures);
     number = ask(wrong, asked, buffer, reserve, figures);
     print_answered(number, wrong, asked, buffer, reserve, figures);
+    printf("the buffer is as it was: %s\n", yes(untouched(buffer, 0, sizeof buffer)));
+
+    printf("-- a list, measured, imported, and checked behind its table\n");
+    number = measure_list(text_of(list), figures);
+    print_measured(number, doc, text_of(list), figures);
+    if (number != GATE_ACCEPTED)
+        return EXIT_FAILURE;
+    length = least(figures[GATE_LENGTH], sizeof buffer);
+    number = import_list(text_of(list), buffer, length, figures);
+    if (number != GATE_ACCEPTED)
+        return EXIT_FAILURE;
+    print_bytes(buffer, length);
+    document.len = append(append(append(0, doc.bytes, doc.len), list_table, strlen(list_table)), buffer, length);
+    number = check(document, figures);
+    print_checked(number, document, figures);
+
+    printf("-- a list whose second record has a field too few\n");
+    memset(buffer, MARK, sizeof buffer);
+    number = import_list(text_of(wrong_list), buffer, sizeof buffer, figures);
+    print_refused(number, doc, text_of(wrong_list), figures);
     printf("the buffer is as it was: %s\n", yes(untouched(buffer, 0, sizeof buffer)));
 
     /* A host that printed only half of it did not succeed. */

@@ -34,6 +34,26 @@ mod gate {
                 hour: u64,
                 figures: *mut u64,
             ) -> u64;
+            pub fn gate_import(
+                file: *const u8,
+                file_len: usize,
+                table: *const u8,
+                table_len: usize,
+                label: *const u8,
+                label_len: usize,
+                out: *mut u8,
+                out_len: usize,
+                figures: *mut u64,
+            ) -> u64;
+            pub fn gate_measure_import(
+                file: *const u8,
+                file_len: usize,
+                table: *const u8,
+                table_len: usize,
+                label: *const u8,
+                label_len: usize,
+                figures: *mut u64,
+            ) -> u64;
         }
     }
 
@@ -69,6 +89,7 @@ mod gate {
     pub enum Source {
         Document,
         Query,
+        File,
     }
 
     /// A refusal: its number, and the place of its part.
@@ -84,7 +105,11 @@ mod gate {
     fn refusal(number: u64, figures: [u64; 5]) -> Refusal {
         Refusal {
             number,
-            source: if figures[0] == 1 { Source::Document } else { Source::Query },
+            source: match figures[0] {
+                1 => Source::Document,
+                2 => Source::Query,
+                _ => Source::File,
+            },
             start: figures[1] as usize,
             len: figures[2] as usize,
         }
@@ -148,19 +173,65 @@ mod gate {
         Ok(figures[0] as usize)
     }
 
-    /// The part of a refusal, from whichever text holds it. Cut at the text's end, so that with texts other than those asked
+    /// Writes the row lines of a comma-separated file, for a table and with a label, and gives their length. A refusal has a
+    /// number from 19 to 21 and leaves `out`; lines leave the bytes behind them.
+    pub fn import(file: &[u8], table: &[u8], label: &[u8], out: &mut [u8]) -> Result<usize, Refusal> {
+        let mut figures = [0; 5];
+        // SAFETY: as in `ask`.
+        let number = unsafe {
+            exported::gate_import(
+                file.as_ptr(),
+                file.len(),
+                table.as_ptr(),
+                table.len(),
+                label.as_ptr(),
+                label.len(),
+                out.as_mut_ptr(),
+                out.len(),
+                figures.as_mut_ptr(),
+            )
+        };
+        if number != 0 {
+            return Err(refusal(number, figures));
+        }
+        Ok(figures[0] as usize)
+    }
+
+    /// Measures those lines: their length, or the refusal that `import` gives with every buffer.
+    pub fn measure_import(file: &[u8], table: &[u8], label: &[u8]) -> Result<usize, Refusal> {
+        let mut figures = [0; 5];
+        // SAFETY: as in `check`.
+        let number = unsafe {
+            exported::gate_measure_import(
+                file.as_ptr(),
+                file.len(),
+                table.as_ptr(),
+                table.len(),
+                label.as_ptr(),
+                label.len(),
+                figures.as_mut_ptr(),
+            )
+        };
+        if number != 0 {
+            return Err(refusal(number, figures));
+        }
+        Ok(figures[0] as usize)
+    }
+
+    /// The part of a refusal, from whichever text holds it; of a file none is handed back. Cut at the text's end, so that with texts other than those asked
     /// it doesn't panic.
     pub fn part<'a>(doc: &'a [u8], query: &'a [u8], r: &Refusal) -> &'a [u8] {
         let text = match r.source {
             Source::Document => doc,
             Source::Query => query,
+            Source::File => b"",
         };
         let rest = &text[r.start.min(text.len())..];
         &rest[..r.len.min(rest.len())]
     }
 }
 
-use gate::{ask, check, measure, part, Answer, Checked, Clock, Refusal, Source};
+use gate::{ask, check, import, measure, measure_import, part, Answer, Checked, Clock, Refusal, Source};
 
 const POLICY: &str = "\
 (purpose all)
@@ -183,6 +254,11 @@ const POLICY: &str = "\
 const QUERY: &str = "(select ana desk post sub (who) (gt due 50))";
 const QUERY_BILL: &str = "(select ana desk bill sub (who) (gt due 50))";
 
+/// A list from the billing house, and the table for it; and one whose second record has a field too few.
+const LIST: &str = "Ida,40\r\n\"Bo\",75\r\n";
+const LIST_TABLE: &str = "(table list row (who name) (due num))\n";
+const WRONG_LIST: &str = "Ida,40\r\nBo\r\n";
+
 /// The clock of the sample: day 366 of a leap year, ten o'clock.
 const CLOCK: Clock = Clock { year: 2028, day: 366, hour: 10 };
 
@@ -193,6 +269,7 @@ fn print_refused(to: &mut impl Write, doc: &[u8], query: &[u8], r: &Refusal) -> 
     let source = match r.source {
         Source::Document => "document",
         Source::Query => "query",
+        Source::File => "file",
     };
     write!(to, "refused {} {} {} {}: [", r.number, source, r.start, r.len)?;
     // Bytes as they are; a text may hold any.
@@ -304,6 +381,21 @@ fn show(to: &mut impl Write) -> io::Result<bool> {
     print_checked(to, wrong, &check(wrong))?;
     let refused = ask(wrong, query, CLOCK, &mut buffer);
     print_answered(to, wrong, query, &buffer, &refused)?;
+    writeln!(to, "the buffer is as it was: {}", yes(untouched(&buffer)))?;
+
+    writeln!(to, "-- a list, measured, imported, and checked behind its table")?;
+    let measured = measure_import(LIST.as_bytes(), b"list", b"free");
+    print_measured(to, doc, b"", &measured)?;
+    let Ok(len) = measured else { return Ok(false) };
+    let mut lines = vec![MARK; len];
+    let Ok(_) = import(LIST.as_bytes(), b"list", b"free", &mut lines) else { return Ok(false) };
+    to.write_all(&lines)?;
+    let grown = [doc, LIST_TABLE.as_bytes(), &lines].concat();
+    print_checked(to, &grown, &check(&grown))?;
+
+    writeln!(to, "-- a list whose second record has a field too few")?;
+    let Err(refused) = import(WRONG_LIST.as_bytes(), b"list", b"free", &mut buffer) else { return Ok(false) };
+    print_refused(to, doc, b"", &refused)?;
     writeln!(to, "the buffer is as it was: {}", yes(untouched(&buffer)))?;
     Ok(true)
 }

@@ -1,21 +1,23 @@
 /* The purpose gate, for hosts in C and C++ on x86-64 (libgate.a).
  *
- * A host lends a document, a query, a clock and a buffer, and gets back an answer or a refusal. The gate allocates nothing,
+ * A host lends a document, a query, a clock and a buffer, and gets back an answer or a refusal; or a comma-separated file, and gets
+ * back the row lines that are made of it. The gate allocates nothing,
  * keeps no state between calls, reads no file and no clock of its own, and may be called from several threads at once.
  *
  * What a caller owes, in every call:
- * - A text or buffer is a pointer and a length in bytes. The pointer is valid for that length: readable for `doc` and
- *   `query`, readable and writable for `out`. The length alone ends a text; a zero byte is a byte like any other.
+ * - A text or buffer is a pointer and a length in bytes. The pointer is valid for that length: readable for `doc`, `query`,
+ *   `file`, `table` and `label`, readable and writable for `out`. The length alone ends a text; a zero byte is a byte like any
+ *   other.
  * - `figures` points to GATE_FIGURES numbers, aligned as uint64_t is.
- * - `out` overlaps neither text, and `figures` overlaps nothing else. The two texts are only read, so they may overlap.
+ * - `out` overlaps no text, and `figures` overlaps nothing else. Texts are only read, so they may overlap.
  * - No pointer is null. Where a length is 0, any other pointer will do; nothing is read or written through it.
  * - Until the call returns, no other thread writes the texts, and none touches `out` or `figures`.
  * - The calling thread has room on its stack: a call takes up to 335 KB (measured). Threads with small stacks need a larger one.
  * Nothing is owed of what the texts, the clock and the buffer hold. Every input has an outcome, and every call returns.
  *
  * What the calls give is proved for every input, as crates/gate/specs/Exports.antt says it (ExportsCheck, ExportsAsk,
- * ExportsMeasure). That the
- * caller keeps to the list above is not: a call that breaks it is undefined. Nothing outside the library is called but memset.
+ * ExportsMeasure, ExportsImport, ExportsMeasureImport). That the caller keeps to the list above is not: a call that breaks it is
+ * undefined. Nothing outside the library is called but memset.
  */
 #ifndef GATE_H
 #define GATE_H
@@ -63,13 +65,21 @@ enum gate_outcome {
     GATE_UNKNOWN_COLUMN = 15,      /* table or named column unknown; part: that name */
     GATE_MISTYPED_QUERY = 16,      /* wrong type in the condition; part: the operator or the value */
     GATE_CLOSED = 17,              /* table or column closed; part: that table or column */
-    GATE_BUFFER_TOO_SHORT = 18     /* answer longer than the lent buffer; part: empty, at the start */
+    GATE_BUFFER_TOO_SHORT = 18,    /* answer longer than the lent buffer; part: empty, at the start */
+
+    /* of the file, by gate_import and, but for 21, by gate_measure_import */
+    GATE_MALFORMED_RECORD = 19,    /* malformed record (another count of fields than the first, or quotes or a lone carriage
+                                      return that break RFC 4180); part: empty, at the start of the record */
+    GATE_UNFIT_FIELD = 20,         /* field not a name or number, or given table or label not a name; part: empty, at the start of
+                                      the record; of the file for table or label */
+    GATE_IMPORT_TOO_SHORT = 21     /* lent buffer too short; part: empty, at the start */
 };
 
 /* The text that holds the part of a refusal: figures[GATE_SOURCE]. */
 enum gate_source {
     GATE_IN_DOCUMENT = 1,
-    GATE_IN_QUERY = 2
+    GATE_IN_QUERY = 2,
+    GATE_IN_FILE = 3
 };
 
 /* Where each figure stands. The rest are 0. */
@@ -77,8 +87,8 @@ enum gate_checked_figure {         /* gate_check, accepted */
     GATE_LINES = 0,                /* how many lines the document has */
     GATE_RESERVE = 1               /* no answer to a select whose column bracket repeats no column is longer */
 };
-enum gate_answered_figure {        /* gate_ask, accepted; of gate_measure the first alone */
-    GATE_LENGTH = 0,               /* how many bytes of the buffer the answer fills, from the first on */
+enum gate_answered_figure {        /* gate_ask, accepted; of gate_measure, gate_import and gate_measure_import the first alone */
+    GATE_LENGTH = 0,               /* how many bytes of the buffer the answer or the lines fill, from the first on */
     GATE_GRANT = 1,                /* the position, counted from 0, of the first grant that authorises the query */
     GATE_PASSED = 2,               /* the rows given */
     GATE_WITHHELD = 3,             /* the rows withheld */
@@ -105,6 +115,20 @@ uint64_t gate_ask(const uint8_t *doc, size_t doc_len, const uint8_t *query, size
  * is never 18 and which gate_ask would give with every buffer. A buffer shorter than that length is refused with 18, no other. */
 uint64_t gate_measure(const uint8_t *doc, size_t doc_len, const uint8_t *query, size_t query_len, uint64_t year, uint64_t day,
                       uint64_t hour, uint64_t *figures);
+
+/* Writes one row line `(row TABLE LABEL v ..)` for each record of a comma-separated file (RFC 4180, both line endings, every record
+ * data), for a table of scheme row. The file may have any length; no document is looked at, so that the lines are checked as part of
+ * one. The part of a refusal is empty, at the start of the first record concerned, or at the file's start.
+ * Returns GATE_ACCEPTED, the lines standing in the first bytes of `out` and the bytes behind them being as they were; or 19, 20 or
+ * 21, every byte of `out` being as it was. */
+uint64_t gate_import(const uint8_t *file, size_t file_len, const uint8_t *table, size_t table_len, const uint8_t *label,
+                     size_t label_len, uint8_t *out, size_t out_len, uint64_t *figures);
+
+/* Measures those lines, so that a host can lend gate_import exactly enough. Returns GATE_ACCEPTED, with their length in
+ * figures[GATE_LENGTH] and 0 in the others; or 19 or 20, as gate_import would with every buffer; or 21 where the lines have more
+ * than 2^63 - 1 bytes, which no buffer has. A buffer shorter than that length is refused with 21, no other. */
+uint64_t gate_measure_import(const uint8_t *file, size_t file_len, const uint8_t *table, size_t table_len, const uint8_t *label,
+                             size_t label_len, uint64_t *figures);
 
 #ifdef __cplusplus
 }

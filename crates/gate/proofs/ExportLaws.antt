@@ -11,7 +11,7 @@ use Rattle.checker.specs.Outcome.{Reserved, checkedAs, linesOnly}
 use Rattle.checker.specs.declared.documents.Checked.{Checked}
 use Rattle.checker.specs.declared.documents.Checked.the-variants as checked
 use Rattle.document.specs.Check.{Accepted, check}
-use Rattle.gate.specs.Exports.{ExportsAsk, ExportsCheck, ExportsMeasure, Refuses, askFigures, checkFigures, codeOf, measureFigures}
+use Rattle.gate.specs.Exports.{ExportsAsk, ExportsCheck, ExportsImport, ExportsMeasure, ExportsMeasureImport, Refuses, StoresLength, askFigures, checkFigures, codeOf, measureFigures}
 use Rattle.gate.specs.Outside.{Asks, Figures, Measures, answeredAs, figuresOf, inFigures, measuredAs}
 use Rattle.gate.specs.Reserved.{ChecksDocument, HasReserve}
 use Rattle.gate.specs.declared.asking.Answered.{Answered}
@@ -19,12 +19,17 @@ use Rattle.gate.specs.declared.asking.Answered.the-variants as answered
 use Rattle.gate.specs.declared.asking.Figures as code
 use Rattle.gate.specs.declared.measuring.Measured.{Measured}
 use Rattle.gate.specs.declared.measuring.Measured.the-variants as measured
+use Rattle.import.specs.Importing.{measureImport}
+use Rattle.import.specs.Outside.{Imports, importedAs}
+use Rattle.import.specs.declared.importing.Imported.{Imported}
+use Rattle.import.specs.declared.importing.Imported.the-variants as imported
 use Rattle.query.specs.Authority.{Clock}
+use Rattle.text.specs.Names.{Name}
 use Rattle.text.proofs.RefusalLaws.{not-refused}
 use Rattle.text.specs.Reasons.{numberOf, refusalOf}
 use Rattle.text.specs.Refusal.{Result, accepted, refused}
 use Rattle.text.specs.declared.refusals.Reason.{Reason}
-use Rattle.text.specs.declared.refusals.Reason.the-variants.{BufferTooShort, ClockOutOfRange, Closed, LateAttribute, MistypedQuery, NameTaken, NameUnknown, NotAQuery, NotAuthorised, OverBound, RoleNotGiven, SecondRoot, TooLong, UnknownColumn, UnknownParty, WrongForm, WrongType, WrongValues}
+use Rattle.text.specs.declared.refusals.Reason.the-variants.{BufferTooShort, ClockOutOfRange, Closed, ImportTooShort, LateAttribute, MalformedRecord, MistypedQuery, NameTaken, NameUnknown, NotAQuery, NotAuthorised, OverBound, RoleNotGiven, SecondRoot, TooLong, UnfitField, UnknownColumn, UnknownParty, WrongForm, WrongType, WrongValues}
 use Rattle.text.specs.declared.refusals.Refusal.{Refusal}
 
 -- no refusal has the code 0
@@ -47,6 +52,9 @@ numbered UnknownColumn e = omega (arith, e)
 numbered MistypedQuery e = omega (arith, e)
 numbered Closed e = omega (arith, e)
 numbered BufferTooShort e = omega (arith, e)
+numbered MalformedRecord e = omega (arith, e)
+numbered UnfitField e = omega (arith, e)
+numbered ImportTooShort e = omega (arith, e)
 
 -- the outcome of a check and its number of lines have one code, and the one is accepted where the other is
 code-lines : (o : Result Accepted) → codeOf (linesOnly o) ≡ codeOf o
@@ -134,3 +142,26 @@ module _ (doc text : List ℕ) (c : Clock) (figures : List ℕ) (x : Measured) (
   length-measure n told f =
       let e : accepted n ≡ measure doc text c = sym (ap measuredAs told) ∙ h .is in
       record { code = ap codeOf e; filled = f ∙ ap measureFigures e; answers = λ z. sym e ∙ sym (ap (λ l. accepted (getD l 0 0)) f) }
+
+module _ (figures : List ℕ) (x : Imported) where
+  -- a file that is refused
+  pub refused-import : (n : ℕ) (r : Refusal) → x ≡ imported.Refused r → Refuses (refusalOf r) figures n → StoresLength (importedAs x) figures n
+  unfolding codeOf measureFigures
+  refused-import n r told f =
+      let e : refused (refusalOf r) ≡ importedAs x = sym (ap importedAs told) in
+      record { code = f .code ∙ ap codeOf e; filled = f .filled ∙ ap measureFigures e; accepts = λ z. absurd (numbered (r .reason) (sym (f .code) ∙ z)) }
+
+  -- a file whose lines have n bytes
+  pub lines-import : (n : ℕ) → x ≡ imported.Lines n → figures ≡ n ∷ 0 ∷ 0 ∷ 0 ∷ 0 ∷ [] → StoresLength (importedAs x) figures 0
+  unfolding codeOf measureFigures
+  lines-import n told f =
+      let e : accepted n ≡ importedAs x = sym (ap importedAs told) in
+      record { code = ap codeOf e; filled = f ∙ ap measureFigures e; accepts = λ z. sym e ∙ sym (ap (λ l. accepted (getD l 0 0)) f) }
+
+-- the export of an import
+pub exports-import : (bytes : List ℕ) (t l : Name) (before after′ figures : List ℕ) (n : ℕ) (x : Imported) → Imports bytes t l before after′ x → StoresLength (importedAs x) figures n → ExportsImport bytes t l before after′ figures n
+exports-import bytes t l before after′ figures n x i s = record { stores = subst (λ o. StoresLength o figures n) (i .is) s; buffer = i .buffer }
+
+-- that of measuring one
+pub exports-measure-import : (bytes : List ℕ) (t l : Name) (figures : List ℕ) (n : ℕ) (x : Imported) → importedAs x ≡ measureImport bytes t l → StoresLength (importedAs x) figures n → ExportsMeasureImport bytes t l figures n
+exports-measure-import bytes t l figures n x e s = subst (λ o. StoresLength o figures n) e s

@@ -1,4 +1,4 @@
--- What the exported functions hand to a host (01, "Asking"): a code, and five figures.
+-- What the exported functions hand to a host (01, "Asking"; 02, Q-1 and Q-4): a code, and five figures.
 use Prim.Native.Nat.{ℕ}
 use lib.ListN.{getD, length}
 use mathlib.Core.List.{List, [], _∷_}
@@ -7,8 +7,10 @@ use Rattle.answer.specs.Ask.{Answered, after, ask, measure}
 use Rattle.answer.specs.Reserve.{IsReserve}
 use Rattle.checker.specs.Outcome.{linesOnly}
 use Rattle.document.specs.Check.{Accepted, check}
+use Rattle.import.specs.Importing.{bufferAfter, importing, lengthOnly, measureImport}
 use Rattle.query.specs.Authority.{Clock}
-use Rattle.text.specs.Refusal.{Refusal, Result, Source, accepted, document, query, refused}
+use Rattle.text.specs.Names.{Name}
+use Rattle.text.specs.Refusal.{Refusal, Result, Source, accepted, document, file, query, refused}
 use Rattle.gate.specs.Outside.{Figures, inFigures}
 
 -- the code of a result: 0, or the refusal's number
@@ -16,10 +18,11 @@ unfoldable pub codeOf : {A : Type 0} → Result A → ℕ
 codeOf (refused r) = r .number
 codeOf (accepted x) = 0
 
--- the text that a refusal points into: 1 for the document, 2 for the query
+-- the text that a refusal points into: 1 for the document, 2 for the query, 3 for a file
 unfoldable pub sourceCode : Source → ℕ
 sourceCode document = 1
 sourceCode query = 2
+sourceCode file = 3
 
 -- the figures of a refusal: the text, and the part that it points to
 unfoldable pub refusalFigures : Refusal → List ℕ
@@ -35,7 +38,7 @@ unfoldable pub askFigures : Result Figures → List ℕ
 askFigures (refused r) = refusalFigures r
 askFigures (accepted x) = x .len ∷ x .grant ∷ x .passed ∷ x .withheld ∷ x .unmatched ∷ []
 
--- the figures of measuring: the answer's length, or those of the refusal
+-- the figures of measuring and of importing: the length of the answer or of the lines, or those of the refusal
 unfoldable pub measureFigures : Result ℕ → List ℕ
 measureFigures (refused r) = refusalFigures r
 measureFigures (accepted n) = n ∷ 0 ∷ 0 ∷ 0 ∷ 0 ∷ []
@@ -70,3 +73,19 @@ pub record ExportsMeasure (doc text : List ℕ) (c : Clock) (figures : List ℕ)
   pub code : n ≡ codeOf (measure doc text c)
   pub filled : figures ≡ measureFigures (measure doc text c)
   pub answers : n ≡ 0 → measure doc text c ≡ accepted (getD figures 0 0)
+
+-- the code n and the figures are those of a length, or of a refusal
+pub record StoresLength (o : Result ℕ) (figures : List ℕ) (n : ℕ) : Type 0 where
+  pub code : n ≡ codeOf o
+  pub filled : figures ≡ measureFigures o
+  pub accepts : n ≡ 0 → o ≡ accepted (getD figures 0 0)
+
+-- the code n and the figures are those of importing the file, and the lent buffer afterwards is what importing says; where n is
+-- 0, the file is accepted (02, Q-1)
+pub record ExportsImport (bytes : List ℕ) (t l : Name) (before after′ figures : List ℕ) (n : ℕ) : Type 0 where
+  pub stores : StoresLength (lengthOnly (importing bytes t l (length before))) figures n
+  pub buffer : after′ ≡ bufferAfter (importing bytes t l (length before)) before
+
+-- the code n and the figures are those of measuring the lines of the file
+abbrev pub ExportsMeasureImport : (bytes : List ℕ) (table label : Name) (figures : List ℕ) (n : ℕ) → Type 0
+ExportsMeasureImport bytes t l figures n = StoresLength (measureImport bytes t l) figures n

@@ -5,13 +5,17 @@ use crate::documents::check;
 use crate::measuring::Measured;
 use crate::measuring::measure;
 use checker::documents::Checked;
+use import::importing::Imported;
+use import::importing::import_rows;
+use import::importing::measure_rows;
 use query::clock::Clock;
 use text::refusals::Refusal;
 use text::refusals::Source;
 use text::refusals::number;
 ghost use mathlib.Core.List.{[], _∷_};
 ghost use mathlib.Core.Path.{_≡_};
-ghost use Rattle.gate.specs.Exports.{ExportsAsk, ExportsCheck, ExportsMeasure, Refuses, clockAt, sourceCode};
+ghost use Rattle.gate.specs.Exports.{ExportsAsk, ExportsCheck, ExportsImport, ExportsMeasure, ExportsMeasureImport, Refuses, StoresLength, clockAt, sourceCode};
+ghost use Rattle.import.specs.Outside.{importedAs};
 ghost use Rattle.text.specs.Reasons.{refusalOf, sourceOf};
 
 // Stores five figures.
@@ -28,6 +32,7 @@ fn source_code(s: Source) -> u64
     match s {
         Source::Document => 1,
         Source::Query => 2,
+        Source::File => 3,
     }
 }
 
@@ -113,4 +118,48 @@ pub extern "C" fn gate_measure(
             0
         }
     }
+}
+
+// Stores the figures of an import. Gives its code.
+fn store_imported(figures: &mut [u64; 5], x: Imported) -> u64
+    ensures { λ n. ⌜ StoresLength (importedAs x) (now (figures .exit)) n ⌝ }
+{
+    match x {
+        Imported::Refused(r) => store_refusal(figures, r),
+        Imported::Lines(len) => {
+            store_five(figures, len as u64, 0, 0, 0, 0);
+            0
+        }
+    }
+}
+
+// Writes one row line a record of a comma-separated file into the buffer. Gives 0, with the lines' length, or a refusal's number,
+// with the place in the file that the refusal points to.
+#[no_mangle]
+pub extern "C" fn gate_import(
+    file: &[u8],
+    table: &[u8],
+    label: &[u8],
+    out: &mut [u8],
+    figures: &mut [u64; 5],
+) -> u64
+    ensures { λ n. ⌜ ExportsImport (now (file .entry)) (now (table .entry)) (now (label .entry)) (now (out .entry)) (now (out .exit)) (now (figures .exit)) n ⌝ }
+{
+    let x = import_rows(file, table, label, out);
+    store_imported(figures, x)
+}
+
+// Measures the row lines of a comma-separated file. Gives 0, with their length, or a refusal's number, with the place in the file
+// that the refusal points to; 21 only where no buffer is long enough.
+#[no_mangle]
+pub extern "C" fn gate_measure_import(
+    file: &[u8],
+    table: &[u8],
+    label: &[u8],
+    figures: &mut [u64; 5],
+) -> u64
+    ensures { λ n. ⌜ ExportsMeasureImport (now (file .entry)) (now (table .entry)) (now (label .entry)) (now (figures .exit)) n ⌝ }
+{
+    let x = measure_rows(file, table, label);
+    store_imported(figures, x)
 }
