@@ -8,16 +8,16 @@ use clock_line::read_clock;
 use gate::asking::Answered;
 use gate::asking::ask;
 use libc::STDIN_FILENO;
+use programs::input::Loaded;
 use programs::input::read_some;
 use programs::lines;
 use programs::lines::refusal_line;
+use programs::output::within;
 use programs::output::write_out;
 use programs::policy;
-use programs::policy::Loaded;
 use programs::policy::load;
 use query::clock::Clock;
 use text::refusals::Refusal;
-ghost use Rattle.io.specs.Counts.{Counts};
 
 mod clock_line;
 
@@ -41,16 +41,6 @@ fn stopped(s: Session) -> Session {
     next.len = 0;
     next.more = false;
     next
-}
-
-// n, or the number of bytes where that is less.
-fn within(n: usize, bytes: &[u8]) -> usize
-    ensures { λ r. ⌜ Counts r (now (bytes .entry)) ⌝ }
-{
-    if n < bytes.len() {
-        return n;
-    }
-    bytes.len()
 }
 
 // The length of a refusal's part. Of a line that was not kept whole the gate saw one byte more than a query has, and so handed back

@@ -2,12 +2,12 @@
 // or `(refused NUMBER document START LENGTH)`. Where the file can't be read, or nothing can be written, standard error says why.
 use checker::documents::Checked;
 use checker::documents::check;
+use programs::input::Loaded;
 use programs::lines;
 use programs::lines::accepted_line;
 use programs::lines::refusal_line;
 use programs::output::write_out;
 use programs::policy;
-use programs::policy::Loaded;
 use programs::policy::load;
 use text::refusals::Refusal;
 

@@ -1,3 +1,3 @@
--- What the programs share: the lines that they print, and what reading policy.txt promises. Assumes nothing.
+-- What the programs share: the lines that they print, and what reading promises. Assumes nothing.
 pub mod Lines
-pub mod Policy
+pub mod Input

@@ -6,6 +6,16 @@ ghost use lib.ListN.{length};
 ghost use Rattle.io.specs.Counts.{Counts};
 ghost use Rattle.libc.specs.Io.{Moved};
 
+// n, or the number of bytes where that is less.
+pub fn within(n: usize, bytes: &[u8]) -> usize
+    ensures { λ r. ⌜ Counts r (now (bytes .entry)) ⌝ }
+{
+    if n < bytes.len() {
+        return n;
+    }
+    bytes.len()
+}
+
 // One write, made again until it takes bytes or fails. The turns are counted down as in reading.
 fn write_some(bytes: &[u8]) -> isize
     ensures { λ r. ⌜ Moved (length (now (bytes .entry))) r ⌝ }

@@ -1,36 +1,11 @@
 // The document in policy.txt.
-use crate::input::read_some;
+use crate::input::Loaded;
+use crate::input::read_all;
 use libc::ENOENT;
-ghost use Rattle.programs.specs.Policy.{Loads};
+ghost use Rattle.programs.specs.Input.{Loads};
 
 // One byte more than a document may have, which tells a longer one.
 pub const ROOM: usize = 60001;
-
-// What became of reading it: a text of so many bytes, or an error that standard error has told.
-pub enum Loaded {
-    Text(usize),
-    Failed,
-}
-
-// Reads until the input ends or the buffer is full. A read that fails leaves no text: what came before may be cut anywhere.
-fn fill(fd: i32, text: &mut [u8]) -> Loaded
-    ensures { λ r. ⌜ Loads (now (text .exit)) r ⌝ }
-{
-    let mut done = 0;
-    while done < text.len() {
-        let got = read_some(fd, &mut text[done..]);
-        if got < 0 {
-            os::fail(b"policy.txt");
-            return Loaded::Failed;
-        }
-        let n = io::count(got, &text[done..]);
-        if n == 0 {
-            return Loaded::Text(done);
-        }
-        done += n;
-    }
-    Loaded::Text(done)
-}
 
 // Reads policy.txt into the buffer. A file that does not exist is the empty text; one that can't be opened for another reason is an
 // error.
@@ -45,7 +20,7 @@ pub fn load(text: &mut [u8; ROOM]) -> Loaded
         os::fail(b"policy.txt");
         return Loaded::Failed;
     }
-    let r = fill(fd, text);
+    let r = read_all(fd, b"policy.txt", text);
     libc::close(fd);
     r
 }

@@ -1,10 +1,10 @@
--- `asking::within` meets its contract. Assumes nothing.
+-- `programs::output::within` meets its contract. Assumes nothing.
 use lib.ListN.{length}
 use lib.Seq.{length-take-le}
 use native.Mathlib.Omega.{arith}
 use mathlib.Core.Path.{sym}
-use Rattle.asking.proofs.within.Statement.{statement}
-use Rattle.asking.proofs.within.Tie as tie
+use Rattle.programs.proofs.output.within.Statement.{statement}
+use Rattle.programs.proofs.output.within.Tie as tie
 
 returns : tie.Need-returns
 returns c = (omega arith, sym (length-take-le (c .before .args .n) (c .before .args .bytes .now) (omega arith)))

@@ -1,18 +1,18 @@
--- `programs::policy::fill` meets its contract. The measure is the room that is left. Assumes nothing.
+-- `programs::input::read_all` meets its contract. The measure is the room that is left. Assumes nothing.
 use Prim.Native.Nat.{_-_, _≤_}
 use borrow.Author.Needs.{needs}
 use lib.ListN.{length}
 use lib.Seq.{length-take-le}
 use mathlib.Core.Path.{_≡_, refl, sym}
 use native.Mathlib.Omega.{arith}
-use Rattle.programs.proofs.policy.fill.Statement.{statement}
-use Rattle.programs.proofs.policy.fill.Tie as tie
+use Rattle.programs.proofs.input.read_all.Statement.{statement}
+use Rattle.programs.proofs.input.read_all.Tie as tie
 
 abbrev Inv-loop : tie.InvT-loop
-Inv-loop fd text₀ done₀ t6 text done = (length text ≡ length text₀) × (done ≤ length text)
+Inv-loop fd name text₀ done₀ text done = (length text ≡ length text₀) × (done ≤ length text)
 
 abbrev μ-loop : tie.MeasureT-loop
-μ-loop fd text₀ done₀ t6 text done = length text - done
+μ-loop fd name text₀ done₀ text done = length text - done
 
 loop-holds : tie.Need-loop-holds Inv-loop μ-loop
 loop-holds c = (refl, omega arith)
@@ -28,9 +28,6 @@ part-read-some-end c = omega arith
 
 read-some-requires : tie.Need-read-some-requires Inv-loop μ-loop
 read-some-requires c κs = search needs
-
-slice-aggregate-fail : tie.Need-slice-aggregate-fail Inv-loop μ-loop
-slice-aggregate-fail c = search needs
 
 fail-requires : tie.Need-fail-requires Inv-loop μ-loop
 fail-requires c κs = search needs
@@ -74,8 +71,8 @@ same-length-3 c = c .before .loop .inv .0
 returns-3 : tie.Need-returns-3 Inv-loop μ-loop
 returns-3 c = (omega arith, sym (length-take-le (c .before .loop .done) (c .before .loop .text) (omega arith)))
 
-pub fill-spec : {M : Type 1} → statement M
-fill-spec =
+pub read-all-spec : {M : Type 1} → statement M
+read-all-spec =
     tie.close
     (tie.spec
     Inv-loop
@@ -85,7 +82,6 @@ fill-spec =
     part-read-some-start
     part-read-some-end
     read-some-requires
-    slice-aggregate-fail
     fail-requires
     same-length
     returns

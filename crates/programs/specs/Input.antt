@@ -1,0 +1,11 @@
+-- What reading to the end of an input promises: what it says of the buffer. Of the bytes that are read no contract can speak.
+use Prim.Native.Nat.{ℕ}
+use mathlib.Core.List.{List}
+use Rattle.io.specs.Counts.{Counts}
+use Rattle.programs.specs.declared.input.Loaded.{Loaded}
+use Rattle.programs.specs.declared.input.Loaded.the-variants.{Failed, Text}
+
+-- a text that was read lies within the buffer
+abbrev pub Loads : List ℕ → Loaded → Type 0
+Loads buffer (Text n) = Counts n buffer
+Loads buffer Failed = Unit {0}
