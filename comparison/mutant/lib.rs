@@ -1,5 +1,5 @@
 //! The reference with one blunder switched on, for `comparison --mutant K`: most modules are the
-//! reference's own files; `answer`, `ask` and `check` are copies with the blunders in them.
+//! reference's own files; `answer`, `ask`, `check` and `import` are copies with the blunders in them.
 
 use std::sync::atomic::{AtomicU32, Ordering};
 
@@ -12,6 +12,7 @@ pub mod clock;
 pub mod condition;
 #[path = "../../reference/src/forms.rs"]
 pub mod forms;
+mod import;
 #[path = "../../reference/src/policy.rs"]
 pub mod policy;
 #[path = "../../reference/src/purpose.rs"]
@@ -29,10 +30,11 @@ pub use answer::Answer;
 pub use ask::ask;
 pub use check::{check, Accepted};
 pub use clock::Clock;
+pub use import::{import, measure_import};
 pub use refusal::{Refusal, Source};
 
 /// What each mutant does wrong, counted from 1.
-pub const BLUNDERS: [&str; 16] = [
+pub const BLUNDERS: [&str; 28] = [
     "a denied purpose closes downwards only",
     "labels tested for selected columns only",
     "withheld counted only where the condition holds",
@@ -49,7 +51,22 @@ pub const BLUNDERS: [&str; 16] = [
     "3 tested after 4",
     "9 tested before 5",
     "15 tested before 13 and 14",
+    "a lone carriage return ends a record",
+    "a blank line is no record",
+    "a quote inside a plain field is data",
+    "a doubled quote closes its field",
+    "20 given before a 19 further down",
+    "table and label tested before the records",
+    "table and label tested after the fields",
+    "table and label not tested where there is no record",
+    "the label not tested",
+    "a line ending at the file's end starts a record",
+    "lines written on 21",
+    "the first record left out as a header",
 ];
+
+/// The blunders from this one on are of importing.
+pub const IMPORTING: u32 = 17;
 
 static BLUNDER: AtomicU32 = AtomicU32::new(0);
 

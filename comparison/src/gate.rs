@@ -1,4 +1,4 @@
-//! The gate's three C exports, and the second implementation beside them, both as one kind of result.
+//! The gate's C exports, and the second implementation beside them, both as one kind of result.
 
 use reference::{Clock, Source};
 
@@ -28,12 +28,33 @@ extern "C" {
         hour: u64,
         figures: *mut u64,
     ) -> u64;
+    #[allow(clippy::too_many_arguments)]
+    fn gate_import(
+        file: *const u8,
+        file_len: usize,
+        table: *const u8,
+        table_len: usize,
+        label: *const u8,
+        label_len: usize,
+        out: *mut u8,
+        out_len: usize,
+        figures: *mut u64,
+    ) -> u64;
+    fn gate_measure_import(
+        file: *const u8,
+        file_len: usize,
+        table: *const u8,
+        table_len: usize,
+        label: *const u8,
+        label_len: usize,
+        figures: *mut u64,
+    ) -> u64;
 }
 
 #[cfg(feature = "stub")]
-use crate::stub::{gate_ask, gate_check, gate_measure};
+use crate::stub::{gate_ask, gate_check, gate_import, gate_measure, gate_measure_import};
 
-/// A number of 01 with its part: the source is 1 for the document, 2 for the query.
+/// A number of 01 or 02 with its part: the source is 1 for the document, 2 for the query, 3 for the file.
 #[derive(Clone, Copy, Debug, PartialEq, Eq)]
 pub struct Refused {
     pub number: u64,
@@ -55,6 +76,17 @@ pub enum Asked {
     Answered { length: u64, grant: u64, passed: u64, withheld: u64, unmatched: u64 },
     Refused(Refused),
 }
+
+/// A file with the names of the table and the label that its rows are for (02, Q-1).
+#[derive(Clone, Debug, PartialEq, Eq)]
+pub struct Import {
+    pub file: Vec<u8>,
+    pub table: Vec<u8>,
+    pub label: Vec<u8>,
+}
+
+/// The lines' length, or a refusal.
+pub type Imported = Result<u64, Refused>;
 
 /// Bytes that the figures hold before a call, so that each is seen to be written.
 const UNWRITTEN: u64 = 0x5a5a_5a5a_5a5a_5a5a;
@@ -82,10 +114,56 @@ impl Figures {
 
 fn refused(number: u64, figures: [u64; 5]) -> Result<Refused, String> {
     let [source, start, length, d, e] = figures;
-    if d != 0 || e != 0 || source > 2 || source == 0 || number > 18 {
+    let expected = match number {
+        1..=9 => 1,
+        10..=18 => 2,
+        _ => 3,
+    };
+    if d != 0 || e != 0 || source != expected || number > 21 {
         return Err(format!("refusal {number} with figures {figures:?}"));
     }
     Ok(Refused { number, source, start, length })
+}
+
+/// What an importing call gives: a length and nothing else, or a refusal of the file.
+fn imported(number: u64, figures: [u64; 5]) -> Result<Imported, String> {
+    match (number, figures) {
+        (0, [length, 0, 0, 0, 0]) => Ok(Ok(length)),
+        (19..=21, _) => Ok(Err(refused(number, figures)?)),
+        _ => Err(format!("imported: {number} with figures {figures:?}")),
+    }
+}
+
+/// The gate's importing.
+pub fn import(import: &Import, out: &mut [u8]) -> Result<Imported, String> {
+    let Import { file, table, label } = import;
+    let mut figures = Figures::new();
+    // As in `ask`.
+    let number = unsafe {
+        gate_import(
+            file.as_ptr(),
+            file.len(),
+            table.as_ptr(),
+            table.len(),
+            label.as_ptr(),
+            label.len(),
+            out.as_mut_ptr(),
+            out.len(),
+            figures.lent(),
+        )
+    };
+    imported(number, figures.read()?)
+}
+
+/// The gate's measuring of the same.
+pub fn measure_import(import: &Import) -> Result<Imported, String> {
+    let Import { file, table, label } = import;
+    let mut figures = Figures::new();
+    // As in `check`.
+    let number = unsafe {
+        gate_measure_import(file.as_ptr(), file.len(), table.as_ptr(), table.len(), label.as_ptr(), label.len(), figures.lent())
+    };
+    imported(number, figures.read()?)
 }
 
 /// The gate's checking, with its reserve (0 where refused).
@@ -215,6 +293,24 @@ impl Second {
     }
 }
 
+impl Second {
+    pub fn import(self, import: &Import, out: &mut [u8]) -> Imported {
+        let Import { file, table, label } = import;
+        match self {
+            Second::Reference => reference::import(file, table, label, out).map(|length| length as u64).map_err(of_reference),
+            Second::Mutant => mutant::import(file, table, label, out).map(|length| length as u64).map_err(of_mutant),
+        }
+    }
+
+    pub fn measure_import(self, import: &Import) -> Imported {
+        let Import { file, table, label } = import;
+        match self {
+            Second::Reference => reference::measure_import(file, table, label).map(|length| length as u64).map_err(of_reference),
+            Second::Mutant => mutant::measure_import(file, table, label).map(|length| length as u64).map_err(of_mutant),
+        }
+    }
+}
+
 /// What the second implementation measures; a mutant has no measuring of its own.
 pub fn measured(second: Second, doc: &[u8], query: &[u8], clock: Clock) -> Option<Result<u64, Refused>> {
     match second {
@@ -227,6 +323,7 @@ fn of_reference(refusal: reference::Refusal) -> Refused {
     let source = match refusal.source {
         Source::Document => 1,
         Source::Query => 2,
+        Source::File => 3,
     };
     Refused { number: u64::from(refusal.number), source, start: refusal.start as u64, length: refusal.len as u64 }
 }
@@ -235,6 +332,7 @@ fn of_mutant(refusal: mutant::Refusal) -> Refused {
     let source = match refusal.source {
         mutant::Source::Document => 1,
         mutant::Source::Query => 2,
+        mutant::Source::File => 3,
     };
     Refused { number: u64::from(refusal.number), source, start: refusal.start as u64, length: refusal.len as u64 }
 }

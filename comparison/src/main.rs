@@ -1,4 +1,4 @@
-//! The gate against the reference on random texts, and against itself on pairs of documents alike.
+//! The gate against the reference on random texts and files, and against itself on pairs of documents alike.
 
 // A difference is made once, at the end of a run.
 #![allow(clippy::result_large_err)]
@@ -7,7 +7,9 @@ mod cells;
 mod compare;
 mod damage;
 mod documents;
+mod files;
 mod gate;
+mod imports;
 mod model;
 mod pairs;
 mod queries;
@@ -18,6 +20,7 @@ mod texts;
 
 use compare::Buffers;
 use gate::{Second, Subject};
+use imports::{ImportTally, Imports};
 use pairs::PairTally;
 use random::Random;
 use std::process::ExitCode;
@@ -27,6 +30,7 @@ use texts::{Run, Tally};
 struct Options {
     texts: u64,
     pairs: u64,
+    files: u64,
     seed: u64,
     mutant: Option<u32>,
     /// How many cases for `tests/free` to print, instead of comparing.
@@ -34,7 +38,7 @@ struct Options {
 }
 
 fn options() -> Result<Options, String> {
-    let mut options = Options { texts: 20_000, pairs: 5_000, seed: 1, mutant: None, cells: None };
+    let mut options = Options { texts: 20_000, pairs: 5_000, files: 40_000, seed: 1, mutant: None, cells: None };
     let mut arguments = std::env::args().skip(1);
     while let Some(argument) = arguments.next() {
         let given = arguments.next().ok_or(format!("{argument}: a number is missing"))?;
@@ -42,6 +46,7 @@ fn options() -> Result<Options, String> {
         match argument.as_str() {
             "--texts" => options.texts = number,
             "--pairs" => options.pairs = number,
+            "--files" => options.files = number,
             "--seed" => options.seed = number,
             "--cells" => options.cells = Some(number),
             "--mutant" if (1..=mutant::BLUNDERS.len() as u64).contains(&number) => options.mutant = Some(number as u32),
@@ -55,7 +60,7 @@ fn main() -> ExitCode {
     let options = match options() {
         Ok(options) => options,
         Err(what) => {
-            eprintln!("{what}\ncomparison [--texts N] [--pairs N] [--seed S] [--mutant 1..{}] [--cells N]", mutant::BLUNDERS.len());
+            eprintln!("{what}\ncomparison [--texts N] [--pairs N] [--files N] [--seed S] [--mutant 1..{}] [--cells N]", mutant::BLUNDERS.len());
             return ExitCode::from(2);
         }
     };
@@ -67,7 +72,7 @@ fn main() -> ExitCode {
     }
 }
 
-/// Every text and pair; fails at the first difference, or where a refusal number was never seen.
+/// Every text, pair and file; fails at the first difference, or where a refusal number was never seen.
 fn compare_all(options: &Options) -> ExitCode {
     let start = Instant::now();
     let mut run = Run::new(Second::Reference);
@@ -90,8 +95,23 @@ fn compare_all(options: &Options) -> ExitCode {
             return ExitCode::FAILURE;
         }
     }
+    let pairs_done = start.elapsed();
+    let imports = match import_all(options, &mut buffers) {
+        Ok(imports) => imports,
+        Err(difference) => {
+            println!("DIFFERENCE: {difference}");
+            return ExitCode::FAILURE;
+        }
+    };
     summary(options, &tally, &pairs);
-    println!("seconds:           {:.1} texts, {:.1} pairs", texts_done.as_secs_f64(), (start.elapsed() - texts_done).as_secs_f64());
+    import_summary(&imports);
+    let seconds = [texts_done, pairs_done - texts_done, start.elapsed() - pairs_done].map(|time| time.as_secs_f64());
+    println!("seconds:           {:.1} texts, {:.1} pairs, {:.1} files", seconds[0], seconds[1], seconds[2]);
+    let unseen = if options.files > 0 { imports.missing() } else { Vec::new() };
+    if !unseen.is_empty() {
+        println!("FAILED: of importing never seen: {unseen:?}");
+        return ExitCode::FAILURE;
+    }
     let missing: Vec<usize> = (1..=18).filter(|&number| tally.refusals[number] == 0).collect();
     if !missing.is_empty() {
         println!("FAILED: refusals never seen: {missing:?}");
@@ -117,10 +137,54 @@ fn summary(options: &Options, tally: &Tally, pairs: &PairTally) {
     println!("pairs not alike:   {}, told apart {}", pairs.unlike, pairs.told_apart);
 }
 
+/// Every file: random ones, all short ones, and one document in ten files to which a list's lines are added.
+fn import_all(options: &Options, buffers: &mut Buffers) -> Result<ImportTally, String> {
+    let mut imports = Imports::new(Second::Reference);
+    for place in 0..options.files {
+        let random = &mut Random::new(options.seed, place | 1 << 41);
+        imports.random(random).map_err(|what| format!("{what}\nfile {place} of seed {}", options.seed))?;
+        if place % 10 == 0 {
+            let added = imports::desk(random, buffers, Second::Reference, &mut imports.tally);
+            added.map_err(|difference| format!("{difference}with the lines of file {place} of seed {}", options.seed))?;
+        }
+    }
+    if options.files > 0 {
+        imports.all_small()?;
+    }
+    Ok(imports.tally)
+}
+
+fn import_summary(tally: &ImportTally) {
+    let histogram = |refusals: &[u64; 22]| -> String { (1..=21).filter(|&n| refusals[n] > 0).map(|n| format!(" {n}:{}", refusals[n])).collect() };
+    println!("files:             {} and all {} of up to 7 bytes, the longest {} bytes", tally.files, tally.small, tally.longest);
+    println!("imported:          {} of {} calls, refused{}", tally.written, tally.calls, histogram(&tally.refusals));
+    println!("with lines added:  {} documents, accepted {} with {} lines more, refused{}", tally.documents, tally.accepted, tally.rows, histogram(&tally.refused));
+}
+
+/// A mutant of importing: a difference has to be found on files.
+fn catch_import(options: &Options, blunder: u32) -> ExitCode {
+    let mut imports = Imports::new(Second::Mutant);
+    let caught = (0..options.files).find_map(|place| Some((place + 1, imports.random(&mut Random::new(options.seed, place | 1 << 41)).err()?)));
+    match caught {
+        Some((files, difference)) => {
+            println!("DIFFERENCE: {difference}");
+            println!("mutant {blunder}: caught after {files} files");
+            ExitCode::SUCCESS
+        }
+        None => {
+            println!("mutant {blunder}: NOT caught in {} files", options.files);
+            ExitCode::FAILURE
+        }
+    }
+}
+
 /// The gate against a mutant: a difference has to be found. Whether the mutant keeps the no-difference claim is told beside it.
 fn catch(options: &Options, blunder: u32) -> ExitCode {
     mutant::switch(blunder);
     println!("mutant {blunder}: {}", mutant::BLUNDERS[blunder as usize - 1]);
+    if blunder >= mutant::IMPORTING {
+        return catch_import(options, blunder);
+    }
     let mut run = Run::new(Second::Mutant);
     let caught = (0..options.texts).find_map(|place| {
         let difference = run.text(&mut Random::new(options.seed, place)).err()?;

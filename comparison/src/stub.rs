@@ -1,4 +1,4 @@
-//! The three exports over the reference, to try the harness without the gate (feature `stub`).
+//! The exports over the reference, to try the harness without the gate (feature `stub`).
 
 use reference::{Clock, Refusal, Source};
 use std::slice;
@@ -8,6 +8,7 @@ unsafe fn refuse(refusal: Refusal, figures: *mut u64) -> u64 {
     let source = match refusal.source {
         Source::Document => 1,
         Source::Query => 2,
+        Source::File => 3,
     };
     figures.copy_from_slice(&[source, refusal.start as u64, refusal.len as u64, 0, 0]);
     u64::from(refusal.number)
@@ -75,4 +76,47 @@ pub unsafe fn gate_measure(
         }
         Err(refusal) => refuse(refusal, figures),
     }
+}
+
+unsafe fn store(imported: Result<usize, Refusal>, figures: *mut u64) -> u64 {
+    match imported {
+        Ok(length) => {
+            slice::from_raw_parts_mut(figures, 5).copy_from_slice(&[length as u64, 0, 0, 0, 0]);
+            0
+        }
+        Err(refusal) => refuse(refusal, figures),
+    }
+}
+
+/// # Safety
+/// As the C export: texts and a buffer of those lengths, room for five figures.
+#[allow(clippy::too_many_arguments)]
+pub unsafe fn gate_import(
+    file: *const u8,
+    file_len: usize,
+    table: *const u8,
+    table_len: usize,
+    label: *const u8,
+    label_len: usize,
+    out: *mut u8,
+    out_len: usize,
+    figures: *mut u64,
+) -> u64 {
+    let [file, table, label] = [(file, file_len), (table, table_len), (label, label_len)].map(|(text, len)| slice::from_raw_parts(text, len));
+    store(reference::import(file, table, label, slice::from_raw_parts_mut(out, out_len)), figures)
+}
+
+/// # Safety
+/// As the C export: texts of those lengths, room for five figures.
+pub unsafe fn gate_measure_import(
+    file: *const u8,
+    file_len: usize,
+    table: *const u8,
+    table_len: usize,
+    label: *const u8,
+    label_len: usize,
+    figures: *mut u64,
+) -> u64 {
+    let [file, table, label] = [(file, file_len), (table, table_len), (label, label_len)].map(|(text, len)| slice::from_raw_parts(text, len));
+    store(reference::measure_import(file, table, label), figures)
 }

@@ -1,4 +1,4 @@
-//! A second, plain implementation of 01-scope.md, "The purpose gate".
+//! A second, plain implementation of 01-scope.md, "The purpose gate", and of the requests of 02-change-requests.md that have landed.
 
 mod answer;
 mod ask;
@@ -6,6 +6,7 @@ mod check;
 mod clock;
 mod condition;
 mod forms;
+mod import;
 mod policy;
 pub mod program;
 pub mod purpose;
@@ -18,4 +19,5 @@ pub use answer::Answer;
 pub use ask::{ask, measure};
 pub use check::{check, Accepted};
 pub use clock::Clock;
+pub use import::{import, measure_import};
 pub use refusal::{Refusal, Source};

@@ -1,14 +1,20 @@
-//! 01, "Sample session": the asking program, over any input and output.
+//! 01, "Sample session": the asking program, over any input and output; and the importing program of 02, Q-1.
 
 use std::io::{self, BufRead, Write};
 
 use crate::ask::ask;
 use crate::check::check;
 use crate::clock::{read_clock_line, Clock};
+use crate::import::import;
 use crate::refusal::{Refusal, Source};
 
 /// 01: "Its answer buffer is 60,021 bytes."
 pub const BUFFER: usize = 60_021;
+
+/// The importing program lends what a document may have (01, "Bounds"): longer lines fit none.
+pub const IMPORT_BUFFER: usize = 60_000;
+/// The longest file that the importing program takes.
+pub const LONGEST_FILE: usize = 262_144;
 
 /// 01: "its standard input is a line `(clock YEAR DAY HOUR)`, then queries".
 pub fn run(doc: &[u8], mut input: impl BufRead, mut output: impl Write) -> io::Result<()> {
@@ -31,6 +37,16 @@ pub fn run(doc: &[u8], mut input: impl BufRead, mut output: impl Write) -> io::R
     Ok(())
 }
 
+/// 02, Q-1: "desks want them as row lines".
+pub fn run_import(file: &[u8], table: &[u8], label: &[u8], mut output: impl Write) -> io::Result<()> {
+    let mut buffer = vec![0; IMPORT_BUFFER];
+    match import(file, table, label, &mut buffer) {
+        Ok(length) => output.write_all(&buffer[..length])?,
+        Err(refusal) => print_refusal(&mut output, refusal)?,
+    }
+    output.flush()
+}
+
 /// "The last line may lack its line feed."
 fn read_one_line(input: &mut impl BufRead) -> io::Result<Option<Vec<u8>>> {
     let mut line = Vec::new();
@@ -48,6 +64,7 @@ fn print_refusal(output: &mut impl Write, refusal: Refusal) -> io::Result<()> {
     let source = match refusal.source {
         Source::Document => "document",
         Source::Query => "query",
+        Source::File => "file",
     };
     writeln!(output, "(refused {} {} {} {})", refusal.number, source, refusal.start, refusal.len)
 }

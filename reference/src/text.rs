@@ -36,7 +36,7 @@ fn is_name_byte(byte: u8) -> bool {
 }
 
 /// 01: "a name has 1 to 24, the first a letter".
-fn is_name(word: &[u8]) -> bool {
+pub fn is_name(word: &[u8]) -> bool {
     let starts_well = match word.first() {
         Some(byte) => byte.is_ascii_alphabetic(),
         None => false,
@@ -65,6 +65,11 @@ fn number(word: &[u8]) -> Option<i64> {
         size = size * 10 + i128::from(digit - b'0');
     }
     i64::try_from(if negative { -size } else { size }).ok()
+}
+
+/// 01: "`v` for a name or a number".
+pub fn is_value(word: &[u8]) -> bool {
+    is_name(word) || number(word).is_some()
 }
 
 /// The items of a text that is exactly one bracket; positions are counted from `base`.

@@ -68,6 +68,7 @@ fn try_one(doc: &[u8], query: &[u8], clock: Clock, room: usize) -> u32 {
             let text = match refusal.source {
                 Source::Document => doc,
                 Source::Query => query,
+                Source::File => panic!("a file where none was given"),
             };
             assert!(refusal.start + refusal.len <= text.len());
             assert_eq!(refusal.source == Source::Document, refusal.number <= 9);
