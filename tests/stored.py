@@ -1,5 +1,6 @@
-"""What tests/asking and tests/checking share: their options, which cases are run, and the count."""
+"""What tests/asking, tests/checking and tests/importing share: their options, which cases are run, and the count."""
 import argparse
+import os
 import pathlib
 import signal
 import subprocess
@@ -9,16 +10,17 @@ import tempfile
 root = pathlib.Path(__file__).resolve().parent.parent
 
 
-def printed_by(program, policy, given):
-    """What the program prints in a folder with this policy, or with none."""
+def printed_by(program, policy, given, words=()):
+    """What the program prints in a folder with this policy, or with none, started with these words, which are bytes."""
     with tempfile.TemporaryDirectory() as folder:
         if policy is not None:
             (pathlib.Path(folder) / "policy.txt").write_bytes(policy)
-        return subprocess.run([str(program)], cwd=folder, input=given, capture_output=True, timeout=60).stdout
+        return subprocess.run([os.fsencode(program), *words], cwd=folder, input=given, capture_output=True, timeout=60).stdout
 
 
 def main(name, kind, cases, about):
-    """Runs the program of this name on the cases (name, policy, input, expected), all or those of the names given."""
+    """Runs the program of this name on the cases (name, policy, input, expected, words of the command ..), all or those of the names
+    given."""
     options = argparse.ArgumentParser(description=about, formatter_class=argparse.RawDescriptionHelpFormatter)
     options.add_argument("names", metavar="NAME", nargs="*", help="run the cases of these names only, and show differences whole")
     options.add_argument("--list", action="store_true", help="print the names of the cases and run none")
@@ -38,8 +40,8 @@ def main(name, kind, cases, about):
         return 1
     run = [case for case in cases if not given.names or case[0] in given.names]
     wrong = 0
-    for case, policy, text, expected in run:
-        printed = printed_by(given.program.resolve(), policy, text)
+    for case, policy, text, expected, *words in run:
+        printed = printed_by(given.program.resolve(), policy, text, words)
         if printed != expected:
             wrong += 1
             most = None if given.names else 300
