@@ -1,5 +1,6 @@
-/* How deep gate_check and gate_ask go: the call runs on a stack that was painted before, and the paint that is left is counted.
- *   stack check DOCUMENT | stack ask DOCUMENT QUERY      prints the outcome's number and the bytes of stack that were written */
+/* How deep the calls go: each runs on a stack that was painted before, and the paint that is left is counted.
+ *   stack check DOCUMENT | stack ask DOCUMENT QUERY | stack import FILE | stack measure FILE
+ * prints the outcome's number and the bytes of stack that were written */
 #include <pthread.h>
 #include <stdint.h>
 #include <stdio.h>
@@ -10,8 +11,13 @@
 uint64_t gate_check(const uint8_t *doc, size_t doc_len, uint64_t *figures);
 uint64_t gate_ask(const uint8_t *doc, size_t doc_len, const uint8_t *query, size_t query_len, uint64_t year, uint64_t day,
                   uint64_t hour, uint8_t *out, size_t out_len, uint64_t *figures);
+uint64_t gate_import(const uint8_t *file, size_t file_len, const uint8_t *table, size_t table_len, const uint8_t *label,
+                     size_t label_len, uint8_t *out, size_t out_len, uint64_t *figures);
+uint64_t gate_measure_import(const uint8_t *file, size_t file_len, const uint8_t *table, size_t table_len, const uint8_t *label,
+                             size_t label_len, uint64_t *figures);
 
 enum { ROOM = 4 << 20, PAINT = 0xa5 };
+static const uint8_t table[] = "sub", label[] = "free";
 static uint8_t doc[1 << 20], query[1 << 20], out[60021];
 static size_t doc_len, query_len;
 static uint64_t number, figures[5];
@@ -28,6 +34,20 @@ static void *check(void *unused) { number = gate_check(doc, doc_len, figures); r
 static void *ask(void *unused) {
     number = gate_ask(doc, doc_len, query, query_len, 2028, 366, 10, out, sizeof out, figures);
     return unused;
+}
+static void *import(void *unused) {
+    number = gate_import(doc, doc_len, table, 3, label, 4, out, sizeof out, figures);
+    return unused;
+}
+static void *measure_import(void *unused) {
+    number = gate_measure_import(doc, doc_len, table, 3, label, 4, figures);
+    return unused;
+}
+static void *(*called(const char *word))(void *) {
+    if (!strcmp(word, "ask")) return ask;
+    if (!strcmp(word, "import")) return import;
+    if (!strcmp(word, "measure")) return measure_import;
+    return check;
 }
 static size_t written(void *(*call)(void *)) {
     uint8_t *stack = mmap(0, ROOM, PROT_READ | PROT_WRITE, MAP_PRIVATE | MAP_ANONYMOUS, -1, 0);
@@ -49,7 +69,7 @@ int main(int count, char **words) {
     if (count > 3) query_len = read_whole(words[3], query, sizeof query);
     written(nothing);
     size_t thread_itself = written(nothing);
-    size_t deepest = written(count > 3 ? ask : check);
+    size_t deepest = written(called(words[1]));
     printf("%s: %llu, %zu bytes of stack (a thread itself: %zu)\n", words[1], (unsigned long long)number, deepest - thread_itself, thread_itself);
     return 0;
 }

@@ -6,6 +6,7 @@
 //!   bench text KEY            prints the document; bench query KEY the select
 
 mod bytes;
+mod child;
 mod documents;
 mod gate;
 mod plain;
