@@ -101,12 +101,12 @@ module _ (ws : List ℕ) (k : ℕ) (few : k ≤ limit) (g : Grown (listed (paren
       same : 0 ∷ ps ≡ listed (parentIn ws) k
       same = ext-getD 0 (0 ∷ ps) (listed (parentIn ws) k) (e ∙ sym (length-listed (parentIn ws) k)) entry
 
--- what grows from the array's second half is the tree of the purposes
-pub tree-grown : {text ws : List ℕ} {k : ℕ} {ns : List Node} → Nodes limit text ws k ns → Grown (policy.treeOf ns) → length ws ≡ 2 * limit
+-- what grows from the parents, which stand behind the names, is the tree of the purposes
+pub tree-grown : {text ws : List ℕ} {k : ℕ} {ns : List Node} → Nodes limit text ws k ns → Grown (policy.treeOf ns) → 2 * limit ≤ length ws
     → treeFrom (take k (take (length ws - limit) (drop limit ws))) ≡ listed (parentIn ws) k
 tree-grown {text} {ws} {k} {ns} n g full =
     let behind = drop limit ws in
-    let long : length (take (length ws - limit) (drop limit ws)) ≡ limit = length-take (length ws - limit) (drop limit ws) ∙ omega (arith, length-drop limit ws, full) in
+    let long : length (take (length ws - limit) (drop limit ws)) ≡ length ws - limit = length-take-le (length ws - limit) (drop limit ws) (omega (arith, length-drop limit ws)) in
     rooted ws k (n .few) (grown-listed n g) (take k (take (length ws - limit) behind))
-    (length-take-le k (take (length ws - limit) behind) (omega (arith, long, n .few)))
+    (length-take-le k (take (length ws - limit) behind) (omega (arith, long, n .few, full)))
     (λ i l. getD-take k (take (length ws - limit) behind) i 0 l ∙ getD-take (length ws - limit) behind i 0 (omega (arith, l, full, n .few)) ∙ getD-drop limit ws i 0)

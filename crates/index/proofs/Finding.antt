@@ -7,8 +7,8 @@ use mathlib.Core.Path.{_∙_, _≡_, ap, refl, sym}
 use native.Mathlib.Nat.{zero-add}
 use Rattle.index.proofs.ListedLaws.{findIndex-map, listed-map, listed-same}
 use Rattle.index.specs.Listed.{listed}
-use Rattle.index.specs.Index.{CondRoles, Nodes, condRoleIn, nodeIn}
-use Rattle.document.specs.Policy.{CondRole, Node, Policy}
+use Rattle.index.specs.Index.{CondRoles, condRoleIn}
+use Rattle.document.specs.Policy.{CondRole, Policy}
 use Rattle.lists.specs.Lists.{findIndex}
 use Rattle.text.specs.Names.{Name}
 use Rattle.text.specs.Words.{Word, isCalled, wordAt}
@@ -30,12 +30,6 @@ module _ {A : Type 0} (t : Name → Bool) (called : A → Name) (text ws : List 
   pub found-first : (xs : List A) → ((i : ℕ) → called (f i) ≡ wordAt text (getD ws i 0)) → listed f k ≡ xs
       → findIndex (λ p. t (wordAt text p)) (listed (λ i. getD ws (0 + i) 0) k) ≡ findIndex (λ x. t (called x)) xs
   found-first xs n are = found-from 0 xs (λ i. n i ∙ ap (λ m. wordAt text (getD ws m 0)) (sym (zero-add i))) are
-
--- a purpose or a role
-pub node-found : {room : ℕ} {text ws : List ℕ} {k : ℕ} {ns : List Node} (w : Word) → Nodes room text ws k ns
-    → findIndex (λ p. isCalled w (wordAt text p)) (listed (λ i. getD ws (0 + i) 0) k) ≡ findIndex (λ x. isCalled w (x .name)) ns
-unfolding nodeIn
-node-found {room} {text} {ws} {k} {ns} w n = found-first (isCalled w) (λ x. x .name) text ws (nodeIn room text ws) k ns (λ i. refl) (n .are)
 
 -- a conditional role
 pub cond-found : {d : Policy} {text ws : List ℕ} {k : ℕ} {cs : List CondRole} (w : Word) → CondRoles d text ws k cs

@@ -132,7 +132,7 @@ users-none d e n = record { few = n .few; are = n .are }
 
 pub nodes-start : (room : ℕ) (text ws : List ℕ) → Nodes room text ws 0 []
 unfolding listed
-nodes-start room text ws = record { few = omega arith; are = refl }
+nodes-start room text ws = record { few = omega arith; are = refl; hashed = below-none _; first = below-none _ }
 
 pub attributes-start : (text ws : List ℕ) → Attributes text ws 0 clockAttributes
 unfolding listed

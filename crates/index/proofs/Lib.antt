@@ -2,6 +2,7 @@
 pub mod ListedLaws
 pub mod SameLaws
 pub mod Finding
+pub mod HashLaws
 pub mod NodeLaws
 pub mod Stores
 pub mod AttributeLaws

@@ -2,8 +2,9 @@
 -- other names are their numbers. `..In` is what the array of a kind holds at a number; a record says that the first k of
 -- them are the document's list.
 use Prim.Native.Nat.{_*_, _+_, _-_, _<_, _≤_, suc, zero, ℕ}
+use lib.Dec.{eqb, ltb}
 use lib.ListN.{drop, getD, getElem?, take}
-use mathlib.Core.Bool.{Bool, false, true}
+use mathlib.Core.Bool.{Bool, _&&_, cond, false, true}
 use mathlib.Core.List.{List, [], _++_, _∷_, map}
 use mathlib.Core.Option.{Option, none, some}
 use mathlib.Core.Path.{_≡_}
@@ -16,6 +17,7 @@ use Rattle.document.specs.Open.{labelOpen}
 use Rattle.document.specs.Policy.{Attribute, Column, CondRole, Grant, Label, Node, Policy, Row, Table, User, clockAttributes}
 use Rattle.form.specs.Form.{Scheme, byCell, byColumn, byRow, byTable, unlabelled}
 use Rattle.form.specs.Walks.{givensAt}
+use Rattle.index.specs.Hash.{hashOf}
 use Rattle.index.specs.Listed.{listed}
 use Rattle.lists.specs.Lists.{allOf, member, there}
 use Rattle.purpose.specs.Members.{members, words}
@@ -51,14 +53,29 @@ unfoldable pub kindSaid : Bool → Kind
 kindSaid true = names
 kindSaid false = numbers
 
--- ---- purposes and roles: names from 0, parents from `room`
+-- ---- purposes and roles: names from 0, parents from `room`, the names' hashes from twice `room`; behind them a slot for each
+-- hash, with the number of the first name that has it. A slot of a hash that no name has may hold anything.
 
 unfoldable pub nodeIn : ℕ → List ℕ → List ℕ → ℕ → Node
 nodeIn room text ws i = record { name = wordAt text (getD ws i 0); parent = getD ws (room + i) 0 }
 
+-- the hash of name i
+abbrev pub hashIn : ℕ → List ℕ → ℕ → ℕ
+hashIn room ws i = getD ws (2 * room + i) 0
+
+-- what stands in the slot of a hash
+abbrev pub slotIn : ℕ → List ℕ → ℕ → ℕ
+slotIn room ws h = getD ws (3 * room + h) 0
+
+-- the first of k names that has the hash h, by its slot; k where none has it
+unfoldable pub firstIn : ℕ → List ℕ → ℕ → ℕ → ℕ
+firstIn room ws k h = cond (ltb (slotIn room ws h) k && eqb (hashIn room ws (slotIn room ws h)) h) (slotIn room ws h) k
+
 pub record Nodes (room : ℕ) (text ws : List ℕ) (k : ℕ) (ns : List Node) : Type 0 where
   pub few : k ≤ room
   pub are : listed (nodeIn room text ws) k ≡ ns
+  pub hashed : (i : ℕ) → i < k → hashIn room ws i ≡ hashOf (wordAt text (getD ws i 0))
+  pub first : (i : ℕ) → i < k → firstIn room ws k (hashIn room ws i) ≤ i
 
 -- ---- attributes but the clock's: names from 0, roles from 32, types from 64
 

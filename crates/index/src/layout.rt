@@ -3,13 +3,16 @@
 use purpose::LIMIT;
 use purpose::WORDS;
 
+// How many slots there are for names: purposes and roles are looked up by a name's hash.
+pub const SLOTS: usize = 512;
+
 pub const PURPOSES: usize = LIMIT;
 
-pub const PURPOSE_CELLS: usize = 2 * PURPOSES;
+pub const PURPOSE_CELLS: usize = 3 * PURPOSES + SLOTS;
 
 pub const ROLES: usize = 64;
 
-pub const ROLE_CELLS: usize = 2 * ROLES;
+pub const ROLE_CELLS: usize = 3 * ROLES + SLOTS;
 
 pub const ATTRIBUTES: usize = 32;
 

@@ -4,6 +4,7 @@ pub mod attributes;
 pub mod conds;
 pub mod found;
 pub mod grants;
+pub mod hashes;
 pub mod labels;
 pub mod layout;
 pub mod names;

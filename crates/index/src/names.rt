@@ -1,20 +1,88 @@
 // Purposes and roles: looking one up by its name, adding one, and whether a role stands below another.
 use crate::found::Found;
-use crate::found::find_name;
+use crate::found::same_length_name;
+use crate::hashes::hash_word;
 use crate::layout::PURPOSE_CELLS;
 use crate::layout::PURPOSES;
 use crate::layout::ROLE_CELLS;
 use crate::layout::ROLES;
-ghost use Prim.Native.Nat.{_+_, _<_, ℕ};
+use crate::layout::SLOTS;
+use crate::store::put;
+ghost use Prim.Native.Nat.{_*_, _+_, _<_, _≤_, ℕ};
 ghost use lib.ListN.{length};
 ghost use mathlib.Core.List.{List, [], _++_, _∷_};
 ghost use mathlib.Core.Path.{_≡_};
-ghost use Rattle.index.specs.Index.{FoundBelow, Nodes, foundAs};
+ghost use Rattle.index.specs.Hash.{hashOf, slots};
+ghost use Rattle.index.specs.Index.{FoundBelow, Nodes, firstIn, foundAs};
 ghost use Rattle.document.specs.Policy.{Node, treeOf};
 ghost use Rattle.lists.specs.Lists.{findIndex};
 ghost use Rattle.purpose.specs.Compliance.{descends};
 ghost use Rattle.purpose.specs.Members.{limit};
 ghost use Rattle.text.specs.Words.{isCalled, wordAt, wordOf};
+
+// The first of the names among the first k that has the hash h; k where none has it.
+fn first_hashed(ws: &[usize], room: usize, k: usize, h: usize) -> usize
+    requires { ⌜ (k ≤ room) × (3 * room + slots ≤ length (now ws)) × (h < slots) ⌝ }
+    ensures { λ r. ⌜ r ≡ firstIn room (now (ws .entry)) k h ⌝ }
+{
+    let j = ws[3 * room + h];
+    if j < k {
+        if ws[2 * room + j] == h {
+            return j;
+        }
+    }
+    k
+}
+
+// The purpose or role of the name from i to e of the line, whose hash is h, among the first k. Names with another hash are others.
+fn find_node(
+    text: &[u8],
+    ws: &[usize],
+    room: usize,
+    k: usize,
+    line: &[u8],
+    i: usize,
+    len: usize,
+    h: usize,
+) -> Found
+    requires { ⌜ (k ≤ room) × (3 * room + slots ≤ length (now ws)) × (h < slots) ⌝ }
+    ensures { λ r. ⌜ ((ns : List Node) → Nodes room (now (text .entry)) (now (ws .entry)) k ns → len ≡ length (wordAt (now (line .entry)) i) → h ≡ hashOf (wordAt (now (line .entry)) i) → foundAs r ≡ findIndex (λ x. isCalled (wordOf (now (line .entry)) i) (x .name)) ns) × FoundBelow r k ⌝ }
+{
+    let mut j = first_hashed(ws, room, k, h);
+    while j < k {
+        if ws[2 * room + j] == h {
+            if same_length_name(line, i, len, text, ws[j]) {
+                return Found::At(j);
+            }
+        }
+        j += 1;
+    }
+    Found::Nothing
+}
+
+// The purpose of the name from i to e of the line, whose hash is h, among the first k.
+pub fn find_purpose_to(
+    text: &[u8],
+    ws: &[usize; PURPOSE_CELLS],
+    k: usize,
+    line: &[u8],
+    i: usize,
+    e: usize,
+    h: usize,
+) -> Found
+    ensures { λ r. ⌜ ((ns : List Node) → Nodes limit (now (text .entry)) (now (ws .entry)) k ns → e ≡ i + length (wordAt (now (line .entry)) i) → h ≡ hashOf (wordAt (now (line .entry)) i) → foundAs r ≡ findIndex (λ x. isCalled (wordOf (now (line .entry)) i) (x .name)) ns) × FoundBelow r k ⌝ }
+{
+    if PURPOSES < k {
+        return Found::Nothing;
+    }
+    if SLOTS <= h {
+        return Found::Nothing;
+    }
+    if e < i {
+        return Found::Nothing;
+    }
+    find_node(text, ws, PURPOSES, k, line, i, e - i, h)
+}
 
 // The purpose of the name at i of the line, among the first k.
 pub fn find_purpose(
@@ -26,10 +94,8 @@ pub fn find_purpose(
 ) -> Found
     ensures { λ r. ⌜ ((ns : List Node) → Nodes limit (now (text .entry)) (now (ws .entry)) k ns → foundAs r ≡ findIndex (λ x. isCalled (wordOf (now (line .entry)) i) (x .name)) ns) × FoundBelow r k ⌝ }
 {
-    if PURPOSES < k {
-        return Found::Nothing;
-    }
-    find_name(text, ws, 0, k, line, i)
+    let w = hash_word(line, i);
+    find_purpose_to(text, ws, k, line, i, w.end, w.hash)
 }
 
 // The role of the name at i of the line, among the first k.
@@ -39,33 +105,49 @@ pub fn find_role(text: &[u8], ws: &[usize; ROLE_CELLS], k: usize, line: &[u8], i
     if ROLES < k {
         return Found::Nothing;
     }
-    find_name(text, ws, 0, k, line, i)
+    let w = hash_word(line, i);
+    let e = w.end;
+    let h = w.hash;
+    if SLOTS <= h {
+        return Found::Nothing;
+    }
+    if e < i {
+        return Found::Nothing;
+    }
+    find_node(text, ws, ROLES, k, line, i, e - i, h)
 }
 
-// One more among the purposes or the roles, of which there is room for `room`.
-fn add_node(ws: &mut [usize], room: usize, k: usize, pos: usize, parent: usize)
-    requires { ⌜ (k < room) × (room + k < length (now ws)) ⌝ }
-    ensures { λ r. ⌜ ((text : List ℕ) (ns : List Node) → Nodes room text (now (ws .entry)) k ns → Nodes room text (now (ws .exit)) (k + 1) (ns ++ (record { name = wordAt text pos; parent = parent } ∷ []))) ⌝ }
+// One more among the purposes or the roles, of which there is room for `room`; h is its name's hash. The slot keeps the first name.
+fn add_node(ws: &mut [usize], room: usize, k: usize, pos: usize, parent: usize, h: usize)
+    requires { ⌜ (k < room) × (3 * room + slots ≤ length (now ws)) × (h < slots) ⌝ }
+    ensures { λ r. ⌜ ((text : List ℕ) (ns : List Node) → Nodes room text (now (ws .entry)) k ns → h ≡ hashOf (wordAt text pos) → Nodes room text (now (ws .exit)) (k + 1) (ns ++ (record { name = wordAt text pos; parent = parent } ∷ []))) ⌝ }
 {
-    ws[k] = pos;
-    ws[room + k] = parent;
+    let first = first_hashed(ws, room, k, h);
+    put(ws, k, pos);
+    put(ws, room + k, parent);
+    put(ws, 2 * room + k, h);
+    put(ws, 3 * room + h, first);
 }
 
-// One purpose more, whose name stands at pos of the text.
-pub fn add_purpose(ws: &mut [usize; PURPOSE_CELLS], k: usize, pos: usize, parent: usize)
-    ensures { λ r. ⌜ ((text : List ℕ) (ns : List Node) → Nodes limit text (now (ws .entry)) k ns → k < limit → Nodes limit text (now (ws .exit)) (k + 1) (ns ++ (record { name = wordAt text pos; parent = parent } ∷ []))) ⌝ }
+// One purpose more, whose name stands at pos of the text and has the hash h.
+pub fn add_purpose(ws: &mut [usize; PURPOSE_CELLS], k: usize, pos: usize, parent: usize, h: usize)
+    ensures { λ r. ⌜ ((text : List ℕ) (ns : List Node) → Nodes limit text (now (ws .entry)) k ns → h ≡ hashOf (wordAt text pos) → k < limit → Nodes limit text (now (ws .exit)) (k + 1) (ns ++ (record { name = wordAt text pos; parent = parent } ∷ []))) ⌝ }
 {
     if k < PURPOSES {
-        add_node(ws, PURPOSES, k, pos, parent);
+        if h < SLOTS {
+            add_node(ws, PURPOSES, k, pos, parent, h);
+        }
     }
 }
 
-// One role more, whose name stands at pos of the text.
-pub fn add_role(ws: &mut [usize; ROLE_CELLS], k: usize, pos: usize, parent: usize)
-    ensures { λ r. ⌜ ((text : List ℕ) (ns : List Node) → Nodes 64 text (now (ws .entry)) k ns → k < 64 → Nodes 64 text (now (ws .exit)) (k + 1) (ns ++ (record { name = wordAt text pos; parent = parent } ∷ []))) ⌝ }
+// One role more, whose name stands at pos of the text and has the hash h.
+pub fn add_role(ws: &mut [usize; ROLE_CELLS], k: usize, pos: usize, parent: usize, h: usize)
+    ensures { λ r. ⌜ ((text : List ℕ) (ns : List Node) → Nodes 64 text (now (ws .entry)) k ns → h ≡ hashOf (wordAt text pos) → k < 64 → Nodes 64 text (now (ws .exit)) (k + 1) (ns ++ (record { name = wordAt text pos; parent = parent } ∷ []))) ⌝ }
 {
     if k < ROLES {
-        add_node(ws, ROLES, k, pos, parent);
+        if h < SLOTS {
+            add_node(ws, ROLES, k, pos, parent, h);
+        }
     }
 }
 

@@ -1,6 +1,7 @@
 // Storing purposes and roles.
 use crate::places::number;
 use crate::places::place;
+use index::hashes::hash_word;
 use index::layout::PURPOSE_CELLS;
 use index::layout::ROLE_CELLS;
 use index::names::add_purpose;
@@ -30,7 +31,8 @@ pub fn store_purpose_root(
     ensures { λ _. ⌜ ((d : Doc) → LineAt (now (text .entry)) at (now (line .entry)) → Nodes limit (now (text .entry)) (now (purposes .entry)) k (d .policy .purposes) → Passes d (now (line .entry)) (purpose (wordOf (now (line .entry)) n) none) → n ≤ length (now (line .entry)) → Nodes limit (now (text .entry)) (now (purposes .exit)) (k + 1) (add d (purpose (wordOf (now (line .entry)) n) none) .policy .purposes)) ⌝ }
 {
     let pos = place(text, at, n);
-    add_purpose(purposes, k, pos, k);
+    let w = hash_word(line, n);
+    add_purpose(purposes, k, pos, k, w.hash);
 }
 
 // Stores the purpose of the name at n of the line, below that of the name at p.
@@ -47,7 +49,8 @@ pub fn store_purpose_below(
 {
     let parent = number(find_purpose(text, purposes, k, line, p));
     let pos = place(text, at, n);
-    add_purpose(purposes, k, pos, parent);
+    let w = hash_word(line, n);
+    add_purpose(purposes, k, pos, parent, w.hash);
 }
 
 // Stores the role of the name at n of the line, behind k of them: a root, whose parent is its own number.
@@ -62,7 +65,8 @@ pub fn store_role_root(
     ensures { λ _. ⌜ ((d : Doc) → LineAt (now (text .entry)) at (now (line .entry)) → Nodes 64 (now (text .entry)) (now (roles .entry)) k (d .policy .roles) → Passes d (now (line .entry)) (role (wordOf (now (line .entry)) n) none) → n ≤ length (now (line .entry)) → Nodes 64 (now (text .entry)) (now (roles .exit)) (k + 1) (add d (role (wordOf (now (line .entry)) n) none) .policy .roles)) ⌝ }
 {
     let pos = place(text, at, n);
-    add_role(roles, k, pos, k);
+    let w = hash_word(line, n);
+    add_role(roles, k, pos, k, w.hash);
 }
 
 // Stores the role of the name at n of the line, below that of the name at p.
@@ -79,5 +83,6 @@ pub fn store_role_below(
 {
     let parent = number(find_role(text, roles, k, line, p));
     let pos = place(text, at, n);
-    add_role(roles, k, pos, parent);
+    let w = hash_word(line, n);
+    add_role(roles, k, pos, parent, w.hash);
 }

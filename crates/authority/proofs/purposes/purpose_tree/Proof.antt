@@ -1,8 +1,8 @@
 -- `authority::purposes::purpose_tree` meets its contract. Assumes nothing.
-use Prim.Native.Nat.{_*_}
+use Prim.Native.Nat.{_*_, _≤_}
 use borrow.Author.Needs.{needs}
 use lib.ListN.{length}
-use mathlib.Core.Path.{_∙_, _≡_}
+use mathlib.Core.Path.{_∙_}
 use Rattle.authority.proofs.PurposeLaws.{tree-grown}
 use Rattle.purpose.specs.Members.{limit}
 use Rattle.authority.proofs.purposes.purpose_tree.Statement.{statement}
@@ -22,7 +22,7 @@ tree-of-requires c κs = search needs
 
 returns : tie.Need-returns
 returns c text ns n g =
-    let full : length (c .before .before .before .args .ws .now) ≡ 2 * limit = search needs in
+    let full : 2 * limit ≤ length (c .before .before .before .args .ws .now) = search needs in
     c .tree-of .ensures ∙ tree-grown n g full
 
 pub purpose-tree-spec : {M : Type 1} → statement M

@@ -4,7 +4,7 @@ use Rattle.lists.specs.Lists.{known}
 use Rattle.document.specs.Lookup.{roleOf}
 use Rattle.text.specs.Words.{wordOf}
 use mathlib.Core.Path.{_∙_, ap, refl, sym}
-use Rattle.storing.proofs.NamedLaws.{role-parent, role-stored}
+use Rattle.storing.proofs.NamedLaws.{hash-placed, role-parent, role-stored}
 use borrow.Author.Needs.{needs}
 use Rattle.storing.proofs.names.store_role_below.Statement.{statement}
 use Rattle.storing.proofs.names.store_role_below.Tie as tie
@@ -18,18 +18,21 @@ number-requires c κs = search needs
 place-requires : tie.Need-place-requires
 place-requires c κs = search needs
 
+hash-word-requires : tie.Need-hash-word-requires
+hash-word-requires c κs = search needs
+
 add-role-requires : tie.Need-add-role-requires
 add-role-requires c κs = search needs
 
 returns : tie.Need-returns
 unfolding roleOf
 returns c d l N ok h =
-    let a = c .before .before .before .before .before .before .before .before .args in
-    role-stored l d (a .n) _ h (c .before .before .place .ensures) _ (some (wordOf (a .line .now) (a .p))) N ok
-    (c .before .before .before .number .ensures ∙ ap known (c .before .before .before .before .find-role .ensures .0 _ N) ∙ role-parent d (a .line .now) (wordOf (a .line .now) (a .n)) (wordOf (a .line .now) (a .p)) ok)
-    (c .add-role .ensures (a .text .now) _ N)
+    let a = c .before .before .before .before .before .before .before .before .before .args in
+    role-stored l d (a .n) _ h (c .before .before .before .place .ensures) _ (some (wordOf (a .line .now) (a .p))) N ok
+    (c .before .before .before .before .number .ensures ∙ ap known (c .before .before .before .before .before .find-role .ensures .0 _ N) ∙ role-parent d (a .line .now) (wordOf (a .line .now) (a .n)) (wordOf (a .line .now) (a .p)) ok)
+    (c .add-role .ensures (a .text .now) _ N (hash-placed l d (a .n) _ h (c .before .before .before .place .ensures) _ (c .before .before .hash-word .ensures .is)))
 
 pub store-role-below-spec : {M : Type 1} → statement M
 store-role-below-spec =
     tie.close
-    (tie.spec find-role-requires number-requires place-requires add-role-requires returns)
+    (tie.spec find-role-requires number-requires place-requires hash-word-requires add-role-requires returns)
