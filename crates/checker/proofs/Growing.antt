@@ -201,6 +201,19 @@ module _ {text ps rs bs us cs gs ls ms ts ws : List ℕ} {c : Counts} {d : Doc} 
     rows = h;
   }
 
+  pub keep-purposes : (ps′ : List ℕ) → Nodes limit text ps′ (c .purposes) (d .policy .purposes) → Indexed text ps′ rs bs us cs gs ls ms ts ws c d
+  keep-purposes ps′ h = record {
+    purposes = h;
+    roles = I .roles;
+    attributes = I .attributes;
+    users = I .users;
+    conds = I .conds;
+    grants = I .grants;
+    labels = I .labels;
+    tables = I .tables;
+    rows = I .rows;
+  }
+
 -- how many grants and rows there are
 pub grants-count : {gs : List ℕ} {k : ℕ} {xs : List Grant} → Grants gs k xs → k ≡ length xs
 grants-count {gs} {k} n = sym (length-listed (grantIn gs) k) ∙ ap length (n .are)

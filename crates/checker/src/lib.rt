@@ -2,4 +2,5 @@
 pub mod counts;
 pub mod documents;
 pub mod loading;
+mod purposes;
 mod steps;

@@ -1,6 +1,7 @@
 // One line of a document: what it does to what was defined before. For each kind of line a function finds what is wrong with it
 // and stores it where nothing is.
 use crate::counts::Counts;
+use crate::purposes::take_purpose;
 use condition::kinds::Kind;
 use faults::attrs::attr_fault;
 use faults::conds::cond_role_fault;
@@ -600,6 +601,57 @@ fn step_form(
     }
 }
 
+// The line that is no row as one walk takes it: a purpose below another, which one walk takes too, or any form.
+fn step_other(
+    text: &[u8],
+    at: usize,
+    line: &[u8],
+    purposes: &mut [usize; PURPOSE_CELLS],
+    roles: &mut [usize; ROLE_CELLS],
+    attributes: &mut [usize; ATTRIBUTE_CELLS],
+    users: &mut [usize; USER_CELLS],
+    conds: &mut [usize; COND_ROLE_CELLS],
+    grants: &mut [usize; GRANT_CELLS],
+    labels: &mut [usize; LABELS],
+    sets: &mut [u64; SET_WORDS],
+    tables: &mut [usize; TABLE_CELLS],
+    rows: &mut [usize; ROW_CELLS],
+    c: Counts,
+) -> Step
+    ensures { λ s. ⌜ ((d : Doc) → LineAt (now (text .entry)) at (now (line .entry)) → Indexed (now (text .entry)) (now (purposes .entry)) (now (roles .entry)) (now (attributes .entry)) (now (users .entry)) (now (conds .entry)) (now (grants .entry)) (now (labels .entry)) (now (sets .entry)) (now (tables .entry)) (now (rows .entry)) c d → UniqueNames (d .policy) → Follows (Indexed (now (text .entry)) (now (purposes .exit)) (now (roles .exit)) (now (attributes .exit)) (now (users .exit)) (now (conds .exit)) (now (grants .exit)) (now (labels .exit)) (now (sets .exit)) (now (tables .exit)) (now (rows .exit))) (now (line .entry)) (checkLine d (now (line .entry))) s) ⌝ }
+{
+    let k = c.purposes;
+    if take_purpose(text, at, line, purposes, k) {
+        return Step::Goes(Counts {
+            purposes: k + 1,
+            roles: c.roles,
+            attributes: c.attributes,
+            users: c.users,
+            conds: c.conds,
+            grants: c.grants,
+            labels: c.labels,
+            tables: c.tables,
+            rows: c.rows,
+        });
+    }
+    step_form(
+        text,
+        at,
+        line,
+        purposes,
+        roles,
+        attributes,
+        users,
+        conds,
+        grants,
+        labels,
+        sets,
+        tables,
+        rows,
+        c,
+    )
+}
+
 // The line that stands at a position of the text: most are rows without a fault, which one walk takes.
 pub(crate) fn step_line(
     text: &[u8],
@@ -633,7 +685,7 @@ pub(crate) fn step_line(
             rows: k + 1,
         });
     }
-    step_form(
+    step_other(
         text,
         at,
         line,

@@ -37,11 +37,11 @@ use Rattle.text.specs.declared.words.End.the-variants.{At, Nothing}
 -- ---- the bracket that ends the line
 
 module _ (line : List ℕ) (e : ℕ) (h : closesAt line e ≡ true) where
-  closes-here : getD line e 0 ≡ 41
+  pub closes-here : getD line e 0 ≡ 41
   unfolding closesAt
   closes-here = eqb-true _ _ (and-left (eqb (getD line e 0) 41) (eqb (e + 1) (length line)) h)
 
-  closes-last : e + 1 ≡ length line
+  pub closes-last : e + 1 ≡ length line
   unfolding closesAt
   closes-last = eqb-true _ _ (and-right (eqb (getD line e 0) 41) (eqb (e + 1) (length line)) h)
 
@@ -54,7 +54,7 @@ module _ (line : List ℕ) (e : ℕ) (h : closesAt line e ≡ true) where
 
 -- ---- the keyword
 
-same-length : (m n : Name) → sameName m n ≡ true → length m ≡ length n
+pub same-length : (m n : Name) → sameName m n ≡ true → length m ≡ length n
 unfolding sameName
 same-length [] [] e = refl
 same-length [] (y ∷ ys) e = true-not-false e refl

@@ -46,7 +46,7 @@ fn table_end(line: &[u8]) -> End
 }
 
 // Whether the line's last byte stands at a position and is a closing bracket.
-fn closes(line: &[u8], at: usize) -> bool
+pub fn closes(line: &[u8], at: usize) -> bool
     ensures { λ r. ⌜ r ≡ closesAt (now (line .entry)) at ⌝ }
 {
     if byte_at(line, at) != b')' {

@@ -31,13 +31,13 @@ returns c = λ d a I U.
     let t = taken _ _ _ _ d _ (c .if1 .taken) (c .before .take-row .ensures .0 d _ a (I .labels) (I .tables) (I .rows)) in
     follows-goes (record { doc = _; is = line-form d (c .before .before .before .before .before .before .before .args .line .now) _ (t .form) ∙ t .passes; held = grow-row I _ _ _ (t .rows) })
 
-step-form-requires : tie.Need-step-form-requires
-step-form-requires c κs = tt
+step-other-requires : tie.Need-step-other-requires
+step-other-requires c κs = tt
 
 returns-2 : tie.Need-returns-2
 returns-2 c = λ d a I U.
-    c .step-form .ensures d a (keep-rows I _ (left _ _ _ _ d _ (c .before .before .before .before .before .before .before .before .before .before .before .if1 .left) (c .before .before .before .before .before .before .before .before .before .before .before .before .take-row .ensures .0 d _ a (I .labels) (I .tables) (I .rows)))) U
+    c .step-other .ensures d a (keep-rows I _ (left _ _ _ _ d _ (c .before .before .before .before .before .before .before .before .before .before .before .if1 .left) (c .before .before .before .before .before .before .before .before .before .before .before .before .take-row .ensures .0 d _ a (I .labels) (I .tables) (I .rows)))) U
 
 pub step-line-spec : {M : Type 1} → statement M
 step-line-spec =
-    tie.close (tie.spec take-row-requires add-t20 returns step-form-requires returns-2)
+    tie.close (tie.spec take-row-requires add-t20 returns step-other-requires returns-2)
