@@ -1,14 +1,13 @@
 -- A line that begins with `(purpose ` and has two names up to the bracket that ends it is a purpose below another, and what its names
 -- are found to be decides its check. Assumes nothing.
-use Prim.Native.Nat.{_+_, _<_, _≤_, ℕ}
+use Prim.Native.Nat.{_+_, ℕ}
 use borrow.Author.Tests.{eqb-true}
 use lib.Dec.{eqb}
 use lib.ListN.{getD, length}
-use mathlib.Core.Bool.{Bool, _&&_, true}
+use mathlib.Core.Bool.{_&&_, true}
 use mathlib.Core.List.{List}
 use mathlib.Core.Option.{Option·map, some}
-use mathlib.Core.Path.{_∙_, _≡_, ap, refl, sym}
-use native.Mathlib.Omega.{arith}
+use mathlib.Core.Path.{_∙_, _≡_, ap, sym}
 use Rattle.checker.specs.PurposeLine.{belowAt, beginsPurpose}
 use Rattle.form.proofs.KeywordLaws.{keyword-at}
 use Rattle.form.proofs.LineLaws.{line-read}
@@ -23,7 +22,7 @@ use Rattle.text.specs.Brackets.{among, keyword}
 use Rattle.text.specs.Bytes.{ascii}
 use Rattle.text.specs.Names.{isName, sameName}
 use Rattle.text.specs.Reader.{from}
-use Rattle.text.specs.Words.{isCalled, name, wordAt, wordOf, wordThat}
+use Rattle.text.specs.Words.{isCalled, name, wordAt, wordOf}
 
 purpose-keyword : (line : List ℕ) → sameName (wordAt line 1) (ascii "purpose") ≡ true → keyword lineForms (from line 1) ≡ node purpose (from line 8)
 unfolding lineForms among isCalled

@@ -5,19 +5,20 @@ use lib.Dec.{eqb}
 use lib.ListN.{getD, length}
 use mathlib.Core.Bool.{Bool, _&&_, false, true}
 use mathlib.Core.List.{List}
-use mathlib.Core.Option.{some}
+use mathlib.Core.Option.{none, some}
 use mathlib.Core.Path.{_≡_}
 use Rattle.document.specs.Meaning.{add}
-use Rattle.document.specs.Policy.{Doc}
+use Rattle.document.specs.Policy.{Doc, Node}
 use Rattle.form.specs.Form.{Form, purpose}
 use Rattle.form.specs.FormReader.{formOf}
 use Rattle.index.specs.Hash.{hashOf}
 use Rattle.index.specs.Index.{Nodes}
+use Rattle.lists.specs.Lists.{findIndex}
 use Rattle.purpose.specs.Members.{limit}
 use Rattle.storing.specs.Stored.{Passes}
 use Rattle.text.specs.Bytes.{ascii}
 use Rattle.text.specs.Names.{sameName}
-use Rattle.text.specs.Words.{wordAt, wordOf}
+use Rattle.text.specs.Words.{isCalled, wordAt, wordOf}
 use Rattle.checker.specs.declared.purposes.Below.{Below}
 use Rattle.checker.specs.declared.purposes.Below.the-variants.{At, Other}
 
@@ -41,16 +42,16 @@ TakesPurpose text line after k d false = Nodes limit text after k (d .policy .pu
 unfoldable pub beginsPurpose : List ℕ → Bool
 beginsPurpose line = eqb (getD line 0 0) 40 && sameName (wordAt line 1) (ascii "purpose") && eqb (getD line 8 0) 32
 
--- the line is a purpose below another: its name ends at e and has the hash h, the other's stands from v to f and has the hash g
-pub record BelowAt (line : List ℕ) (e h v f g : ℕ) : Type 0 where
+-- the line is a purpose below another, whose name stands at v: its own name has the hash h and is new among the k purposes, where the
+-- other's has the number p
+pub record BelowAt (text ws : List ℕ) (k : ℕ) (line : List ℕ) (h v p : ℕ) : Type 0 where
   pub form : formOf line ≡ some (belowAt line v)
   pub within : 9 ≤ length line
-  pub ends : e ≡ 9 + length (wordAt line 9)
   pub hash : h ≡ hashOf (wordAt line 9)
-  pub above : f ≡ v + length (wordAt line v)
-  pub hashAbove : g ≡ hashOf (wordAt line v)
+  pub fresh : (ns : List Node) → Nodes limit text ws k ns → none ≡ findIndex (λ x. isCalled (wordOf line 9) (x .name)) ns
+  pub known : (ns : List Node) → Nodes limit text ws k ns → some p ≡ findIndex (λ x. isCalled (wordOf line v) (x .name)) ns
 
 -- what the reader's answer stands for
-abbrev pub ReadsBelow : List ℕ → Below → Type 0
-ReadsBelow line (At e h v f g) = BelowAt line e h v f g
-ReadsBelow line Other = Unit {0}
+abbrev pub ReadsBelow : (text ws : List ℕ) → ℕ → List ℕ → Below → Type 0
+ReadsBelow text ws k line (At h v p) = BelowAt text ws k line h v p
+ReadsBelow text ws k line Other = Unit {0}

@@ -1,11 +1,10 @@
 // A purpose line below another, `(purpose N PARENT)`: read, judged and stored in one walk, in which each name is gone through once,
 // for its end and its hash.
 use index::found::Found;
-use index::hashes::hash_word;
 use index::layout::PURPOSE_CELLS;
 use index::layout::PURPOSES;
 use index::names::add_purpose;
-use index::names::find_purpose_to;
+use index::names::seek_purpose;
 use rows::lines::closes;
 use storing::places::place;
 use text::bytes::byte_at;
@@ -23,9 +22,9 @@ ghost use Rattle.storing.specs.Stored.{LineAt};
 ghost use Rattle.text.specs.Names.{isName};
 ghost use Rattle.text.specs.Words.{wordAt};
 
-// The names of such a line: where the first ends and its hash, where the second begins and ends and its hash; or another line.
+// Such a line that the check accepts: the hash of its name, the place of the other's name, and the other's number; or another line.
 enum Below {
-    At(usize, usize, usize, usize, usize),
+    At(usize, usize, usize),
     Other,
 }
 
@@ -55,14 +54,14 @@ fn is_name_to(line: &[u8], at: usize, e: usize) -> bool
     e - at <= 24
 }
 
-// The names of the line, if it is `(purpose N PARENT)`.
-fn read_below(line: &[u8]) -> Below
-    ensures { λ r. ⌜ ReadsBelow (now (line .entry)) r ⌝ }
+// The names of the line, if it is `(purpose N PARENT)`, N new and PARENT known among the first k.
+fn read_below(text: &[u8], purposes: &[usize; PURPOSE_CELLS], k: usize, line: &[u8]) -> Below
+    ensures { λ r. ⌜ ReadsBelow (now (text .entry)) (now (purposes .entry)) k (now (line .entry)) r ⌝ }
 {
     if !begins(line) {
         return Below::Other;
     }
-    let n = hash_word(line, 9);
+    let n = seek_purpose(text, purposes, k, line, 9);
     let e = n.end;
     if !is_name_to(line, 9, e) {
         return Below::Other;
@@ -70,8 +69,12 @@ fn read_below(line: &[u8]) -> Below
     if byte_at(line, e) != b' ' {
         return Below::Other;
     }
+    let taken = n.found;
+    if let Found::At(_) = taken {
+        return Below::Other;
+    }
     let v = e + 1;
-    let p = hash_word(line, v);
+    let p = seek_purpose(text, purposes, k, line, v);
     let f = p.end;
     if !is_name_to(line, v, f) {
         return Below::Other;
@@ -79,34 +82,29 @@ fn read_below(line: &[u8]) -> Below
     if !closes(line, f) {
         return Below::Other;
     }
-    Below::At(e, n.hash, v, f, p.hash)
+    let known = p.found;
+    let Found::At(parent) = known else {
+        return Below::Other;
+    };
+    Below::At(n.hash, v, parent)
 }
 
-// Takes the line with these names behind k purposes, if the first is new, the second known, and there is room.
+// Stores the purpose of such a line behind k of them, if there is room: h is its name's hash, and v the place of its parent's name.
 fn take_below(
     text: &[u8],
     at: usize,
     line: &[u8],
     purposes: &mut [usize; PURPOSE_CELLS],
     k: usize,
-    e: usize,
     h: usize,
     v: usize,
-    f: usize,
-    g: usize,
+    parent: usize,
 ) -> bool
-    ensures { λ r. ⌜ ((d : Doc) → LineAt (now (text .entry)) at (now (line .entry)) → BelowAt (now (line .entry)) e h v f g → Nodes limit (now (text .entry)) (now (purposes .entry)) k (d .policy .purposes) → TakesPurpose (now (text .entry)) (now (line .entry)) (now (purposes .exit)) k d r) × (r ≡ true → k < limit) ⌝ }
+    ensures { λ r. ⌜ ((d : Doc) → LineAt (now (text .entry)) at (now (line .entry)) → BelowAt (now (text .entry)) (now (purposes .entry)) k (now (line .entry)) h v parent → Nodes limit (now (text .entry)) (now (purposes .entry)) k (d .policy .purposes) → TakesPurpose (now (text .entry)) (now (line .entry)) (now (purposes .exit)) k d r) × (r ≡ true → k < limit) ⌝ }
 {
     if PURPOSES <= k {
         return false;
     }
-    if let Found::At(_) = find_purpose_to(text, purposes, k, line, 9, e, h) {
-        return false;
-    }
-    let found = find_purpose_to(text, purposes, k, line, v, f, g);
-    let Found::At(parent) = found else {
-        return false;
-    };
     let pos = place(text, at, 9);
     add_purpose(purposes, k, pos, parent, h);
     true
@@ -123,9 +121,9 @@ pub(crate) fn take_purpose(
 ) -> bool
     ensures { λ r. ⌜ ((d : Doc) → LineAt (now (text .entry)) at (now (line .entry)) → Nodes limit (now (text .entry)) (now (purposes .entry)) k (d .policy .purposes) → TakesPurpose (now (text .entry)) (now (line .entry)) (now (purposes .exit)) k d r) × (r ≡ true → k < limit) ⌝ }
 {
-    let r = read_below(line);
+    let r = read_below(text, purposes, k, line);
     match r {
-        Below::At(e, h, v, f, g) => take_below(text, at, line, purposes, k, e, h, v, f, g),
+        Below::At(h, v, parent) => take_below(text, at, line, purposes, k, h, v, parent),
         Below::Other => false,
     }
 }

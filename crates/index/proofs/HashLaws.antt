@@ -1,8 +1,8 @@
 -- Names and their hashes: names that are the same have the same hash, and the hash of a word by its bytes. Assumes nothing.
-use Prim.Native.Nat.{_%_, _*_, _+_, _<_, zero-le, ℕ}
+use Prim.Native.Nat.{_%_, _*_, _+_, _<_, ℕ}
 use borrow.Author.Tests.{eqb-true}
 use lib.ListN.{getD}
-use mathlib.Core.Bool.{Bool, false, true, true≢false}
+use mathlib.Core.Bool.{false, true, true≢false}
 use mathlib.Core.List.{List, [], _∷_}
 use mathlib.Core.Path.{_∙_, _≡_, ap, refl, sym}
 use native.Mathlib.Nat.{mod-lt}

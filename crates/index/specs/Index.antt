@@ -3,7 +3,7 @@
 -- them are the document's list.
 use Prim.Native.Nat.{_*_, _+_, _-_, _<_, _≤_, suc, zero, ℕ}
 use lib.Dec.{eqb, ltb}
-use lib.ListN.{drop, getD, getElem?, take}
+use lib.ListN.{drop, getD, getElem?, length, take}
 use mathlib.Core.Bool.{Bool, _&&_, cond, false, true}
 use mathlib.Core.List.{List, [], _++_, _∷_, map}
 use mathlib.Core.Option.{Option, none, some}
@@ -19,11 +19,12 @@ use Rattle.form.specs.Form.{Scheme, byCell, byColumn, byRow, byTable, unlabelle
 use Rattle.form.specs.Walks.{givensAt}
 use Rattle.index.specs.Hash.{hashOf}
 use Rattle.index.specs.Listed.{listed}
-use Rattle.lists.specs.Lists.{allOf, member, there}
+use Rattle.lists.specs.Lists.{allOf, findIndex, member, there}
 use Rattle.purpose.specs.Members.{members, words}
 use Rattle.text.specs.Numbers.{Value}
 use Rattle.text.specs.Reader.{Left, from}
-use Rattle.text.specs.Words.{plainWord, wordAt}
+use Rattle.text.specs.Words.{isCalled, plainWord, wordAt, wordOf}
+use Rattle.index.specs.declared.names.Sought.{Sought}
 use Rattle.index.specs.declared.found.Found.{Found}
 use Rattle.index.specs.declared.found.Found.the-variants as found
 use Rattle.index.specs.declared.tables.SchemeCode.{SchemeCode}
@@ -76,6 +77,13 @@ pub record Nodes (room : ℕ) (text ws : List ℕ) (k : ℕ) (ns : List Node) : 
   pub are : listed (nodeIn room text ws) k ≡ ns
   pub hashed : (i : ℕ) → i < k → hashIn room ws i ≡ hashOf (wordAt text (getD ws i 0))
   pub first : (i : ℕ) → i < k → firstIn room ws k (hashIn room ws i) ≤ i
+
+-- what looking the name at i of a line up gives: where the word ends and its hash, and its number among the k names
+pub record Seeks (room : ℕ) (text ws : List ℕ) (k : ℕ) (line : List ℕ) (i : ℕ) (r : Sought) : Type 0 where
+  pub ends : r .end ≡ i + length (wordAt line i)
+  pub hash : r .hash ≡ hashOf (wordAt line i)
+  pub is : (ns : List Node) → Nodes room text ws k ns → foundAs (r .found) ≡ findIndex (λ x. isCalled (wordOf line i) (x .name)) ns
+  pub below : FoundBelow (r .found) k
 
 -- ---- attributes but the clock's: names from 0, roles from 32, types from 64
 

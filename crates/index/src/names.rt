@@ -13,12 +13,19 @@ ghost use lib.ListN.{length};
 ghost use mathlib.Core.List.{List, [], _++_, _∷_};
 ghost use mathlib.Core.Path.{_≡_};
 ghost use Rattle.index.specs.Hash.{hashOf, slots};
-ghost use Rattle.index.specs.Index.{FoundBelow, Nodes, firstIn, foundAs};
+ghost use Rattle.index.specs.Index.{FoundBelow, Nodes, Seeks, firstIn, foundAs};
 ghost use Rattle.document.specs.Policy.{Node, treeOf};
 ghost use Rattle.lists.specs.Lists.{findIndex};
 ghost use Rattle.purpose.specs.Compliance.{descends};
 ghost use Rattle.purpose.specs.Members.{limit};
 ghost use Rattle.text.specs.Words.{isCalled, wordAt, wordOf};
+
+// What looking a name up gives: its number, if it is known; where the word ends, and its hash.
+pub struct Sought {
+    pub found: Found,
+    pub end: usize,
+    pub hash: usize,
+}
 
 // The first of the names among the first k that has the hash h; k where none has it.
 fn first_hashed(ws: &[usize], room: usize, k: usize, h: usize) -> usize
@@ -34,7 +41,7 @@ fn first_hashed(ws: &[usize], room: usize, k: usize, h: usize) -> usize
     k
 }
 
-// The purpose or role of the name from i to e of the line, whose hash is h, among the first k. Names with another hash are others.
+// The purpose or role of the name of len bytes at i of the line, whose hash is h, among the first k. Names with another hash are others.
 fn find_node(
     text: &[u8],
     ws: &[usize],
@@ -60,28 +67,42 @@ fn find_node(
     Found::Nothing
 }
 
-// The purpose of the name from i to e of the line, whose hash is h, among the first k.
-pub fn find_purpose_to(
+// Looks the name at i of the line up among the first k, of which there is room for `room`. A large function on purpose: as a loop of its
+// own, not within a larger one, the walk keeps the hash in a register.
+fn seek_node(text: &[u8], ws: &[usize], room: usize, k: usize, line: &[u8], i: usize) -> Sought
+    requires { ⌜ (k ≤ room) × (3 * room + slots ≤ length (now ws)) ⌝ }
+    ensures { λ r. ⌜ Seeks room (now (text .entry)) (now (ws .entry)) k (now (line .entry)) i r ⌝ }
+{
+    let w = hash_word(line, i);
+    let e = w.end;
+    let h = w.hash;
+    let found = find_node(text, ws, room, k, line, i, e - i, h);
+    Sought {
+        found,
+        end: e,
+        hash: h,
+    }
+}
+
+// Looks the name at i of the line up among the first k purposes.
+pub fn seek_purpose(
     text: &[u8],
     ws: &[usize; PURPOSE_CELLS],
     k: usize,
     line: &[u8],
     i: usize,
-    e: usize,
-    h: usize,
-) -> Found
-    ensures { λ r. ⌜ ((ns : List Node) → Nodes limit (now (text .entry)) (now (ws .entry)) k ns → e ≡ i + length (wordAt (now (line .entry)) i) → h ≡ hashOf (wordAt (now (line .entry)) i) → foundAs r ≡ findIndex (λ x. isCalled (wordOf (now (line .entry)) i) (x .name)) ns) × FoundBelow r k ⌝ }
+) -> Sought
+    ensures { λ r. ⌜ Seeks limit (now (text .entry)) (now (ws .entry)) k (now (line .entry)) i r ⌝ }
 {
     if PURPOSES < k {
-        return Found::Nothing;
+        let w = hash_word(line, i);
+        return Sought {
+            found: Found::Nothing,
+            end: w.end,
+            hash: w.hash,
+        };
     }
-    if SLOTS <= h {
-        return Found::Nothing;
-    }
-    if e < i {
-        return Found::Nothing;
-    }
-    find_node(text, ws, PURPOSES, k, line, i, e - i, h)
+    seek_node(text, ws, PURPOSES, k, line, i)
 }
 
 // The purpose of the name at i of the line, among the first k.
@@ -94,8 +115,8 @@ pub fn find_purpose(
 ) -> Found
     ensures { λ r. ⌜ ((ns : List Node) → Nodes limit (now (text .entry)) (now (ws .entry)) k ns → foundAs r ≡ findIndex (λ x. isCalled (wordOf (now (line .entry)) i) (x .name)) ns) × FoundBelow r k ⌝ }
 {
-    let w = hash_word(line, i);
-    find_purpose_to(text, ws, k, line, i, w.end, w.hash)
+    let s = seek_purpose(text, ws, k, line, i);
+    s.found
 }
 
 // The role of the name at i of the line, among the first k.
@@ -105,16 +126,8 @@ pub fn find_role(text: &[u8], ws: &[usize; ROLE_CELLS], k: usize, line: &[u8], i
     if ROLES < k {
         return Found::Nothing;
     }
-    let w = hash_word(line, i);
-    let e = w.end;
-    let h = w.hash;
-    if SLOTS <= h {
-        return Found::Nothing;
-    }
-    if e < i {
-        return Found::Nothing;
-    }
-    find_node(text, ws, ROLES, k, line, i, e - i, h)
+    let s = seek_node(text, ws, ROLES, k, line, i);
+    s.found
 }
 
 // One more among the purposes or the roles, of which there is room for `room`; h is its name's hash. The slot keeps the first name.

@@ -1,7 +1,7 @@
 -- `checker::purposes::is_name_to` meets its contract: a letter stands first, and the word is short enough. Assumes nothing.
 use Prim.Native.Nat.{_-_}
 use borrow.Author.Tests.{leb-true, not-false}
-use mathlib.Core.Path.{_∙_, refl, sym}
+use mathlib.Core.Path.{refl}
 use native.Mathlib.Omega.{arith}
 use Rattle.lists.proofs.Tests.{true-not-false}
 use Rattle.text.proofs.Lefts.{test-of}

@@ -19,7 +19,9 @@ enum-told : tie.Need-enum-told
 enum-told c = search needs
 
 returns : tie.Need-returns
-returns c = (λ d l N. c .take-below .ensures .0 d l (subst (ReadsBelow (c .before .before .before .before .before .before .before .before .args .line .now)) (c .before .before .before .r .given .1) (c .before .before .before .before .before .read-below .ensures)) N, c .take-below .ensures .1)
+returns c =
+    let a = c .before .before .before .before .before .before .before .before .before .args in
+    (λ d l N. c .take-below .ensures .0 d l (subst (ReadsBelow (a .text .now) (a .purposes .now) (a .k) (a .line .now)) (c .before .before .before .r .given .1) (c .before .before .before .before .before .read-below .ensures)) N, c .take-below .ensures .1)
 
 returns-2 : tie.Need-returns-2
 returns-2 c = (λ d l N. N, λ held. true-not-false held refl)

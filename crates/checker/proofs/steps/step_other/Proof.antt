@@ -11,7 +11,6 @@ use Rattle.checker.specs.PurposeLine.{PurposeTaken, TakesPurpose}
 use Rattle.document.specs.Policy.{Doc}
 use Rattle.index.specs.Index.{Nodes}
 use Rattle.purpose.specs.Members.{limit}
-use borrow.Author.Needs.{needs}
 use Rattle.checker.proofs.steps.step_other.Statement.{statement}
 use Rattle.checker.proofs.steps.step_other.Tie as tie
 

@@ -1,12 +1,12 @@
 -- `index::names::find_node` meets its contract. The loop's invariant: no name that was passed is the one looked for. Assumes nothing.
-use Prim.Native.Nat.{_+_, _-_, _<_, _≤_, ℕ}
+use Prim.Native.Nat.{_-_, _<_, _≤_, ℕ}
 use borrow.Author.Count.{below-more}
 use borrow.Author.Needs.{needs}
 use lib.ListN.{getD, length}
 use mathlib.Core.Bool.{false}
 use mathlib.Core.List.{List}
 use mathlib.Core.Logic.{⊎-elim}
-use mathlib.Core.Path.{_∙_, _≡_, ap, subst, sym}
+use mathlib.Core.Path.{_∙_, _≡_, subst, sym}
 use native.Mathlib.Omega.{arith}
 use Rattle.document.specs.Policy.{Node}
 use Rattle.index.proofs.NodeLaws.{first-below, name-before, name-found, name-missed, other-name}
