@@ -9,13 +9,13 @@ use Rattle.index.specs.declared.hashes.Hashed.{Hashed}
 
 -- how many hashes there are
 abbrev pub slots : ℕ
-slots = 512
+slots = 1024
 
 -- the hash of a name, where h is that of the bytes before. It goes through each byte, and names that are the same (`sameName`) have
 -- the same: where bytes of either case are one, it must take them as one.
 unfoldable pub hashFrom : ℕ → Name → ℕ
 hashFrom h [] = h
-hashFrom h (b ∷ bs) = hashFrom ((37 * h + b) % slots) bs
+hashFrom h (b ∷ bs) = hashFrom ((105 * h + b) % slots) bs
 
 -- the hash of a name
 unfoldable pub hashOf : Name → ℕ

@@ -1,9 +1,11 @@
 // A name's hash: the number of the slot by which it is looked up.
 use crate::layout::SLOTS;
 use text::bytes::byte_at;
+use text::bytes::is_letter;
 use text::bytes::is_name_byte;
 ghost use mathlib.Core.Path.{_≡_};
 ghost use Rattle.index.specs.Hash.{HashedAt};
+ghost use Rattle.text.specs.Bytes.{isNameByte};
 
 // Where a word ends, and its hash.
 pub struct Hashed {
@@ -18,14 +20,24 @@ fn wide(b: u8) -> usize
     b as usize
 }
 
+// Whether b may stand in a name: letters, which most are, are told first.
+fn in_name(b: u8) -> bool
+    ensures { λ r. ⌜ r ≡ isNameByte b ⌝ }
+{
+    if is_letter(b) {
+        return true;
+    }
+    is_name_byte(b)
+}
+
 // The end and the hash of the name bytes that stand at a position, in one walk.
 pub fn hash_word(s: &[u8], at: usize) -> Hashed
     ensures { λ r. ⌜ HashedAt (now (s .entry)) at r ⌝ }
 {
     let mut i = at;
     let mut h: usize = 0;
-    while is_name_byte(byte_at(s, i)) {
-        h = (37 * h + wide(byte_at(s, i))) % SLOTS;
+    while in_name(byte_at(s, i)) {
+        h = (105 * h + wide(byte_at(s, i))) % SLOTS;
         i += 1;
     }
     Hashed { end: i, hash: h }

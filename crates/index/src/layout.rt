@@ -4,7 +4,7 @@ use purpose::LIMIT;
 use purpose::WORDS;
 
 // How many slots there are for names: purposes and roles are looked up by a name's hash.
-pub const SLOTS: usize = 512;
+pub const SLOTS: usize = 1024;
 
 pub const PURPOSES: usize = LIMIT;
 

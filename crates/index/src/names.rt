@@ -67,8 +67,7 @@ fn find_node(
     Found::Nothing
 }
 
-// Looks the name at i of the line up among the first k, of which there is room for `room`. A large function on purpose: as a loop of its
-// own, not within a larger one, the walk keeps the hash in a register.
+// Looks the name at i of the line up among the first k, of which there is room for `room`: one walk over it, for its end and its hash.
 fn seek_node(text: &[u8], ws: &[usize], room: usize, k: usize, line: &[u8], i: usize) -> Sought
     requires { ⌜ (k ≤ room) × (3 * room + slots ≤ length (now ws)) ⌝ }
     ensures { λ r. ⌜ Seeks room (now (text .entry)) (now (ws .entry)) k (now (line .entry)) i r ⌝ }

@@ -28,12 +28,12 @@ loop-holds c = (refl, (unfold hashOf in refl), omega arith)
 byte-at-requires : tie.Need-byte-at-requires Inv-loop μ-loop
 byte-at-requires c κs = search needs
 
-is-name-byte-requires : tie.Need-is-name-byte-requires Inv-loop μ-loop
-is-name-byte-requires c κs = search needs
+in-name-requires : tie.Need-in-name-requires Inv-loop μ-loop
+in-name-requires c κs = search needs
 
 -- in a turn, a name byte stands at the loop's place
 turn : (c : tie.Then1 Inv-loop μ-loop) → isNameByte (getD (c .before .before .before .before .before .args .s .now) (c .before .before .before .loop .i) 0) ≡ true
-turn c = test-of isNameByte (c .before .before .byte-at .ensures) (c .before .is-name-byte .ensures) (c .if1 .taken)
+turn c = test-of isNameByte (c .before .before .byte-at .ensures) (c .before .in-name .ensures) (c .if1 .taken)
 
 mul-h : tie.Need-mul-h Inv-loop μ-loop
 mul-h c = omega (arith, c .before .before .before .loop .inv .2)
@@ -59,15 +59,15 @@ loop-again c =
     let l = c .before .before .before .before .before .loop in
     let byte : c .wide .result ≡ getD s (l .i) 0 = c .wide .ensures ∙ c .before .byte-at2 .ensures in (
       omega (arith, ap length (word-more s (l .i) (turn (c .before .before))), l .inv .0),
-      ap (λ b. hashFrom ((37 * l .h + b) % slots) (wordAt s (l .i + 1))) byte ∙ hash-more s (l .i) (l .h) (turn (c .before .before)) ∙ l .inv .1,
-      mod-lt (37 * l .h + c .wide .result) (omega arith),
+      ap (λ b. hashFrom ((105 * l .h + b) % slots) (wordAt s (l .i + 1))) byte ∙ hash-more s (l .i) (l .h) (turn (c .before .before)) ∙ l .inv .1,
+      mod-lt (105 * l .h + c .wide .result) (omega arith),
     )
 
 returns : tie.Need-returns Inv-loop μ-loop
 returns c =
     let s = c .before .before .before .before .before .args .s .now in
     let l = c .before .before .before .loop in
-    let stops : isNameByte (getD s (l .i) 0) ≡ false = test-of isNameByte (c .before .before .byte-at .ensures) (c .before .is-name-byte .ensures) (c .if1 .left) in
+    let stops : isNameByte (getD s (l .i) 0) ≡ false = test-of isNameByte (c .before .before .byte-at .ensures) (c .before .in-name .ensures) (c .if1 .left) in
     record { ends = omega (arith, ap length (word-stop s (l .i) stops), l .inv .0); is = hash-stop s (l .i) (l .h) stops ∙ l .inv .1 }
 
 pub hash-word-spec : {M : Type 1} → statement M
@@ -78,7 +78,7 @@ hash-word-spec =
     μ-loop
     loop-holds
     byte-at-requires
-    is-name-byte-requires
+    in-name-requires
     mul-h
     byte-at-requires-2
     wide-requires
