@@ -349,6 +349,47 @@ module _ (s : List ℕ) (at : ℕ) {v : Field} {e : ℕ} (f : FieldIs s at v e) 
   pub field-longer : (past 34 s at + length (wordAt s (past 34 s at)) + (past 34 s at - at) ≡ e → ⊥) → isValue v ≡ false
   field-longer n = never (isValue v) (λ h. n (sym (field-fit h .1)))
 
+-- the quote that closes a word alone ends its plain bytes, too
+quote-no-plain : (b : ℕ) → eqb b 34 ≡ true → isPlain b ≡ false
+unfolding isPlain
+quote-no-plain b e = rw e
+
+quoted-plain : (bs : List ℕ) (p : Field × ℕ) → quoted false bs ≡ some p → p .1 ≡ suc (length (nameBytes bs)) → plainBytes bs ≡ nameBytes bs
+unfolding quoted nameBytes plainBytes
+quoted-plain [] p h l = not-read p h
+quoted-plain (b ∷ bs) p h l = go (quoted-plain bs) (isNameByte b) refl (eqb b 34) refl h l
+  where
+    go : ((q : Field × ℕ) → quoted false bs ≡ some q → q .1 ≡ suc (length (nameBytes bs)) → plainBytes bs ≡ nameBytes bs)
+        → (n : Bool) → isNameByte b ≡ n → (t : Bool) → eqb b 34 ≡ t → wrap (cond t [] (b ∷ [])) (quoted t bs) ≡ some p → p .1 ≡ suc (length (cond n (b ∷ nameBytes bs) []))
+        → cond (isPlain b) (b ∷ plainBytes bs) [] ≡ cond n (b ∷ nameBytes bs) []
+    go ih true h true e k j = true-not-false e (name-no-quote b h)
+    go ih true h false e k j =
+        let w = wrap-some (b ∷ []) (quoted false bs) p k in
+        rw (name-plain b h) (ap (λ (x : List ℕ). b ∷ x) (ih (w .0) (w .1) (omega (arith, j, w .3))))
+    go ih false h true e k j = rw (quote-no-plain b e)
+    go ih false h false e k j =
+        let w = wrap-some (b ∷ []) (quoted false bs) p k in
+        absurd (omega (arith, j, w .3, quoted-one bs (w .0) (w .1)))
+
+-- a field that is a name or a number is the plain bytes behind the quote, or at its start
+pub field-plain : (s : List ℕ) (at : ℕ) (v : Field) (l : Left) → field (from s at) ≡ some (v, l) → isValue v ≡ true → plainBytes (drop (past 34 s at) s) ≡ wordAt s (past 34 s at)
+field-plain s at v l f h = go (eqb (getD s at 0) 34) refl (field-fit s at (field-is s at v l f) h)
+  where
+    go : (t : Bool) → eqb (getD s at 0) 34 ≡ t → (v ≡ wordAt s (past 34 s at)) × (l .at ≡ past 34 s at + length (wordAt s (past 34 s at)) + (past 34 s at - at))
+        → plainBytes (drop (past 34 s at) s) ≡ wordAt s (past 34 s at)
+    go true e w =
+        let k = eqb-true _ _ e in
+        let q : past 34 s at ≡ at + 1 = past-here 34 s at (λ z. absurd (omega arith)) k in
+        let t = taken-some (from s (at + 1)) (quoted false (drop (at + 1) s)) v l (sym (field-quoted s at k) ∙ f) in
+        let m : l .at ≡ at + 1 + length (wordAt s (at + 1)) + (at + 1 - at) = w .1 ∙ ap (λ (p : ℕ). p + length (wordAt s p) + (p - at)) q in
+        let r = quoted-plain (drop (at + 1) s) (t .0) (t .1) (omega (arith, m, ap (λ (x : Left). x .at) (t .3))) in
+        subst (λ (p : ℕ). plainBytes (drop p s) ≡ wordAt s p) (sym q) r
+    go false e w =
+        let k = eqb-false _ _ e in
+        let q : past 34 s at ≡ at = past-other 34 s at k in
+        let g = got (plainBytes (drop at s), from s (at + length (plainBytes (drop at s)))) v l (sym (field-bare s at k) ∙ f) in
+        ap (λ (p : ℕ). plainBytes (drop p s)) q ∙ g .0 ∙ w .0
+
 -- ---- what the code's answers say
 
 taken-end : (s : List ℕ) (a : ℕ) (o : Option (Field × ℕ)) → quotedEnd a o ≡ wordEnd (taken (from s a) o)
@@ -375,9 +416,9 @@ module _ (s : List ℕ) (at : ℕ) where
         let p : past 34 s at ≡ at = past-other 34 s at n in
         ap (λ (m : ℕ). At (m + length (plainBytes (drop m s)))) e ∙ ap At (sym (plain-skip s k (past 34 s at) h)) ∙ ap (λ (m : ℕ). At (m + length (plainBytes (drop m s)))) p ∙ ends-bare n
 
-  -- where a field ends that is the word alone: not far behind the file
-  pub word-room : (past 34 s at + length (wordAt s (past 34 s at)) + (past 34 s at - at) ≤ length s + 1) ⊎ (past 34 s at + length (wordAt s (past 34 s at)) + (past 34 s at - at) ≡ at)
-  word-room = go (leb at (length s)) refl
+  -- where a field ends that is a run of n bytes: not far behind the file
+  pub run-room : (n : ℕ) → n ≤ length (drop (past 34 s at) s) → (past 34 s at + n + (past 34 s at - at) ≤ length s + 1) ⊎ (past 34 s at + n + (past 34 s at - at) ≡ at)
+  run-room n r = go (leb at (length s)) refl
     where
       near : past 34 s at ≤ at + 1
       near = unfold past in by (ltb at (length s) && eqb (getD s at 0) 34)
@@ -386,15 +427,21 @@ module _ (s : List ℕ) (at : ℕ) where
           by true = omega arith
           by false = omega arith
 
-      go : (t : Bool) → leb at (length s) ≡ t
-          → (past 34 s at + length (wordAt s (past 34 s at)) + (past 34 s at - at) ≤ length s + 1) ⊎ (past 34 s at + length (wordAt s (past 34 s at)) + (past 34 s at - at) ≡ at)
+      go : (t : Bool) → leb at (length s) ≡ t → (past 34 s at + n + (past 34 s at - at) ≤ length s + 1) ⊎ (past 34 s at + n + (past 34 s at - at) ≡ at)
       go true e =
           let i = past-within 34 s at (leb-true at (length s) e) in
-          inl (omega (arith, near, i, run-within (drop (past 34 s at) s), length-drop (past 34 s at) s))
+          inl (omega (arith, near, i, r, length-drop (past 34 s at) s))
       go false e =
           let o = leb-false at (length s) e in
           let p : past 34 s at ≡ at = past-end 34 s at (omega (arith, o)) in
-          inr (omega (arith, p, o, run-within (drop (past 34 s at) s), length-drop (past 34 s at) s))
+          inr (omega (arith, p, o, r, length-drop (past 34 s at) s))
+
+  -- the word, and the plain bytes
+  pub word-room : (past 34 s at + length (wordAt s (past 34 s at)) + (past 34 s at - at) ≤ length s + 1) ⊎ (past 34 s at + length (wordAt s (past 34 s at)) + (past 34 s at - at) ≡ at)
+  word-room = run-room (length (wordAt s (past 34 s at))) (run-within (drop (past 34 s at) s))
+
+  pub plain-room : (past 34 s at + length (plainBytes (drop (past 34 s at) s)) + (past 34 s at - at) ≤ length s + 1) ⊎ (past 34 s at + length (plainBytes (drop (past 34 s at) s)) + (past 34 s at - at) ≡ at)
+  plain-room = run-room (length (plainBytes (drop (past 34 s at) s))) (plain-within (drop (past 34 s at) s))
 
 -- a field that ended at e
 pub record FieldEnded (s : List ℕ) (at e : ℕ) : Type 0 where

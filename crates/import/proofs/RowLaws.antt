@@ -2,7 +2,7 @@
 use Prim.Native.Nat.{_+_, _-_, _<_, _≤_, suc, zero, ℕ}
 use borrow.Author.Tests.{eqb-false, eqb-true, ltb-false, ltb-true}
 use lib.Dec.{eqb, ltb}
-use lib.ListN.{getD, length}
+use lib.ListN.{drop, getD, length}
 use mathlib.Core.Bool.{Bool, cond, false, true}
 use mathlib.Core.List.{List, [], _++_, _∷_, append-assoc, flatten}
 use mathlib.Core.Option.{Option, Option·none-ne-some, none, some}
@@ -10,13 +10,13 @@ use mathlib.Core.Path.{_∙_, _≡_, ap, refl, subst, sym}
 use native.Mathlib.Omega.{arith}
 use Rattle.form.proofs.RowBack.{rowText-bytes}
 use Rattle.form.specs.RowText.{itemTexts, spaced}
-use Rattle.import.proofs.FieldLaws.{eats-field, field-fit, field-is}
+use Rattle.import.proofs.FieldLaws.{eats-field, field-fit, field-is, field-plain}
 use Rattle.import.proofs.RecordLaws.{eats-fields, end-next, fields-broken, fields-last, fields-more}
 use Rattle.import.proofs.ScanLaws.{record-none, record-other, record-read, records-end, records-step}
 use Rattle.writing.proofs.Writing.{Ahead, both, done, start, step}
 use Rattle.import.specs.Importing.{firstUnfit, lineOf, linesOf, oneLabel}
 use Rattle.import.specs.Placement.{FieldPlaced, FieldsPlaced, Placing, RowPlaced, RowsPlaced}
-use Rattle.import.specs.Fields.{Field, field}
+use Rattle.import.specs.Fields.{Field, field, plainBytes}
 use Rattle.import.specs.Records.{Entry, Split, entryBefore, fields, fieldsUpTo, goOn, malformed, recordEnd, recordOf, records, recordsUpTo, split, width}
 use Rattle.writing.specs.Write.{Wrote}
 use Rattle.import.specs.declared.rows.Placed.{Placed}
@@ -32,18 +32,19 @@ use Rattle.text.specs.Words.{wordAt}
 -- ---- a field
 
 pub field-placed : (s : List ℕ) (at : ℕ) {begin : ℕ} {before mid after : List ℕ} {to next : ℕ} (r : Placed)
-    → begin ≡ past 34 s at → Wrote before to (32 ∷ []) mid next → Wrote mid next (wordAt s begin) after (r .to)
-    → r .at ≡ begin + length (wordAt s begin) + (begin - at) → at ≤ past 34 s at
+    → begin ≡ past 34 s at → Wrote before to (32 ∷ []) mid next → Wrote mid next (plainBytes (drop begin s)) after (r .to)
+    → r .at ≡ begin + length (plainBytes (drop begin s)) + (begin - at) → at ≤ past 34 s at
     → FieldPlaced s at before to after r
 field-placed s at {begin} {before} {mid} {after} {to} {next} r b w x e h = record {
   kept = x .kept ∙ w .kept;
   on = omega (arith, e, b, h);
   placed = λ v l f k.
       let q = field-fit s at (field-is s at v l f) k in
-      let i : v ≡ wordAt s begin = q .0 ∙ ap (λ (p : ℕ). wordAt s p) (sym b) in
+      let p : plainBytes (drop begin s) ≡ wordAt s begin = ap (λ (n : ℕ). plainBytes (drop n s)) b ∙ field-plain s at v l f k ∙ ap (λ (n : ℕ). wordAt s n) (sym b) in
+      let i : v ≡ plainBytes (drop begin s) = q .0 ∙ ap (λ (n : ℕ). wordAt s n) (sym b) ∙ sym p in
       record {
         wrote = subst (λ (bs : List ℕ). Wrote before to (32 ∷ bs) after (r .to)) (sym i) (both w x);
-        next = e ∙ ap (λ (p : ℕ). p + length (wordAt s p) + (p - at)) b ∙ sym (q .1);
+        next = e ∙ ap (λ (bs : List ℕ). begin + length bs + (begin - at)) p ∙ ap (λ (n : ℕ). n + length (wordAt s n) + (n - at)) b ∙ sym (q .1);
       };
 }
 

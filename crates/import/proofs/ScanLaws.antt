@@ -1,6 +1,6 @@
 -- The records of a file, as a loop goes through them. Assumes nothing.
 use Prim.Native.Nat.{_*_, _+_, _-_, _<_, _≤_, suc, zero, ℕ}
-use borrow.Author.Tests.{eq-eqb, ne-eqb}
+use borrow.Author.Tests.{eq-eqb, eqb-false, eqb-true, ne-eqb}
 use lib.Dec.{eqb}
 use lib.ListN.{drop-of-length-le, length}
 use mathlib.Core.Bool.{Bool, _&&_, cond, false, true}
@@ -10,11 +10,10 @@ use mathlib.Core.Path.{_∙_, _≡_, ap, refl, sym}
 use native.Mathlib.Nat.{add-zero, zero-add}
 use native.Mathlib.Omega.{arith}
 use Rattle.import.proofs.RecordLaws.{RecordGot, left-here}
-use Rattle.import.specs.Scanned.{fieldUnfit, firstOf, placeOf, recordReadOf, scanOf, sizeOf, totalSize, unfitIn}
+use Rattle.import.specs.Scanned.{fieldUnfit, firstOf, placeOf, scanOf, sizeOf, totalSize, unfitIn, widthAfter}
 use Rattle.import.specs.Importing.{firstUnfit}
 use Rattle.import.specs.Fields.{Field}
 use Rattle.import.specs.Records.{Entry, Split, countRead, entryBefore, fields, goOn, malformed, recordOf, records, recordsUpTo, split, width}
-use Rattle.import.specs.declared.records.RecordRead.the-variants as recordRead
 use Rattle.import.specs.declared.records.Scan.the-variants as scan
 use Rattle.import.specs.declared.records.Scan.{Scan}
 use Rattle.lists.specs.Lists.{allOf}
@@ -22,24 +21,6 @@ use Rattle.text.specs.Numbers.{isValue}
 use Rattle.text.specs.Reader.{Left, from}
 use Rattle.text.specs.declared.words.End.the-variants.{At, Nothing}
 use Rattle.text.specs.declared.words.End.{End}
-
--- ---- the width
-
-pub width-read : (s : List ℕ) {e n z u : ℕ} → recordReadOf (fields (from s 0)) ≡ recordRead.At e n z u → n ≡ width s
-unfolding width countRead
-width-read s {e} {n} {z} {u} h = go (fields (from s 0)) h
-  where
-    go : (o : Option (List Field × Left)) → recordReadOf o ≡ recordRead.At e n z u → n ≡ countRead o
-    go none k = let x : _≡_ {A = ℕ} 0 1 = cc in absurd (omega arith)
-    go (some r) k = unfold countRead in cc
-
-pub width-none : (s : List ℕ) → recordReadOf (fields (from s 0)) ≡ recordRead.Malformed → 0 ≡ width s
-unfolding width countRead
-width-none s h = go (fields (from s 0)) h
-  where
-    go : (o : Option (List Field × Left)) → recordReadOf o ≡ recordRead.Malformed → 0 ≡ countRead o
-    go none k = unfold countRead in refl
-    go (some r) k = let x : _≡_ {A = ℕ} 0 1 = cc in absurd (omega arith)
 
 -- ---- one record and those behind it
 
@@ -174,3 +155,29 @@ module _ (s : List ℕ) (w : ℕ) {i n z : ℕ} {f : End} (g : Scanning s w i n 
         small = omega (arith, g .small, r .past here, r .small);
         inside = r .inside (g .inside);
       }
+
+-- ---- the width
+
+-- the same, where w is the first record's width as soon as a record is counted
+pub record Widely (s : List ℕ) (w i n z : ℕ) (f : End) : Type 0 where
+  pub scanning : Scanning s (width s) i n z f
+  pub first : n ≡ 0 → i ≡ 0
+  pub wide : (n ≡ 0 → ⊥) → w ≡ width s
+
+pub widely-start : (s : List ℕ) → Widely s 0 0 0 0 Nothing
+widely-start s = record { scanning = scan-start s refl; first = λ e. refl; wide = λ k. absurd (k refl) }
+
+module _ (s : List ℕ) (w : ℕ) {i n z : ℕ} {f : End} (g : Widely s w i n z f) {e c x y : ℕ} (r : RecordGot s i e c x y) where
+  -- the width that is expected is that of the first record
+  pub width-now : widthAfter n w c ≡ width s
+  width-now = go (eqb n 0) refl
+    where
+      own : i ≡ 0 → c ≡ width s
+      own h = unfold width countRead in r .count ∙ sym (ap countRead (ap (λ (k : ℕ). fields (from s k)) (sym h) ∙ r .read))
+
+      go : (t : Bool) → eqb n 0 ≡ t → widthAfter n w c ≡ width s
+      go true k = unfold widthAfter in rw k (own (g .first (eqb-true n 0 k)))
+      go false k = unfold widthAfter in rw k (g .wide (eqb-false n 0 k))
+
+  pub widely-more : i < length s → c ≡ width s → {f′ : End} → f′ ≡ firstOf f y i → {w′ : ℕ} → w′ ≡ width s → Widely s w′ e (n + 1) (z + x) f′
+  widely-more here k p q = record { scanning = scan-more s (width s) (g .scanning) here r k p; first = λ o. absurd (omega (arith, o)); wide = λ o. q }

@@ -1,12 +1,12 @@
 -- What the functions say that write row lines: they go by the file's positions, and are right where the file was read there and its fields are names and numbers.
-use Prim.Native.Nat.{_≤_, ℕ}
-use lib.ListN.{length}
+use Prim.Native.Nat.{_+_, _-_, _<_, _≤_, ℕ}
+use lib.ListN.{drop, length}
 use mathlib.Core.Bool.{true}
 use mathlib.Core.List.{List, _∷_}
 use mathlib.Core.Option.{none, some}
 use mathlib.Core.Path.{_≡_}
 use Rattle.form.specs.RowText.{spaced}
-use Rattle.import.specs.Fields.{Field, field}
+use Rattle.import.specs.Fields.{Field, field, plainBytes}
 use Rattle.import.specs.Importing.{firstUnfit, lineOf, linesOf}
 use Rattle.import.specs.Records.{Entry, fields, records, split}
 use Rattle.import.specs.declared.rows.Placed.{Placed}
@@ -20,6 +20,23 @@ use Rattle.writing.specs.Write.{Wrote}
 pub record Placing (l : Left) (before : List ℕ) (to : ℕ) (bytes after : List ℕ) (r : Placed) : Type 0 where
   pub wrote : Wrote before to bytes after (r .to)
   pub next : r .at ≡ l .at
+
+-- from `at` on to r, the file has bytes and the buffer room for them, from `to` on
+pub record Reaching (len at room to r : ℕ) : Type 0 where
+  pub from : at ≤ r
+  pub inside : at < r → r ≤ len
+  pub fits : at < r → to + (r - at) ≤ room
+
+-- some of the plain bytes at a position were written: to write what is left of them at r comes to the same as to write them all
+pub record PlainCopying (s : List ℕ) (at : ℕ) (before : List ℕ) (to : ℕ) (after : List ℕ) (r : Placed) : Type 0 where
+  pub kept : length after ≡ length before
+  pub ends : r .at + length (plainBytes (drop (r .at) s)) ≡ at + length (plainBytes (drop at s))
+  pub rest : (next : ℕ) (end : List ℕ) → Wrote after (r .to) (plainBytes (drop (r .at) s)) end next → Wrote before to (plainBytes (drop at s)) end next
+
+-- the plain bytes at a position were written, and r says where to go on
+pub record PlainCopied (s : List ℕ) (at : ℕ) (before : List ℕ) (to : ℕ) (after : List ℕ) (r : Placed) : Type 0 where
+  pub wrote : Wrote before to (plainBytes (drop at s)) after (r .to)
+  pub ends : r .at ≡ at + length (plainBytes (drop at s))
 
 -- a space and a field; in any case the buffer keeps its length, and r goes on in the file
 pub record FieldPlaced (s : List ℕ) (at : ℕ) (before : List ℕ) (to : ℕ) (after : List ℕ) (r : Placed) : Type 0 where

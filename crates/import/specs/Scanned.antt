@@ -14,10 +14,16 @@ use Rattle.import.specs.declared.records.RecordRead.{RecordRead}
 use Rattle.import.specs.declared.records.RecordRead.the-variants as recordRead
 use Rattle.import.specs.declared.records.Scan.{Scan}
 use Rattle.import.specs.declared.records.Scan.the-variants as scan
+use Rattle.text.specs.Bytes.{isDigit}
 use Rattle.text.specs.Numbers.{isValue}
 use Rattle.text.specs.Reader.{Left}
 use Rattle.text.specs.declared.words.End.{End}
 use Rattle.text.specs.declared.words.End.the-variants.{At, Nothing}
+
+-- the digits at the front, as many as there are
+unfoldable pub digitBytes : List ℕ → List ℕ
+digitBytes [] = []
+digitBytes (b ∷ bs) = cond (isDigit b) (b ∷ digitBytes bs) []
 
 -- where a field behind an opening quote ends
 abbrev pub quotedEnd : ℕ → Option (Field × ℕ) → End
@@ -66,6 +72,10 @@ placeOf (some p) = At p
 abbrev pub firstOf : End → ℕ → ℕ → End
 firstOf (At p) unfit at = At p
 firstOf Nothing unfit at = cond (eqb unfit 0) Nothing (At at)
+
+-- the width that is expected of a record of n fields behind `count` others: theirs, or its own where it is the first
+unfoldable pub widthAfter : (count w n : ℕ) → ℕ
+widthAfter count w n = cond (eqb count 0) n w
 
 -- what a file comes to: the place of a malformed record; or the number of its records, the bytes that their fields take, and the
 -- place of the first with an unfit field

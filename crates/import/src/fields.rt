@@ -1,18 +1,23 @@
 // Fields of a comma-separated file: where they end, and what they come to.
 use text::bytes::byte_at;
+use text::bytes::is_digit;
+use text::bytes::is_letter;
+use text::bytes::is_name_byte;
 use text::walking::skip_byte;
 use text::words::End;
 use text::words::value_end;
 ghost use Prim.Native.Nat.{_+_, _≤_, ℕ};
 ghost use lib.ListN.{drop, length};
-ghost use mathlib.Core.Bool.{false};
+ghost use mathlib.Core.Bool.{false, true};
 ghost use mathlib.Core.Path.{_≡_};
 ghost use Rattle.import.specs.Fields.{field, isPlain, plainBytes, quoted};
-ghost use Rattle.import.specs.Scanned.{fieldOf, quotedEnd};
+ghost use Rattle.import.specs.Scanned.{digitBytes, fieldOf, quotedEnd};
+ghost use Rattle.text.specs.Bytes.{isNameByte};
 ghost use Rattle.text.specs.CodeEnds.{wordEnd};
 ghost use Rattle.text.specs.Reader.{from};
 ghost use Rattle.text.specs.Walking.{past};
-ghost use Rattle.text.specs.Words.{wordAt};
+ghost use Rattle.text.specs.Words.{value, wordAt};
+ghost use Rattle.text.specs.declared.words.End.the-variants.{At};
 
 // Where a field ends, how many bytes it takes in a row line with the space in front of it, and 1 if it is unfit, 0 if not.
 pub enum FieldRead {
@@ -20,8 +25,84 @@ pub enum FieldRead {
     Broken,
 }
 
+// Whether b may stand in a name. What most bytes of a list are, small letters, is tested first.
+fn is_word_byte(b: u8) -> bool
+    ensures { λ r. ⌜ r ≡ isNameByte b ⌝ }
+{
+    if b < b'a' {
+        return is_name_byte(b);
+    }
+    b <= b'z'
+}
+
+// The end of the name bytes at a position.
+fn word_end(s: &[u8], at: usize) -> usize
+    ensures { λ r. ⌜ r ≡ at + length (wordAt (now (s .entry)) at) ⌝ }
+{
+    let mut i = at;
+    while i < s.len() {
+        if !is_word_byte(s[i]) {
+            return i;
+        }
+        i += 1;
+    }
+    i
+}
+
+// The end of the digits at a position.
+fn digits_end(s: &[u8], at: usize) -> usize
+    ensures { λ r. ⌜ r ≡ at + length (digitBytes (drop at (now (s .entry)))) ⌝ }
+{
+    let mut i = at;
+    while i < s.len() {
+        if !is_digit(s[i]) {
+            return i;
+        }
+        i += 1;
+    }
+    i
+}
+
+// Whether the digits at a position, which end there, are a number by a glance: at most 18 of them, or 19 of which the first is
+// no 9. Where it says no, they may be one all the same.
+fn is_short_number(s: &[u8], at: usize, end: usize) -> bool
+    ensures { λ r. ⌜ (end ≡ at + length (digitBytes (drop at (now (s .entry)))) → r ≡ true → wordEnd (value (from (now (s .entry)) at)) ≡ At end) ⌝ }
+{
+    if end <= at {
+        return false;
+    }
+    if is_word_byte(byte_at(s, end)) {
+        return false;
+    }
+    if byte_at(s, at) == b'0' {
+        return end - at == 1;
+    }
+    if byte_at(s, at) == b'9' {
+        return end - at < 19;
+    }
+    end - at < 20
+}
+
+// The end of the name or number at a position, as value_end finds it: short ones are told without arithmetic.
+fn short_value_end(s: &[u8], at: usize) -> End
+    ensures { λ r. ⌜ r ≡ wordEnd (value (from (now (s .entry)) at)) ⌝ }
+{
+    if is_letter(byte_at(s, at)) {
+        let e = word_end(s, at);
+        if e - at <= 24 {
+            return End::At(e);
+        }
+        return value_end(s, at);
+    }
+    let d = digits_end(s, at);
+    if is_short_number(s, at, d) {
+        return End::At(d);
+    }
+    value_end(s, at)
+}
+
 // Whether b may stand in a field without quotes.
-fn is_plain(b: u8) -> bool
+pub(crate) fn is_plain(b: u8) -> bool
     ensures { λ r. ⌜ r ≡ isPlain b ⌝ }
 {
     if b == b'"' {
@@ -85,7 +166,7 @@ pub(crate) fn read_field(s: &[u8], at: usize) -> FieldRead
     ensures { λ r. ⌜ r ≡ fieldOf (field (from (now (s .entry)) at)) ⌝ }
 {
     let start = skip_byte(s, at, b'"');
-    let v = value_end(s, start);
+    let v = short_value_end(s, start);
     let End::At(w) = v else {
         let g = field_end(s, at, start);
         let End::At(e) = g else {

@@ -4,8 +4,8 @@ use crate::fields::read_field;
 use text::bytes::byte_at;
 use text::words::End;
 ghost use mathlib.Core.Path.{_≡_};
-ghost use Rattle.import.specs.Records.{fields, recordEnd, records, width};
-ghost use Rattle.import.specs.Scanned.{firstOf, recordReadOf, scanOf};
+ghost use Rattle.import.specs.Records.{fields, recordEnd, records};
+ghost use Rattle.import.specs.Scanned.{firstOf, recordReadOf, scanOf, widthAfter};
 ghost use Rattle.text.specs.CodeEnds.{wordEnd};
 ghost use Rattle.text.specs.Reader.{from};
 
@@ -83,22 +83,21 @@ fn first_of(found: End, unfit: usize, at: usize) -> End
     }
 }
 
-// The number of fields of the first record.
-fn first_width(s: &[u8]) -> usize
-    ensures { λ r. ⌜ r ≡ width (now (s .entry)) ⌝ }
+// The number of fields that a record must have: that of the first, which has none before it, is its own.
+fn expected_width(count: usize, w: usize, n: usize) -> usize
+    ensures { λ r. ⌜ r ≡ widthAfter count w n ⌝ }
 {
-    let x = read_record(s, 0);
-    match x {
-        RecordRead::At(_, n, _, _) => n,
-        RecordRead::Malformed => 0,
+    if count == 0 {
+        return n;
     }
+    w
 }
 
 // A whole file.
 pub(crate) fn scan_file(s: &[u8]) -> Scan
     ensures { λ r. ⌜ r ≡ scanOf (records (now (s .entry))) ⌝ }
 {
-    let w = first_width(s);
+    let mut w = 0;
     let mut i = 0;
     let mut count = 0;
     let mut size = 0;
@@ -108,6 +107,7 @@ pub(crate) fn scan_file(s: &[u8]) -> Scan
         let RecordRead::At(e, n, z, u) = x else {
             return Scan::Malformed(i);
         };
+        w = expected_width(count, w, n);
         if n != w {
             return Scan::Malformed(i);
         }

@@ -1,15 +1,75 @@
 // Row lines, written from a file of which it is known that its fields are names and numbers.
+use crate::fields::is_plain;
 use text::bytes::byte_at;
 use text::walking::skip_byte;
-use writing::bytes::copy_word;
 use writing::bytes::put_byte;
 use writing::bytes::put_bytes;
-ghost use Rattle.import.specs.Placement.{FieldPlaced, FieldsPlaced, RowPlaced, RowsPlaced};
+ghost use lib.ListN.{length};
+ghost use Rattle.import.specs.Placement.{FieldPlaced, FieldsPlaced, PlainCopied, PlainCopying, Reaching, RowPlaced, RowsPlaced};
 
 // Where the next byte goes in the buffer, and where to read on in the file.
 pub struct Placed {
     pub to: usize,
     pub at: usize,
+}
+
+// How far bytes can be copied without asking where the file or the buffer ends.
+fn sure_end(len: usize, at: usize, room: usize, to: usize) -> usize
+    ensures { λ r. ⌜ Reaching len at room to r ⌝ }
+{
+    if len <= at {
+        return at;
+    }
+    if room <= to {
+        return at;
+    }
+    if len - at <= room - to {
+        return len;
+    }
+    at + (room - to)
+}
+
+// Copies plain bytes up to a position that is sure. Gives how far it came.
+fn copy_sure(out: &mut [u8], to: usize, s: &[u8], at: usize, end: usize) -> Placed
+    requires { ⌜ Reaching (length (now s)) at (length (now out)) to end ⌝ }
+    ensures { λ r. ⌜ PlainCopying (now (s .entry)) at (now (out .entry)) to (now (out .exit)) r ⌝ }
+{
+    let mut t = to;
+    let mut i = at;
+    while i < end {
+        if !is_plain(s[i]) {
+            return Placed { to: t, at: i };
+        }
+        out[t] = s[i];
+        t += 1;
+        i += 1;
+    }
+    Placed { to: t, at: i }
+}
+
+// Copies plain bytes one by one, each as far as the buffer goes.
+fn copy_slowly(out: &mut [u8], to: usize, s: &[u8], at: usize) -> Placed
+    ensures { λ r. ⌜ PlainCopied (now (s .entry)) at (now (out .entry)) to (now (out .exit)) r ⌝ }
+{
+    let mut t = to;
+    let mut i = at;
+    while i < s.len() {
+        if !is_plain(s[i]) {
+            return Placed { to: t, at: i };
+        }
+        t = put_byte(out, t, s[i]);
+        i += 1;
+    }
+    Placed { to: t, at: i }
+}
+
+// Writes the plain bytes at a position. Gives where they end.
+fn copy_plain(out: &mut [u8], to: usize, s: &[u8], at: usize) -> Placed
+    ensures { λ r. ⌜ PlainCopied (now (s .entry)) at (now (out .entry)) to (now (out .exit)) r ⌝ }
+{
+    let end = sure_end(s.len(), at, out.len(), to);
+    let p = copy_sure(out, to, s, at, end);
+    copy_slowly(out, p.to, s, p.at)
 }
 
 // Writes a space and the field at a position. Gives where the field ends.
@@ -18,10 +78,10 @@ fn put_field(out: &mut [u8], to: usize, s: &[u8], at: usize) -> Placed
 {
     let start = skip_byte(s, at, b'"');
     let next = put_byte(out, to, b' ');
-    let c = copy_word(out, next, s, start);
+    let c = copy_plain(out, next, s, start);
     Placed {
         to: c.to,
-        at: c.from + (start - at),
+        at: c.at + (start - at),
     }
 }
 

@@ -22,8 +22,8 @@ use Rattle.import.proofs.fields.read_field.Tie as tie
 skip-byte-requires : tie.Need-skip-byte-requires
 skip-byte-requires c κs = search needs
 
-value-end-requires : tie.Need-value-end-requires
-value-end-requires c κs = search needs
+short-value-end-requires : tie.Need-short-value-end-requires
+short-value-end-requires c κs = search needs
 
 enum-known-v : tie.Need-enum-known-v
 enum-known-v c = search needs
@@ -52,7 +52,7 @@ returns-2 c =
     let s = c .before .before .before .before .before .before .before .before .before .args .s .now in
     let at = c .before .before .before .before .before .before .before .before .before .args .at in
     let f = field-ended s at (c .before .g .given .0 .0) (sym (slow ((c .before .before .before))) ∙ c .before .g .given .1) in
-    let n : isValue (wordAt s (past 34 s at)) ≡ false = ap (λ p. isValue (wordAt s p)) (sym (c .before .before .before .before .before .before .before .skip-byte .ensures)) ∙ word-nothing s (c .before .before .before .before .before .before .before .skip-byte .result) isValue (sym (c .before .before .before .before .before .before .value-end .ensures) ∙ c .before .before .before .before .enum-told .given .1) in
+    let n : isValue (wordAt s (past 34 s at)) ≡ false = ap (λ p. isValue (wordAt s p)) (sym (c .before .before .before .before .before .before .before .skip-byte .ensures)) ∙ word-nothing s (c .before .before .before .before .before .before .before .skip-byte .result) isValue (sym (c .before .before .before .before .before .before .short-value-end .ensures) ∙ c .before .before .before .before .enum-told .given .1) in
     read-unfit s at f (word-unfit s at (f .is) n)
 
 field-end-requires-2 : tie.Need-field-end-requires-2
@@ -68,7 +68,7 @@ enum-told-3 c = search needs
 word : (c : tie.After-field-end2) → (isValue (wordAt (c .before .before .before .before .before .before .before .args .s .now) (past 34 (c .before .before .before .before .before .before .before .args .s .now) (c .before .before .before .before .before .before .before .args .at))) ≡ true) × (c .before .before .v .given .0 .0 ≡ past 34 (c .before .before .before .before .before .before .before .args .s .now) (c .before .before .before .before .before .before .before .args .at) + length (wordAt (c .before .before .before .before .before .before .before .args .s .now) (past 34 (c .before .before .before .before .before .before .before .args .s .now) (c .before .before .before .before .before .before .before .args .at))))
 word c =
     subst (λ p. (isValue (wordAt (c .before .before .before .before .before .before .before .args .s .now) p) ≡ true) × (c .before .before .v .given .0 .0 ≡ p + length (wordAt (c .before .before .before .before .before .before .before .args .s .now) p))) (c .before .before .before .before .before .skip-byte .ensures)
-    (word-at (c .before .before .before .before .before .before .before .args .s .now) (c .before .before .before .before .before .skip-byte .result) isValue (c .before .before .v .given .0 .0) (sym (c .before .before .before .before .value-end .ensures) ∙ c .before .before .v .given .1))
+    (word-at (c .before .before .before .before .before .before .before .args .s .now) (c .before .before .before .before .before .skip-byte .result) isValue (c .before .before .v .given .0 .0) (sym (c .before .before .before .before .short-value-end .ensures) ∙ c .before .before .v .given .1))
 
 quick : (c : tie.After-field-end2) → c .field-end2 .result ≡ wordEnd (field (from (c .before .before .before .before .before .before .before .args .s .now) (c .before .before .before .before .before .before .before .args .at)))
 quick c = c .field-end2 .ensures (length (wordAt (c .before .before .before .before .before .before .before .args .s .now) (past 34 (c .before .before .before .before .before .before .before .args .s .now) (c .before .before .before .before .before .before .before .args .at)))) (word c .1) (omega arith)
@@ -108,7 +108,7 @@ read-field-spec =
     tie.close
     (tie.spec
     skip-byte-requires
-    value-end-requires
+    short-value-end-requires
     enum-known-v
     enum-told
     field-end-requires

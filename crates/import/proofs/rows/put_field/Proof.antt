@@ -1,12 +1,12 @@
 -- `import::rows::put_field` meets its contract. Assumes nothing.
 use Prim.Native.Nat.{_+_}
-use Rattle.import.proofs.FieldLaws.{word-room}
+use Rattle.import.proofs.FieldLaws.{plain-room}
 use Rattle.import.proofs.RowLaws.{field-placed}
+use Rattle.import.specs.Fields.{plainBytes}
 use Rattle.text.proofs.WalkingLaws.{past-forward}
 use Rattle.text.specs.Walking.{past}
-use Rattle.text.specs.Words.{wordAt}
 use borrow.Author.Needs.{needs}
-use lib.ListN.{length}
+use lib.ListN.{drop, length}
 use mathlib.Core.Logic.{⊎-elim}
 use mathlib.Core.Path.{_∙_, _≡_, ap}
 use native.Mathlib.Omega.{arith}
@@ -19,24 +19,24 @@ skip-byte-requires c κs = search needs
 put-byte-requires : tie.Need-put-byte-requires
 put-byte-requires c κs = search needs
 
-copy-word-requires : tie.Need-copy-word-requires
-copy-word-requires c κs = search needs
+copy-plain-requires : tie.Need-copy-plain-requires
+copy-plain-requires c κs = search needs
 
--- where the word ends that begins behind the quote, or at the field's start
-ends : (c : tie.After-copy-word) → c .copy-word .result .from ≡ past 34 (c .before .before .before .before .before .before .before .before .before .args .s .now) (c .before .before .before .before .before .before .before .before .before .args .at) + length (wordAt (c .before .before .before .before .before .before .before .before .before .args .s .now) (past 34 (c .before .before .before .before .before .before .before .before .before .args .s .now) (c .before .before .before .before .before .before .before .before .before .args .at)))
-ends c = c .copy-word .ensures .behind ∙ ap (λ p. p + length (wordAt (c .before .before .before .before .before .before .before .before .before .args .s .now) p)) (c .before .before .before .before .before .before .skip-byte .ensures)
+-- where the plain bytes end that begin behind the quote, or at the field's start
+ends : (c : tie.After-copy-plain) → c .copy-plain .result .at ≡ past 34 (c .before .before .before .before .before .before .before .before .before .args .s .now) (c .before .before .before .before .before .before .before .before .before .args .at) + length (plainBytes (drop (past 34 (c .before .before .before .before .before .before .before .before .before .args .s .now) (c .before .before .before .before .before .before .before .before .before .args .at)) (c .before .before .before .before .before .before .before .before .before .args .s .now)))
+ends c = c .copy-plain .ensures .ends ∙ ap (λ p. p + length (plainBytes (drop p (c .before .before .before .before .before .before .before .before .before .args .s .now)))) (c .before .before .before .before .before .before .skip-byte .ensures)
 
 sub-t12 : tie.Need-sub-t12
 sub-t12 c = omega (arith, c .before .before .before .before .before .before .before .before .skip-byte .ensures, past-forward 34 (c .before .before .before .before .before .before .before .before .before .before .before .args .s .now) (c .before .before .before .before .before .before .before .before .before .before .before .args .at))
 
 add-t13 : tie.Need-add-t13
-add-t13 c = ⊎-elim (λ l. omega (arith, l, ends ((c .before .before .before)), c .before .before .before .before .before .before .before .before .before .skip-byte .ensures)) (λ l. omega (arith, l, ends ((c .before .before .before)), c .before .before .before .before .before .before .before .before .before .skip-byte .ensures)) (word-room (c .before .before .before .before .before .before .before .before .before .before .before .before .args .s .now) (c .before .before .before .before .before .before .before .before .before .before .before .before .args .at))
+add-t13 c = ⊎-elim (λ l. omega (arith, l, ends ((c .before .before .before)), c .before .before .before .before .before .before .before .before .before .skip-byte .ensures)) (λ l. omega (arith, l, ends ((c .before .before .before)), c .before .before .before .before .before .before .before .before .before .skip-byte .ensures)) (plain-room (c .before .before .before .before .before .before .before .before .before .before .before .before .args .s .now) (c .before .before .before .before .before .before .before .before .before .before .before .before .args .at))
 
 same-length : tie.Need-same-length
-same-length c = c .before .before .before .copy-word .ensures .wrote .kept ∙ c .before .before .before .before .before .before .before .put-byte .ensures .kept
+same-length c = c .before .before .before .copy-plain .ensures .wrote .kept ∙ c .before .before .before .before .before .before .before .put-byte .ensures .kept
 
 returns : tie.Need-returns
-returns c = field-placed (c .before .before .before .before .before .before .before .before .before .before .before .before .args .s .now) (c .before .before .before .before .before .before .before .before .before .before .before .before .args .at) _ (c .before .before .before .before .before .before .before .before .before .skip-byte .ensures) (c .before .before .before .before .before .before .before .put-byte .ensures) (c .before .before .before .copy-word .ensures .wrote) (omega (arith, c .before .before .before .copy-word .ensures .behind)) (past-forward 34 (c .before .before .before .before .before .before .before .before .before .before .before .before .args .s .now) (c .before .before .before .before .before .before .before .before .before .before .before .before .args .at))
+returns c = field-placed (c .before .before .before .before .before .before .before .before .before .before .before .before .args .s .now) (c .before .before .before .before .before .before .before .before .before .before .before .before .args .at) _ (c .before .before .before .before .before .before .before .before .before .skip-byte .ensures) (c .before .before .before .before .before .before .before .put-byte .ensures) (c .before .before .before .copy-plain .ensures .wrote) (omega (arith, c .before .before .before .copy-plain .ensures .ends)) (past-forward 34 (c .before .before .before .before .before .before .before .before .before .before .before .before .args .s .now) (c .before .before .before .before .before .before .before .before .before .before .before .before .args .at))
 
 pub put-field-spec : {M : Type 1} → statement M
 put-field-spec =
@@ -44,7 +44,7 @@ put-field-spec =
     (tie.spec
     skip-byte-requires
     put-byte-requires
-    copy-word-requires
+    copy-plain-requires
     sub-t12
     add-t13
     same-length

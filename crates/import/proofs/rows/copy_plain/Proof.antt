@@ -1,0 +1,24 @@
+-- `import::rows::copy_plain` meets its contract. Assumes nothing.
+use Rattle.import.proofs.CopyLaws.{copy-rest}
+use borrow.Author.Needs.{needs}
+use mathlib.Core.Path.{_∙_}
+use Rattle.import.proofs.rows.copy_plain.Statement.{statement}
+use Rattle.import.proofs.rows.copy_plain.Tie as tie
+
+sure-end-requires : tie.Need-sure-end-requires
+sure-end-requires c κs = search needs
+
+copy-sure-requires : tie.Need-copy-sure-requires
+copy-sure-requires c κs = search needs
+
+copy-slowly-requires : tie.Need-copy-slowly-requires
+copy-slowly-requires c κs = search needs
+
+same-length : tie.Need-same-length
+same-length c = c .before .before .copy-slowly .ensures .wrote .kept ∙ c .before .before .before .before .before .before .copy-sure .ensures .kept
+
+returns : tie.Need-returns
+returns c = copy-rest (c .before .before .before .before .before .before .before .before .before .before .before .args .s .now) (c .before .before .before .before .before .before .before .before .before .before .before .args .at) (c .before .before .before .before .before .before .copy-sure .result) (c .before .before .copy-slowly .result) (c .before .before .before .before .before .before .copy-sure .ensures) (c .before .before .copy-slowly .ensures)
+
+pub copy-plain-spec : {M : Type 1} → statement M
+copy-plain-spec = tie.close (tie.spec sure-end-requires copy-sure-requires copy-slowly-requires same-length returns)
