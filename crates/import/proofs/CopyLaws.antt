@@ -9,7 +9,7 @@ use Rattle.import.proofs.FieldLaws.{plain-more, plain-none, plain-stop}
 use Rattle.import.specs.Fields.{isPlain, plainBytes}
 use Rattle.import.specs.Placement.{PlainCopied, PlainCopying}
 use Rattle.import.specs.declared.rows.Placed.{Placed}
-use Rattle.writing.proofs.Writing.{Ahead, done, start, step}
+use Rattle.writing.proofs.Writing.{Ahead, done, start, step, wrote-nothing}
 use Rattle.writing.specs.Write.{Wrote}
 
 -- at the loop's place i: to write the plain bytes from there on comes to the same as to write them all at the start
@@ -37,12 +37,21 @@ module _ (s : List ℕ) (at : ℕ) {i : ℕ} {before out : List ℕ} {to t : ℕ
   copy-none h = ended (plain-none s i h)
 
   -- some are copied
-  pub copy-part : PlainCopying s at before to out (record { to = t; at = i })
-  copy-part = record {
+  pub copy-part : (end : ℕ) → (i < end → plainBytes (drop i s) ≡ []) → PlainCopying s at end before to out (record { to = t; at = i })
+  copy-part end h = record {
     kept = g .ahead .kept;
     ends = g .ends;
-    rest = λ next end w. done (step (plainBytes (drop i s)) [] (g .ahead) (sym (append-nil (plainBytes (drop i s)))) w) refl;
+    stop = h;
+    rest = λ next last w. done (step (plainBytes (drop i s)) [] (g .ahead) (sym (append-nil (plainBytes (drop i s)))) w) refl;
   }
 
-pub copy-rest : (s : List ℕ) (at : ℕ) {before mid after : List ℕ} {to : ℕ} (p r : Placed) → PlainCopying s at before to mid p → PlainCopied s (p .at) mid (p .to) after r → PlainCopied s at before to after r
+pub copy-rest : (s : List ℕ) (at : ℕ) {end : ℕ} {before mid after : List ℕ} {to : ℕ} (p r : Placed) → PlainCopying s at end before to mid p → PlainCopied s (p .at) mid (p .to) after r → PlainCopied s at before to after r
 copy-rest s at p r x y = record { wrote = x .rest _ _ (y .wrote); ends = y .ends ∙ x .ends }
+
+pub copy-all : (s : List ℕ) (at : ℕ) {end : ℕ} {before after : List ℕ} {to : ℕ} (p : Placed) → PlainCopying s at end before to after p → p .at < end → PlainCopied s at before to after p
+copy-all s at {end} {before} {after} {to} p x h =
+    let e = x .stop h in
+    record {
+      wrote = x .rest _ _ (subst (λ (bs : List ℕ). Wrote after (p .to) bs after (p .to)) (sym e) (wrote-nothing after (p .to)));
+      ends = omega (arith, x .ends, ap length e);
+    }

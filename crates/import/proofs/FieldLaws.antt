@@ -114,6 +114,9 @@ name-plain b h =
       not-name 13 b (unfold isNameByte isLetter isDigit in refl) h,
     )
 
+pub not-plain : (b : ℕ) → isPlain b ≡ false → isNameByte b ≡ false
+not-plain b e = never (isNameByte b) (λ h. true-not-false (name-plain b h) e)
+
 quote-no-name : (b : ℕ) → eqb b 34 ≡ true → isNameByte b ≡ false
 quote-no-name b e = never (isNameByte b) (λ h. true-not-false e (name-no-quote b h))
 

@@ -15,7 +15,7 @@ use Rattle.lists.specs.Lists.{allOf, isEmpty}
 use Rattle.text.proofs.ByteLaws.{digit-nameByte, name-value}
 use Rattle.text.proofs.Lefts.{drop-here, first-drop}
 use Rattle.text.proofs.NumberLaws.{value-number}
-use Rattle.text.proofs.WordLaws.{is-name, word-read}
+use Rattle.text.proofs.WordLaws.{is-name, name-byte-here, word-more, word-read}
 use Rattle.text.specs.Bytes.{firstByte, isDigit, isLetter, isNameByte}
 use Rattle.text.specs.CodeEnds.{wordEnd}
 use Rattle.text.specs.Numbers.{digitsFrom, isValue, magnitude, noLeadingZero, rank, rankOf, rankUp}
@@ -125,9 +125,19 @@ digits-word (b ∷ bs) h = go (isDigit b) refl (digits-word bs) h
     go true e ih k = rw (digit-nameByte b e) (ap (λ (l : List ℕ). b ∷ l) (ih k))
     go false e ih k = rw k
 
+letter-name-byte : (b : ℕ) → isLetter b ≡ true → isNameByte b ≡ true
+unfolding isNameByte
+letter-name-byte b h = rw h
+
 module _ (s : List ℕ) (at : ℕ) where
-  pub name-ended : {e : ℕ} → isLetter (getD s at 0) ≡ true → e ≡ at + length (wordAt s at) → e - at ≤ 24 → At e ≡ wordEnd (value (from s at))
-  name-ended h q l = rw (word-read s at isValue (name-value (wordAt s at) (is-name s at h (omega (arith, q, l))))) (ap At q)
+  -- a letter stands there: the word goes on behind it
+  pub letter-here : isLetter (getD s at 0) ≡ true → at < length s
+  letter-here h = name-byte-here s at (letter-name-byte (getD s at 0) h)
+
+  pub name-ended : {e : ℕ} → isLetter (getD s at 0) ≡ true → e ≡ at + 1 + length (wordAt s (at + 1)) → e - at ≤ 24 → At e ≡ wordEnd (value (from s at))
+  name-ended {e} h q l =
+      let k : e ≡ at + length (wordAt s at) = omega (arith, q, ap length (word-more s at (letter-name-byte (getD s at 0) h))) in
+      rw (word-read s at isValue (name-value (wordAt s at) (is-name s at h (omega (arith, k, l))))) (ap At k)
 
   module _ {end : ℕ} (ends : end ≡ at + length (digitBytes (drop at s))) (some-there : at < end) (stop : isNameByte (getD s end 0) ≡ false) where
     number-ended : (k a : ℕ) → end - at ≤ suc k → getD s at 0 - 48 < a → grow k a ≤ 2 ^ 63 → (getD s at 0 ≡ 48 → end - at ≡ 1) → wordEnd (value (from s at)) ≡ At end

@@ -2,7 +2,7 @@
 use Prim.Native.Nat.{_+_, _-_, _<_, _≤_, ℕ}
 use lib.ListN.{drop, length}
 use mathlib.Core.Bool.{true}
-use mathlib.Core.List.{List, _∷_}
+use mathlib.Core.List.{List, [], _∷_}
 use mathlib.Core.Option.{none, some}
 use mathlib.Core.Path.{_≡_}
 use Rattle.form.specs.RowText.{spaced}
@@ -27,11 +27,12 @@ pub record Reaching (len at room to r : ℕ) : Type 0 where
   pub inside : at < r → r ≤ len
   pub fits : at < r → to + (r - at) ≤ room
 
--- some of the plain bytes at a position were written: to write what is left of them at r comes to the same as to write them all
-pub record PlainCopying (s : List ℕ) (at : ℕ) (before : List ℕ) (to : ℕ) (after : List ℕ) (r : Placed) : Type 0 where
+-- plain bytes at a position were written, all of them or as far as `end`: to write what is left at r comes to the same as to write all
+pub record PlainCopying (s : List ℕ) (at end : ℕ) (before : List ℕ) (to : ℕ) (after : List ℕ) (r : Placed) : Type 0 where
   pub kept : length after ≡ length before
   pub ends : r .at + length (plainBytes (drop (r .at) s)) ≡ at + length (plainBytes (drop at s))
-  pub rest : (next : ℕ) (end : List ℕ) → Wrote after (r .to) (plainBytes (drop (r .at) s)) end next → Wrote before to (plainBytes (drop at s)) end next
+  pub stop : r .at < end → plainBytes (drop (r .at) s) ≡ []
+  pub rest : (next : ℕ) (last : List ℕ) → Wrote after (r .to) (plainBytes (drop (r .at) s)) last next → Wrote before to (plainBytes (drop at s)) last next
 
 -- the plain bytes at a position were written, and r says where to go on
 pub record PlainCopied (s : List ℕ) (at : ℕ) (before : List ℕ) (to : ℕ) (after : List ℕ) (r : Placed) : Type 0 where

@@ -71,7 +71,7 @@ fn is_short_number(s: &[u8], at: usize, end: usize) -> bool
     if end <= at {
         return false;
     }
-    if is_word_byte(byte_at(s, end)) {
+    if is_plain(byte_at(s, end)) {
         return false;
     }
     if byte_at(s, at) == b'0' {
@@ -88,7 +88,7 @@ fn short_value_end(s: &[u8], at: usize) -> End
     ensures { λ r. ⌜ r ≡ wordEnd (value (from (now (s .entry)) at)) ⌝ }
 {
     if is_letter(byte_at(s, at)) {
-        let e = word_end(s, at);
+        let e = word_end(s, at + 1);
         if e - at <= 24 {
             return End::At(e);
         }

@@ -7,12 +7,12 @@ use text::refusals::Refusal;
 use text::refusals::Source;
 use text::words::End;
 use text::words::name_end;
-ghost use Prim.Native.Nat.{_*_, _+_, _<_, _^_};
+ghost use Prim.Native.Nat.{_*_, _+_, _<_, _^_, ℕ};
 ghost use mathlib.Core.List.{List};
 ghost use mathlib.Core.Path.{_≡_};
 ghost use Rattle.import.specs.Importing.{admitted, importable, measureImport, refusalAt};
 ghost use Rattle.import.specs.Outside.{Imports, importedAs, inBrief, judgedAs, within};
-ghost use Rattle.import.specs.Records.{Entry, split};
+ghost use Rattle.import.specs.Records.{Entry, records, split};
 ghost use Rattle.import.specs.Scanned.{scanOf};
 ghost use Rattle.import.specs.declared.records.Scan.the-variants as scan;
 ghost use Rattle.text.specs.Names.{isName};
@@ -71,7 +71,7 @@ fn length_within(room: usize, count: usize, each: usize, more: usize) -> End
     End::Nothing
 }
 
-// 20 and 21 of a file, by what scanning it gave.
+// 20 and 21 of a file without a malformed record.
 fn judge_scanned(
     table: &[u8],
     label: &[u8],
@@ -98,11 +98,10 @@ fn judge_scanned(
     Judged::Fit(count, n)
 }
 
-// 19, 20 and 21 of a file.
-fn judge(file: &[u8], table: &[u8], label: &[u8], room: usize) -> Judged
-    ensures { λ r. ⌜ judgedAs r ≡ inBrief (now (table .entry)) (now (label .entry)) (importable (now (file .entry)) (now (table .entry)) (now (label .entry)) room) ⌝ }
+// 19, 20 and 21 of a file, by what scanning it gave.
+fn judge(x: Scan, table: &[u8], label: &[u8], room: usize) -> Judged
+    ensures { λ r. ⌜ ((bytes : List ℕ) → x ≡ scanOf (records bytes) → judgedAs r ≡ inBrief (now (table .entry)) (now (label .entry)) (importable bytes (now (table .entry)) (now (label .entry)) room)) ⌝ }
 {
-    let x = scan_file(file);
     match x {
         Scan::Malformed(p) => Judged::Refused(refusal_at(Reason::MalformedRecord, p)),
         Scan::Counted(count, size, unfit) => {
@@ -115,7 +114,8 @@ fn judge(file: &[u8], table: &[u8], label: &[u8], room: usize) -> Judged
 pub fn import_rows(file: &[u8], table: &[u8], label: &[u8], out: &mut [u8]) -> Imported
     ensures { λ r. ⌜ Imports (now (file .entry)) (now (table .entry)) (now (label .entry)) (now (out .entry)) (now (out .exit)) r ⌝ }
 {
-    let j = judge(file, table, label, out.len());
+    let x = scan_file(file);
+    let j = judge(x, table, label, out.len());
     match j {
         Judged::Refused(r) => Imported::Refused(r),
         Judged::Fit(count, n) => {
@@ -129,7 +129,8 @@ pub fn import_rows(file: &[u8], table: &[u8], label: &[u8], out: &mut [u8]) -> I
 pub fn measure_rows(file: &[u8], table: &[u8], label: &[u8]) -> Imported
     ensures { λ r. ⌜ importedAs r ≡ measureImport (now (file .entry)) (now (table .entry)) (now (label .entry)) ⌝ }
 {
-    let j = judge(file, table, label, MOST);
+    let x = scan_file(file);
+    let j = judge(x, table, label, MOST);
     match j {
         Judged::Refused(r) => Imported::Refused(r),
         Judged::Fit(_, n) => Imported::Lines(n),

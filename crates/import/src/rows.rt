@@ -4,13 +4,60 @@ use text::bytes::byte_at;
 use text::walking::skip_byte;
 use writing::bytes::put_byte;
 use writing::bytes::put_bytes;
+ghost use Prim.Native.Nat.{_+_, _≤_};
 ghost use lib.ListN.{length};
+ghost use mathlib.Core.Bool.{true};
+ghost use mathlib.Core.List.{[], _∷_};
+ghost use mathlib.Core.Path.{_≡_};
 ghost use Rattle.import.specs.Placement.{FieldPlaced, FieldsPlaced, PlainCopied, PlainCopying, Reaching, RowPlaced, RowsPlaced};
+ghost use Rattle.writing.specs.Write.{Wrote};
 
 // Where the next byte goes in the buffer, and where to read on in the file.
 pub struct Placed {
     pub to: usize,
     pub at: usize,
+}
+
+// Whether n bytes have room from a place on.
+fn has_room(room: usize, to: usize, n: usize) -> bool
+    ensures { λ r. ⌜ (r ≡ true → to + n ≤ room) ⌝ }
+{
+    if room <= to {
+        return false;
+    }
+    n <= room - to
+}
+
+// Writes `(row `, at once where it fits.
+fn put_opening(out: &mut [u8], to: usize) -> usize
+    ensures { λ r. ⌜ Wrote (now (out .entry)) to (40 ∷ 114 ∷ 111 ∷ 119 ∷ 32 ∷ []) (now (out .exit)) r ⌝ }
+{
+    if !has_room(out.len(), to, 5) {
+        return put_bytes(out, to, b"(row ");
+    }
+    let second = to + 1;
+    let third = second + 1;
+    let fourth = third + 1;
+    let fifth = fourth + 1;
+    out[to] = b'(';
+    out[second] = b'r';
+    out[third] = b'o';
+    out[fourth] = b'w';
+    out[fifth] = b' ';
+    fifth + 1
+}
+
+// Writes `)` and a line feed, at once where they fit.
+fn put_closing(out: &mut [u8], to: usize) -> usize
+    ensures { λ r. ⌜ Wrote (now (out .entry)) to (41 ∷ 10 ∷ []) (now (out .exit)) r ⌝ }
+{
+    if !has_room(out.len(), to, 2) {
+        return put_bytes(out, to, b")\n");
+    }
+    let second = to + 1;
+    out[to] = b')';
+    out[second] = b'\n';
+    second + 1
 }
 
 // How far bytes can be copied without asking where the file or the buffer ends.
@@ -32,7 +79,7 @@ fn sure_end(len: usize, at: usize, room: usize, to: usize) -> usize
 // Copies plain bytes up to a position that is sure. Gives how far it came.
 fn copy_sure(out: &mut [u8], to: usize, s: &[u8], at: usize, end: usize) -> Placed
     requires { ⌜ Reaching (length (now s)) at (length (now out)) to end ⌝ }
-    ensures { λ r. ⌜ PlainCopying (now (s .entry)) at (now (out .entry)) to (now (out .exit)) r ⌝ }
+    ensures { λ r. ⌜ PlainCopying (now (s .entry)) at end (now (out .entry)) to (now (out .exit)) r ⌝ }
 {
     let mut t = to;
     let mut i = at;
@@ -69,6 +116,9 @@ fn copy_plain(out: &mut [u8], to: usize, s: &[u8], at: usize) -> Placed
 {
     let end = sure_end(s.len(), at, out.len(), to);
     let p = copy_sure(out, to, s, at, end);
+    if p.at < end {
+        return p;
+    }
     copy_slowly(out, p.to, s, p.at)
 }
 
@@ -107,12 +157,12 @@ fn put_fields(out: &mut [u8], to: usize, s: &[u8], at: usize) -> Placed
 fn put_row(out: &mut [u8], to: usize, s: &[u8], at: usize, table: &[u8], label: &[u8]) -> Placed
     ensures { λ r. ⌜ RowPlaced (now (s .entry)) at (now (table .entry)) (now (label .entry)) (now (out .entry)) to (now (out .exit)) r ⌝ }
 {
-    let a = put_bytes(out, to, b"(row ");
+    let a = put_opening(out, to);
     let b = put_bytes(out, a, table);
     let c = put_byte(out, b, b' ');
     let d = put_bytes(out, c, label);
     let p = put_fields(out, d, s, at);
-    let e = put_bytes(out, p.to, b")\n");
+    let e = put_closing(out, p.to);
     Placed { to: e, at: p.at }
 }
 

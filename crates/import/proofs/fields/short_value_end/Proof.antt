@@ -1,9 +1,10 @@
 -- `import::fields::short_value_end` meets its contract. Assumes nothing.
-use Rattle.import.proofs.ShortValues.{name-ended}
+use Rattle.import.proofs.ShortValues.{letter-here, name-ended}
 use Rattle.text.proofs.Lefts.{test-of}
 use Rattle.text.specs.Bytes.{isLetter}
 use borrow.Author.Needs.{needs}
 use mathlib.Core.Path.{sym}
+use native.Mathlib.Omega.{arith}
 use Rattle.import.proofs.fields.short_value_end.Statement.{statement}
 use Rattle.import.proofs.fields.short_value_end.Tie as tie
 
@@ -13,11 +14,14 @@ byte-at-requires c κs = search needs
 is-letter-requires : tie.Need-is-letter-requires
 is-letter-requires c κs = search needs
 
+add-word-end : tie.Need-add-word-end
+add-word-end c = omega (arith, letter-here (c .before .before .before .before .args .s .now) (c .before .before .before .before .args .at) (test-of isLetter (c .before .before .byte-at .ensures) (c .before .is-letter .ensures) (c .if1 .taken)))
+
 word-end-requires : tie.Need-word-end-requires
 word-end-requires c κs = search needs
 
 sub-if2 : tie.Need-sub-if2
-sub-if2 c = search needs
+sub-if2 c = omega (arith, c .word-end .ensures)
 
 returns : tie.Need-returns
 returns c = name-ended (c .before .before .before .before .before .before .args .s .now) (c .before .before .before .before .before .before .args .at) (test-of isLetter (c .before .before .before .before .byte-at .ensures) (c .before .before .before .is-letter .ensures) (c .before .before .if1 .taken)) (c .before .word-end .ensures) (c .if2 .taken)
@@ -49,6 +53,7 @@ short-value-end-spec =
     (tie.spec
     byte-at-requires
     is-letter-requires
+    add-word-end
     word-end-requires
     sub-if2
     returns

@@ -5,9 +5,6 @@ use mathlib.Core.Path.{_∙_, sym}
 use Rattle.import.proofs.importing.judge.Statement.{statement}
 use Rattle.import.proofs.importing.judge.Tie as tie
 
-scan-file-requires : tie.Need-scan-file-requires
-scan-file-requires c κs = search needs
-
 enum-known-x : tie.Need-enum-known-x
 enum-known-x c = search needs
 
@@ -21,16 +18,15 @@ judge-scanned-requires : tie.Need-judge-scanned-requires
 judge-scanned-requires c κs = search needs
 
 returns : tie.Need-returns
-returns c = judge-malformed (c .before .before .before .before .before .before .before .before .args .file .now) (c .before .before .before .before .before .before .before .before .args .table .now) (c .before .before .before .before .before .before .before .before .args .label .now) (c .before .before .before .before .before .before .before .before .args .room) (c .refusal-at .result) (sym (c .before .before .before .before .scan-file .ensures) ∙ c .before .before .x .given .1) (c .refusal-at .ensures)
+returns c = λ bytes e. judge-malformed bytes (c .before .before .before .before .before .before .args .table .now) (c .before .before .before .before .before .before .args .label .now) (c .before .before .before .before .before .before .args .room) (c .refusal-at .result) (sym e ∙ c .before .before .x .given .1) (c .refusal-at .ensures)
 
 returns-2 : tie.Need-returns-2
-returns-2 c = judge-counted (c .before .before .before .before .before .before .before .before .args .file .now) (c .before .before .before .before .before .before .before .before .args .table .now) (c .before .before .before .before .before .before .before .before .args .label .now) (c .before .before .before .before .before .before .before .before .args .room) (sym (c .before .before .before .before .scan-file .ensures) ∙ c .before .before .x2 .given .1) (c .judge-scanned .ensures)
+returns-2 c = λ bytes e. judge-counted bytes (c .before .before .before .before .before .before .args .table .now) (c .before .before .before .before .before .before .args .label .now) (c .before .before .before .before .before .before .args .room) (sym e ∙ c .before .before .x2 .given .1) (c .judge-scanned .ensures)
 
 pub judge-spec : {M : Type 1} → statement M
 judge-spec =
     tie.close
     (tie.spec
-    scan-file-requires
     enum-known-x
     refusal-at-requires
     enum-known-x-2

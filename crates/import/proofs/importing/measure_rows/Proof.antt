@@ -7,6 +7,9 @@ use mathlib.Core.Path.{_∙_, ap, sym}
 use Rattle.import.proofs.importing.measure_rows.Statement.{statement}
 use Rattle.import.proofs.importing.measure_rows.Tie as tie
 
+scan-file-requires : tie.Need-scan-file-requires
+scan-file-requires c κs = search needs
+
 judge-requires : tie.Need-judge-requires
 judge-requires c κs = search needs
 
@@ -18,12 +21,12 @@ enum-known-j-2 c = search needs
 
 returns : tie.Need-returns
 unfolding longestBuffer
-returns c = measures-refused (c .before .before .before .before .before .before .before .args .file .now) (c .before .before .before .before .before .before .before .args .table .now) (c .before .before .before .before .before .before .before .args .label .now) (c .before .j .given .0 .0) (sym (ap judgedAs (c .before .j .given .1)) ∙ c .before .before .before .judge .ensures)
+returns c = measures-refused (c .before .before .before .before .before .before .before .before .args .file .now) (c .before .before .before .before .before .before .before .before .args .table .now) (c .before .before .before .before .before .before .before .before .args .label .now) (c .before .j .given .0 .0) (sym (ap judgedAs (c .before .j .given .1)) ∙ c .before .before .before .judge .ensures (c .before .before .before .before .before .before .before .before .args .file .now) (c .before .before .before .before .scan-file .ensures))
 
 returns-2 : tie.Need-returns-2
 unfolding longestBuffer
-returns-2 c = measures-lines (c .before .before .before .before .before .before .before .args .file .now) (c .before .before .before .before .before .before .before .args .table .now) (c .before .before .before .before .before .before .before .args .label .now) (sym (ap judgedAs (c .before .j2 .given .1)) ∙ c .before .before .before .judge .ensures)
+returns-2 c = measures-lines (c .before .before .before .before .before .before .before .before .args .file .now) (c .before .before .before .before .before .before .before .before .args .table .now) (c .before .before .before .before .before .before .before .before .args .label .now) (sym (ap judgedAs (c .before .j2 .given .1)) ∙ c .before .before .before .judge .ensures (c .before .before .before .before .before .before .before .before .args .file .now) (c .before .before .before .before .scan-file .ensures))
 
 pub measure-rows-spec : {M : Type 1} → statement M
 measure-rows-spec =
-    tie.close (tie.spec judge-requires enum-known-j enum-known-j-2 returns returns-2)
+    tie.close (tie.spec scan-file-requires judge-requires enum-known-j enum-known-j-2 returns returns-2)

@@ -2,9 +2,10 @@
 -- same as to write them all at the start, and both places went on by as much. Assumes nothing.
 use Prim.Native.Nat.{_+_, _-_, _<_, _≤_}
 use Rattle.import.proofs.CopyLaws.{Copying, copy-more, copy-part, copy-start}
+use Rattle.import.proofs.FieldLaws.{plain-stop}
 use Rattle.writing.proofs.Writing.{wrote-byte}
 use borrow.Author.Needs.{needs}
-use borrow.Author.Tests.{not-false}
+use borrow.Author.Tests.{not-false, not-true}
 use lib.ListN.{length}
 use mathlib.Core.Path.{_∙_, _≡_, refl, sym}
 use native.Mathlib.Omega.{arith}
@@ -30,7 +31,9 @@ same-length : tie.Need-same-length Inv-loop μ-loop
 same-length c = c .before .before .before .before .loop .inv .0 .ahead .kept
 
 returns : tie.Need-returns Inv-loop μ-loop
-returns c = copy-part (c .before .before .before .before .before .before .before .args .s .now) (c .before .before .before .before .before .before .before .args .at) (c .before .before .before .before .loop .inv .0)
+returns c =
+    let h : c .before .before .before .before .loop .i < length (c .before .before .before .before .before .before .before .args .s .now) = omega (arith, c .before .before .before .loop-test .taken, c .before .before .before .before .before .before .before .pre .inside (omega (arith, c .before .before .before .loop-test .taken, c .before .before .before .before .loop .inv .1))) in
+    copy-part (c .before .before .before .before .before .before .before .args .s .now) (c .before .before .before .before .before .before .before .args .at) (c .before .before .before .before .loop .inv .0) (c .before .before .before .before .before .before .before .args .end) (λ k. plain-stop (c .before .before .before .before .before .before .before .args .s .now) (c .before .before .before .before .loop .i) h (sym (c .before .is-plain .ensures) ∙ not-true _ (c .if1 .taken)))
 
 shared-slice-read-out : tie.Need-shared-slice-read-out Inv-loop μ-loop
 shared-slice-read-out c = omega (arith, c .before .before .before .before .loop-test .taken, c .before .before .before .before .before .before .before .before .pre .inside (omega (arith, c .before .before .before .before .loop-test .taken, c .before .before .before .before .before .loop .inv .1)))
@@ -56,7 +59,7 @@ same-length-2 : tie.Need-same-length-2 Inv-loop μ-loop
 same-length-2 c = c .before .loop .inv .0 .ahead .kept
 
 returns-2 : tie.Need-returns-2 Inv-loop μ-loop
-returns-2 c = copy-part (c .before .before .before .before .args .s .now) (c .before .before .before .before .args .at) (c .before .loop .inv .0)
+returns-2 c = copy-part (c .before .before .before .before .args .s .now) (c .before .before .before .before .args .at) (c .before .loop .inv .0) (c .before .before .before .before .args .end) (λ k. absurd (omega (arith, k, c .loop-test .left)))
 
 pub copy-sure-spec : {M : Type 1} → statement M
 copy-sure-spec =
