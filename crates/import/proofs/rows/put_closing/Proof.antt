@@ -17,10 +17,10 @@ put-bytes-requires : tie.Need-put-bytes-requires
 put-bytes-requires c κs = search needs
 
 same-length : tie.Need-same-length
-same-length c = search needs
+same-length c = c .before .before .put-bytes .ensures .kept
 
 returns : tie.Need-returns
-returns c = search needs
+returns c = c .before .before .put-bytes .ensures
 
 add-second : tie.Need-add-second
 add-second c = omega (arith, c .before .has-room .ensures (not-false _ (c .if1 .left)))
@@ -35,7 +35,7 @@ add-result : tie.Need-add-result
 add-result c = omega (arith, c .before .has-room .ensures (not-false _ (c .if1 .left)))
 
 same-length-2 : tie.Need-same-length-2
-same-length-2 c = search needs
+same-length-2 c = rw (length-set, length-set)
 
 returns-2 : tie.Need-returns-2
 returns-2 c = both (wrote-byte _ _ _) (wrote-byte _ _ _)
