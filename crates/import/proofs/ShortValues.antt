@@ -4,7 +4,7 @@ use borrow.Author.Tests.{eqb-false, eqb-true, le-leb, leb-true, lt-ltb, ne-eqb}
 use lib.Dec.{eqb, leb}
 use lib.ListN.{drop, drop-of-length-le, getD, length}
 use lib.Seq.{drop-drop}
-use mathlib.Core.Bool.{Bool, _||_, cond, false, not, true}
+use mathlib.Core.Bool.{Bool, cond, false, not, true}
 use mathlib.Core.List.{List, [], _∷_}
 use mathlib.Core.Option.{bind, some}
 use mathlib.Core.Path.{_∙_, _≡_, ap, refl, sym}
