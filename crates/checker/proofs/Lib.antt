@@ -1,7 +1,2 @@
--- Laws of the checker. Assumes nothing.
-pub mod Growing
-pub mod Judgements
-pub mod PurposeLines
-pub mod CondLines
-pub mod TableLines
+-- Laws of the check, line after line. Assumes nothing.
 pub mod Turns

@@ -10,7 +10,8 @@ use mathlib.Core.Path.{_∙_, _≡_, ap, ap₂, refl, subst, sym}
 use native.Mathlib.Nat.{add-zero}
 use native.Mathlib.Omega.{arith}
 use Rattle.checker.specs.Loading.{Holds, Loads}
-use Rattle.checker.specs.Workspace.{Grows, Indexed}
+use Rattle.index.specs.Workspace.{Indexed}
+use Rattle.stepping.specs.Follows.{Grows}
 use Rattle.document.proofs.UniqueNames.{unique-empty, unique-line}
 use Rattle.document.specs.Check.{check, checkFrom, checkLine}
 use Rattle.document.specs.Invariants.{UniqueNames}
@@ -19,14 +20,14 @@ use Rattle.index.proofs.IndexLaws.{attributes-start, conds-start, nodes-start, 
 use Rattle.index.specs.Index.{lineIn}
 use Rattle.index.specs.Listed.{listed}
 use Rattle.purpose.specs.Members.{limit}
-use Rattle.storing.specs.Stored.{LineAt}
+use Rattle.stepping.specs.Stored.{LineAt}
 use Rattle.text.proofs.Lefts.{drop-here}
 use Rattle.text.specs.Bytes.{isDigit, isLetter, isNameByte}
 use Rattle.text.specs.Lines.{LineEnd, cut}
 use Rattle.text.specs.Reasons.{refusalOf}
 use Rattle.text.specs.Refusal.{Refusal, _>>=_, _>>_, accepted, document, moved, movedBy, pointingAll, pointingNowhere, refuseIf, refused}
 use Rattle.text.specs.Words.{nameBytes}
-use Rattle.checker.specs.declared.counts.Counts.{Counts}
+use Rattle.index.specs.declared.counts.Counts.{Counts}
 use Rattle.checker.specs.declared.loading.Loaded.the-variants as loaded
 use Rattle.text.specs.declared.refusals.Refusal as code
 

@@ -1,5 +1,3 @@
--- What the checker's answers stand for. Assumes nothing.
-pub mod Outcome
-pub mod Workspace
-pub mod PurposeLine
+-- What the check of a document gives. Assumes nothing.
 pub mod Loading
+pub mod Outcome

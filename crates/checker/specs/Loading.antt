@@ -3,12 +3,12 @@ use Prim.Native.Nat.{_≤_, ℕ}
 use lib.ListN.{length}
 use mathlib.Core.List.{List}
 use mathlib.Core.Path.{_≡_}
-use Rattle.checker.specs.Workspace.{Indexed}
+use Rattle.index.specs.Workspace.{Indexed}
 use Rattle.document.specs.Check.{Accepted, check}
 use Rattle.document.specs.Policy.{Doc}
 use Rattle.text.specs.Reasons.{refusalOf}
 use Rattle.text.specs.Refusal.{accepted, refused}
-use Rattle.checker.specs.declared.counts.Counts.{Counts}
+use Rattle.index.specs.declared.counts.Counts.{Counts}
 use Rattle.checker.specs.declared.loading.Loaded.{Loaded}
 use Rattle.checker.specs.declared.loading.Loaded.the-variants as loaded
 use Rattle.text.specs.declared.refusals.Refusal as code

@@ -1,6 +1,4 @@
-// The check of a document: its lines in order, each read, judged and stored in a workspace of arrays.
-pub mod counts;
+// The check of a document, line by line.
 pub mod documents;
 pub mod loading;
-mod purposes;
 mod steps;

@@ -1,8 +1,6 @@
 // The check of a document into lent arrays, line by line.
-use crate::counts::Counts;
-use crate::steps::Step;
 use crate::steps::step_line;
-use faults::fault::Fault;
+use index::counts::Counts;
 use index::layout::ATTRIBUTE_CELLS;
 use index::layout::COND_ROLE_CELLS;
 use index::layout::GRANT_CELLS;
@@ -13,6 +11,8 @@ use index::layout::ROW_CELLS;
 use index::layout::SET_WORDS;
 use index::layout::TABLE_CELLS;
 use index::layout::USER_CELLS;
+use stepping::fault::Fault;
+use stepping::step::Step;
 use text::lines::line_end;
 use text::refusals::Reason;
 use text::refusals::Refusal;
@@ -22,8 +22,8 @@ ghost use Prim.Native.Nat.{_+_, _<_, _^_, _≤_};
 ghost use lib.ListN.{length};
 ghost use mathlib.Core.Path.{_≡_};
 ghost use Rattle.checker.specs.Loading.{Loads};
-ghost use Rattle.checker.specs.Workspace.{refusalIn};
-ghost use Rattle.faults.specs.Judged.{Reaches};
+ghost use Rattle.stepping.specs.Follows.{refusalIn};
+ghost use Rattle.stepping.specs.Judged.{Reaches};
 ghost use Rattle.text.specs.Reasons.{refusalOf};
 ghost use Rattle.text.specs.Refusal.{moved};
 

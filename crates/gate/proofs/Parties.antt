@@ -24,7 +24,7 @@ use Rattle.query.specs.Query.{unknownParty}
 use Rattle.query.specs.QueryForm.{QueryForm, queryOf}
 use Rattle.text.specs.Words.{Word}
 use Rattle.gate.specs.Stages.{Chosen, ForPurpose, Reading, Standing, TablesHeld, asked}
-use Rattle.checker.specs.declared.counts.Counts.{Counts}
+use Rattle.index.specs.declared.counts.Counts.{Counts}
 use Rattle.index.specs.declared.found.Found.{Found}
 use Rattle.index.specs.declared.found.Found.the-variants as found
 use Rattle.purpose.specs.declared.Closure.{Closure}

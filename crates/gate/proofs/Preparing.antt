@@ -31,7 +31,7 @@ use Rattle.text.specs.Reader.{from}
 use Rattle.text.specs.Words.{Word, wordOf}
 use Rattle.gate.proofs.Chain.{no-word, number-found}
 use Rattle.gate.specs.Stages.{Chosen, ColumnsKnown, ForPurpose, InTable, TablesHeld, TestsPlaced, asked}
-use Rattle.checker.specs.declared.counts.Counts.{Counts}
+use Rattle.index.specs.declared.counts.Counts.{Counts}
 use Rattle.condition.specs.declared.conditions.Read.{Read}
 use Rattle.index.specs.declared.found.Found.{Found}
 use Rattle.index.specs.declared.found.Found.the-variants as found

@@ -5,7 +5,7 @@ use mathlib.Core.Bool.{Bool, true}
 use mathlib.Core.List.{List, [], map}
 use mathlib.Core.Option.{Option, Option·getD, some}
 use mathlib.Core.Path.{_≡_}
-use Rattle.checker.specs.Workspace.{Indexed}
+use Rattle.index.specs.Workspace.{Indexed}
 use Rattle.condition.specs.Answers.{comparedAt}
 use Rattle.condition.specs.Cond.{comparisonsIn}
 use Rattle.document.specs.Invariants.{Formed}
@@ -18,7 +18,7 @@ use Rattle.query.specs.Asked.{Asks, FewTests, TestWithin, conditionAt, queryWit
 use Rattle.query.specs.Naming.{wordsAt}
 use Rattle.query.specs.QueryForm.{QueryForm, namedWords, queryOf}
 use Rattle.text.specs.Words.{Word}
-use Rattle.checker.specs.declared.counts.Counts.{Counts}
+use Rattle.index.specs.declared.counts.Counts.{Counts}
 use Rattle.purpose.specs.declared.Closure.{Closure}
 use Rattle.query.specs.declared.reading.Asked.{Asked}
 use Rattle.query.specs.declared.reading.Head.{Head}

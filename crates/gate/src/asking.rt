@@ -2,11 +2,11 @@
 use answering::answers::answer_rows;
 use authority::grants::authorising_grant;
 use authority::purposes::purpose_closure;
-use checker::counts::Counts;
 use checker::loading::Loaded;
 use checker::loading::load;
 use condition::conditions::Read;
 use condition::conditions::read_places;
+use index::counts::Counts;
 use index::found::Found;
 use index::labels::open_labels;
 use index::layout::ATTRIBUTE_CELLS;

@@ -3,3 +3,4 @@ pub mod Listed
 pub mod Hash
 pub mod Index
 pub mod TableWords
+pub mod Workspace

@@ -2,6 +2,7 @@
 // values are positions in the text, and are compared there.
 pub mod attributes;
 pub mod conds;
+pub mod counts;
 pub mod found;
 pub mod grants;
 pub mod hashes;

@@ -1,6 +1,8 @@
--- Laws of taking a row line in one walk. Assumes nothing.
-pub mod Typed
-pub mod ValueTurns
-pub mod CellTurns
-pub mod RowLines
-pub mod RowsTaken
+-- Laws of these lines. Assumes nothing.
+pub mod RowAccepted
+pub mod RowChecks
+pub mod RowItems
+pub mod RowJudging
+pub mod RowStored
+pub mod RowTurns
+pub mod StoredItems

@@ -1,3 +1,2 @@
--- What it means that a row line is read, judged and stored in one walk. Assumes nothing.
-pub mod Taken
-pub mod Walked
+-- What the contracts of these lines say. Assumes nothing.
+pub mod RowWords

@@ -1,3 +1,5 @@
-// A row line read, judged and stored in one walk. A line that is no such row is left to the checker, which alone refuses.
-pub mod cells;
-pub mod lines;
+// Lines of rows: what is wrong with one, storing it, and the step that does both.
+pub mod faults;
+pub mod items;
+pub mod steps;
+pub mod storing;

@@ -5,12 +5,12 @@ use lib.ListN.{length}
 use mathlib.Core.Path.{_∙_, _≡_, ap, subst, sym}
 use native.Mathlib.Omega.{arith}
 use Rattle.checker.proofs.Turns.{whole-moved}
-use Rattle.checker.specs.Workspace.{refusalIn}
-use Rattle.faults.specs.Judged.{Reaches}
+use Rattle.stepping.specs.Follows.{refusalIn}
+use Rattle.stepping.specs.Judged.{Reaches}
 use Rattle.text.specs.Reasons.{numberOf}
 use Rattle.text.specs.Refusal.{Refusal, document, moved, pointing}
 use Rattle.text.specs.Words.{wordAt}
-use Rattle.faults.specs.declared.fault.Fault.{Fault}
+use Rattle.stepping.specs.declared.fault.Fault.{Fault}
 use Rattle.checker.proofs.loading.refusal_of.Statement.{statement}
 use Rattle.checker.proofs.loading.refusal_of.Tie as tie
 

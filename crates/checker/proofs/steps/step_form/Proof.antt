@@ -1,8 +1,8 @@
 -- `checker::steps::step_form` meets its contract: the line is read, and each form is answered by its own function. Assumes nothing.
 use borrow.Author.Needs.{needs}
 use mathlib.Core.Path.{_∙_, ap, subst, sym}
-use Rattle.checker.proofs.Judgements.{follows-as, follows-fails, line-form, line-none}
-use Rattle.checker.specs.Workspace.{refusalIn}
+use Rattle.stepping.proofs.Judgements.{follows-as, follows-fails, line-form, line-none}
+use Rattle.stepping.specs.Follows.{refusalIn}
 use Rattle.form.specs.Places.{Within, lineAt}
 use Rattle.checker.proofs.steps.step_form.Statement.{statement}
 use Rattle.checker.proofs.steps.step_form.Tie as tie

@@ -5,11 +5,11 @@ use mathlib.Core.Bool.{Bool, false, true}
 use mathlib.Core.List.{List}
 use mathlib.Core.Path.{_∙_, _≡_, subst}
 use native.Mathlib.Omega.{arith}
-use Rattle.checker.proofs.Growing.{grow-row, keep-rows}
-use Rattle.checker.proofs.Judgements.{follows-goes, line-form}
+use Rattle.stepping.proofs.Growing.{grow-row, keep-rows}
+use Rattle.stepping.proofs.Judgements.{follows-goes, line-form}
 use Rattle.document.specs.Policy.{Doc}
 use Rattle.index.specs.Index.{Rows}
-use Rattle.rows.specs.Taken.{RowTaken, TakesRow}
+use Rattle.walks.specs.Taken.{RowTaken, TakesRow}
 use Rattle.checker.proofs.steps.step_line.Statement.{statement}
 use Rattle.checker.proofs.steps.step_line.Tie as tie
 

@@ -5,9 +5,9 @@ use mathlib.Core.Bool.{Bool, false, true}
 use mathlib.Core.List.{List}
 use mathlib.Core.Path.{_∙_, _≡_, subst}
 use native.Mathlib.Omega.{arith}
-use Rattle.checker.proofs.Growing.{grow-purpose, keep-purposes}
-use Rattle.checker.proofs.Judgements.{follows-goes, line-form}
-use Rattle.checker.specs.PurposeLine.{PurposeTaken, TakesPurpose}
+use Rattle.stepping.proofs.Growing.{grow-purpose, keep-purposes}
+use Rattle.stepping.proofs.Judgements.{follows-goes, line-form}
+use Rattle.walks.specs.PurposeLine.{PurposeTaken, TakesPurpose}
 use Rattle.document.specs.Policy.{Doc}
 use Rattle.index.specs.Index.{Nodes}
 use Rattle.purpose.specs.Members.{limit}

@@ -1,0 +1,4 @@
+-- Laws of these lines. Assumes nothing.
+pub mod AttrFaults
+pub mod CondLineLaws
+pub mod CondLines

@@ -1,0 +1,47 @@
+// Attr lines: what is wrong with one.
+use index::attributes::find_attribute;
+use index::found::Found;
+use index::layout::ATTRIBUTE_CELLS;
+use index::layout::ATTRIBUTES;
+use index::layout::ROLE_CELLS;
+use index::names::find_role;
+use stepping::fault::Fault;
+use text::refusals::Reason;
+ghost use Prim.Native.Nat.{_≤_};
+ghost use lib.ListN.{length};
+ghost use mathlib.Core.Path.{_≡_};
+ghost use Rattle.stepping.specs.Judged.{Judges};
+ghost use Rattle.form.specs.Form.{attr};
+ghost use Rattle.index.specs.Index.{Attributes, Nodes, kindSaid};
+ghost use Rattle.text.specs.Words.{wordOf};
+
+// The attribute whose name stands at a of the line, at the role whose name stands at r, behind k attributes; `named`: whether its
+// values are names.
+pub fn attr_fault(
+    text: &[u8],
+    roles: &[usize; ROLE_CELLS],
+    roles_count: usize,
+    attributes: &[usize; ATTRIBUTE_CELLS],
+    k: usize,
+    users_count: usize,
+    line: &[u8],
+    r: usize,
+    a: usize,
+    named: bool,
+) -> Fault
+    ensures { λ f. ⌜ Judges (λ d. Nodes 64 (now (text .entry)) (now (roles .entry)) «roles_count» (d .policy .roles) × Attributes (now (text .entry)) (now (attributes .entry)) k (d .policy .attributes) × («users_count» ≡ length (d .policy .users))) ((r ≤ length (now (line .entry))) × (a ≤ length (now (line .entry)))) (now (line .entry)) (attr (wordOf (now (line .entry)) r) (wordOf (now (line .entry)) a) (kindSaid named)) k 32 f ⌝ }
+{
+    if ATTRIBUTES <= k {
+        return Fault::Whole(Reason::OverBound);
+    }
+    if let Found::At(_) = find_attribute(text, attributes, k, line, a) {
+        return Fault::Item(Reason::NameTaken, a);
+    }
+    if let Found::Nothing = find_role(text, roles, roles_count, line, r) {
+        return Fault::Item(Reason::NameUnknown, r);
+    }
+    if 0 < users_count {
+        return Fault::Whole(Reason::LateAttribute);
+    }
+    Fault::Fine
+}

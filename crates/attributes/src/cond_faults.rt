@@ -1,0 +1,181 @@
+// A line of a conditional role: its condition is read again, and its comparisons are walked through by the places of their
+// operators.
+use condition::comparisons::Wrong;
+use condition::comparisons::wrong_type;
+use condition::conditions::Read;
+use condition::conditions::read_places;
+use condition::kinds::Kind;
+use index::attributes::attribute_kind;
+use index::attributes::attribute_role;
+use index::attributes::find_attribute;
+use index::conds::find_cond_role;
+use index::found::Found;
+use index::layout::ATTRIBUTE_CELLS;
+use index::layout::COND_ROLE_CELLS;
+use index::layout::COND_ROLES;
+use index::layout::ROLE_CELLS;
+use index::names::find_role;
+use index::names::role_below;
+use stepping::fault::Fault;
+use text::refusals::Reason;
+use text::walking::next_word;
+ghost use Prim.Native.Nat.{_<_, _≤_, ℕ};
+ghost use lib.ListN.{getD, length, take};
+ghost use mathlib.Core.List.{map};
+ghost use mathlib.Core.Path.{_≡_};
+ghost use Rattle.condition.specs.Answers.{comparedAt, kindOf};
+ghost use Rattle.condition.specs.CondForm.{mistyped};
+ghost use Rattle.document.specs.Lookup.{attributeKind};
+ghost use Rattle.document.specs.NameFaults.{usableFor};
+ghost use Rattle.document.specs.Policy.{Doc, Policy};
+ghost use Rattle.attributes.specs.CondLine.{JudgesCond};
+ghost use Rattle.stepping.specs.Places.{Near, wordFound};
+ghost use Rattle.index.specs.Index.{Attributes, CondRoles, Nodes};
+ghost use Rattle.text.specs.Offending.{leftmost, missing};
+ghost use Rattle.text.specs.Walking.{nextWord};
+ghost use Rattle.text.specs.Words.{wordOf};
+
+// The most comparisons that a condition may have.
+const COMPARISONS: usize = 64;
+
+// Whether a condition over the role may use the attribute of the name at a position: the clock's, or one that the role has.
+fn usable(
+    text: &[u8],
+    roles: &[usize; ROLE_CELLS],
+    m: usize,
+    attributes: &[usize; ATTRIBUTE_CELLS],
+    n: usize,
+    line: &[u8],
+    role: usize,
+    at: usize,
+) -> bool
+    ensures { λ b. ⌜ ((d : Policy) → Nodes 64 (now (text .entry)) (now (roles .entry)) m (d .roles) → Attributes (now (text .entry)) (now (attributes .entry)) n (d .attributes) → b ≡ usableFor d role (wordOf (now (line .entry)) at)) ⌝ }
+{
+    let f = find_attribute(text, attributes, n, line, at);
+    let Found::At(a) = f else {
+        return false;
+    };
+    let o = attribute_role(attributes, n, a);
+    match o {
+        Found::At(q) => role_below(roles, m, role, q),
+        Found::Nothing => true,
+    }
+}
+
+// The first of the comparisons' attributes that is not usable; the operators stand at the first `count` of the places.
+fn first_unusable(
+    text: &[u8],
+    roles: &[usize; ROLE_CELLS],
+    m: usize,
+    attributes: &[usize; ATTRIBUTE_CELLS],
+    n: usize,
+    line: &[u8],
+    role: usize,
+    ops: &[usize; COMPARISONS],
+    count: usize,
+) -> Found
+    requires { ⌜ (count ≤ 64) × (count ≤ length (now ops)) ⌝ }
+    ensures { λ f. ⌜ ((d : Policy) → Nodes 64 (now (text .entry)) (now (roles .entry)) m (d .roles) → Attributes (now (text .entry)) (now (attributes .entry)) n (d .attributes) → wordFound (now (line .entry)) f ≡ missing (usableFor d role) (map (λ p. wordOf (now (line .entry)) (nextWord (now (line .entry)) p)) (take count (now (ops .entry))))) × (((i : ℕ) → i < count → getD (now (ops .entry)) i 0 ≤ length (now (line .entry))) → Near (now (line .entry)) f) ⌝ }
+{
+    let mut j = 0;
+    while j < count {
+        let at = next_word(line, ops[j]);
+        if !usable(text, roles, m, attributes, n, line, role, at) {
+            return Found::At(at);
+        }
+        j += 1;
+    }
+    Found::Nothing
+}
+
+// The type of the attribute of the name at a position.
+fn kind_named(
+    text: &[u8],
+    attributes: &[usize; ATTRIBUTE_CELLS],
+    n: usize,
+    line: &[u8],
+    at: usize,
+) -> Kind
+    ensures { λ k. ⌜ ((d : Policy) → Attributes (now (text .entry)) (now (attributes .entry)) n (d .attributes) → kindOf k ≡ attributeKind d (wordOf (now (line .entry)) at)) ⌝ }
+{
+    let f = find_attribute(text, attributes, n, line, at);
+    let Found::At(a) = f else {
+        return Kind::Num;
+    };
+    if attribute_kind(attributes, n, a) {
+        return Kind::Name;
+    }
+    Kind::Num
+}
+
+// The first operator or value of the comparisons that is of the wrong type.
+fn first_mistyped(
+    text: &[u8],
+    attributes: &[usize; ATTRIBUTE_CELLS],
+    n: usize,
+    line: &[u8],
+    ops: &[usize; COMPARISONS],
+    count: usize,
+) -> Found
+    requires { ⌜ (count ≤ 64) × (count ≤ length (now ops)) ⌝ }
+    ensures { λ f. ⌜ ((d : Policy) → Attributes (now (text .entry)) (now (attributes .entry)) n (d .attributes) → wordFound (now (line .entry)) f ≡ leftmost (map (λ p. mistyped (attributeKind d (wordOf (now (line .entry)) (nextWord (now (line .entry)) p))) (comparedAt (now (line .entry)) p)) (take count (now (ops .entry))))) × (((i : ℕ) → i < count → getD (now (ops .entry)) i 0 ≤ length (now (line .entry))) → Near (now (line .entry)) f) ⌝ }
+{
+    let mut j = 0;
+    while j < count {
+        let op = ops[j];
+        let kind = kind_named(text, attributes, n, line, next_word(line, op));
+        let w = wrong_type(line, op, kind);
+        if let Wrong::At(p) = w {
+            return Found::At(p);
+        }
+        j += 1;
+    }
+    Found::Nothing
+}
+
+// What is wrong with the line `(cond-role C ROLE cond)`: C stands at c, the role at r, and the condition's bracket at t. There
+// are m roles, n attributes and k conditional roles.
+pub fn cond_role_fault(
+    text: &[u8],
+    roles: &[usize; ROLE_CELLS],
+    m: usize,
+    attributes: &[usize; ATTRIBUTE_CELLS],
+    n: usize,
+    conds: &[usize; COND_ROLE_CELLS],
+    k: usize,
+    line: &[u8],
+    c: usize,
+    r: usize,
+    t: usize,
+) -> Fault
+    ensures { λ f. ⌜ JudgesCond (λ (d : Doc). Nodes 64 (now (text .entry)) (now (roles .entry)) m (d .policy .roles) × Attributes (now (text .entry)) (now (attributes .entry)) n (d .policy .attributes) × CondRoles (d .policy) (now (text .entry)) (now (conds .entry)) k (d .policy .condRoles)) ((c ≤ length (now (line .entry))) × (r ≤ length (now (line .entry))) × (t ≤ length (now (line .entry)))) (now (line .entry)) c r t k f ⌝ }
+{
+    let mut ops = [0usize; COMPARISONS];
+    let read = read_places(line, t, &mut ops);
+    let Read::At(_, count) = read else {
+        return Fault::Whole(Reason::WrongForm);
+    };
+    if COND_ROLES <= k {
+        return Fault::Whole(Reason::OverBound);
+    }
+    if COMPARISONS < count {
+        return Fault::Whole(Reason::OverBound);
+    }
+    let before = find_cond_role(text, conds, k, line, c);
+    if let Found::At(_) = before {
+        return Fault::Item(Reason::NameTaken, c);
+    }
+    let found = find_role(text, roles, m, line, r);
+    let Found::At(role) = found else {
+        return Fault::Item(Reason::NameUnknown, r);
+    };
+    let unusable = first_unusable(text, roles, m, attributes, n, line, role, &ops, count);
+    if let Found::At(p) = unusable {
+        return Fault::Item(Reason::NameUnknown, p);
+    }
+    let mistyped = first_mistyped(text, attributes, n, line, &ops, count);
+    if let Found::At(p) = mistyped {
+        return Fault::Item(Reason::WrongType, p);
+    }
+    Fault::Fine
+}

@@ -1,0 +1,4 @@
+-- Laws of these lines. Assumes nothing.
+pub mod GivenLaws
+pub mod GrantFaults
+pub mod UserFaults

@@ -1,0 +1,43 @@
+// Grant lines: what is wrong with one.
+use index::conds::find_cond_role;
+use index::found::Found;
+use index::layout::COND_ROLE_CELLS;
+use index::layout::GRANTS;
+use index::layout::PURPOSE_CELLS;
+use index::names::find_purpose;
+use stepping::fault::Fault;
+use text::refusals::Reason;
+ghost use Prim.Native.Nat.{_≤_};
+ghost use lib.ListN.{length};
+ghost use mathlib.Core.Path.{_≡_};
+ghost use Rattle.stepping.specs.Judged.{Judges};
+ghost use Rattle.form.specs.Form.{grant};
+ghost use Rattle.index.specs.Index.{CondRoles, Nodes};
+ghost use Rattle.purpose.specs.Members.{limit};
+ghost use Rattle.text.specs.Words.{wordOf};
+
+// The purpose whose name stands at p of the line, granted to the conditional role whose name stands at c, behind k grants.
+pub fn grant_fault(
+    text: &[u8],
+    purposes: &[usize; PURPOSE_CELLS],
+    purposes_count: usize,
+    conds: &[usize; COND_ROLE_CELLS],
+    conds_count: usize,
+    k: usize,
+    line: &[u8],
+    p: usize,
+    c: usize,
+) -> Fault
+    ensures { λ r. ⌜ Judges (λ d. Nodes limit (now (text .entry)) (now (purposes .entry)) «purposes_count» (d .policy .purposes) × CondRoles (d .policy) (now (text .entry)) (now (conds .entry)) «conds_count» (d .policy .condRoles) × (k ≡ length (d .policy .grants))) ((p ≤ length (now (line .entry))) × (c ≤ length (now (line .entry)))) (now (line .entry)) (grant (wordOf (now (line .entry)) p) (wordOf (now (line .entry)) c)) k 128 r ⌝ }
+{
+    if GRANTS <= k {
+        return Fault::Whole(Reason::OverBound);
+    }
+    if let Found::Nothing = find_purpose(text, purposes, purposes_count, line, p) {
+        return Fault::Item(Reason::NameUnknown, p);
+    }
+    if let Found::Nothing = find_cond_role(text, conds, conds_count, line, c) {
+        return Fault::Item(Reason::NameUnknown, c);
+    }
+    Fault::Fine
+}

@@ -1,0 +1,36 @@
+// Storing a grant.
+use index::conds::find_cond_role;
+use index::grants::add_grant;
+use index::layout::COND_ROLE_CELLS;
+use index::layout::GRANT_CELLS;
+use index::layout::PURPOSE_CELLS;
+use index::names::find_purpose;
+use stepping::places::number;
+ghost use Prim.Native.Nat.{_+_, _≤_};
+ghost use Rattle.document.specs.Meaning.{add};
+ghost use Rattle.document.specs.Policy.{Doc};
+ghost use Rattle.form.specs.Form.{grant};
+ghost use Rattle.index.specs.Index.{CondRoles, Grants, Nodes};
+ghost use Rattle.purpose.specs.Members.{limit};
+ghost use Rattle.stepping.specs.Stored.{Passes};
+ghost use Rattle.text.specs.Words.{wordOf};
+
+// Stores the grant of the purpose of the name at p of the line to the conditional role of the name at c, behind k of them.
+pub fn store_grant(
+    text: &[u8],
+    purposes: &[usize; PURPOSE_CELLS],
+    purposes_count: usize,
+    conds: &[usize; COND_ROLE_CELLS],
+    conds_count: usize,
+    grants: &mut [usize; GRANT_CELLS],
+    k: usize,
+    line: &[u8],
+    p: usize,
+    c: usize,
+)
+    ensures { λ _. ⌜ ((d : Doc) → Nodes limit (now (text .entry)) (now (purposes .entry)) «purposes_count» (d .policy .purposes) → CondRoles (d .policy) (now (text .entry)) (now (conds .entry)) «conds_count» (d .policy .condRoles) → Grants (now (grants .entry)) k (d .policy .grants) → Passes d (now (line .entry)) (grant (wordOf (now (line .entry)) p) (wordOf (now (line .entry)) c)) → Grants (now (grants .exit)) (k + 1) (add d (grant (wordOf (now (line .entry)) p) (wordOf (now (line .entry)) c)) .policy .grants)) ⌝ }
+{
+    let granted = number(find_purpose(text, purposes, purposes_count, line, p));
+    let holder = number(find_cond_role(text, conds, conds_count, line, c));
+    add_grant(grants, k, granted, holder);
+}

@@ -1,0 +1,2 @@
+-- Laws of these lines. Assumes nothing.
+pub mod NodeFaults

@@ -1,0 +1,147 @@
+// A line of a purpose or a role: what is wrong with it, or what it defines is stored.
+use crate::faults::purpose_below_fault;
+use crate::faults::purpose_root_fault;
+use crate::faults::role_below_fault;
+use crate::faults::role_root_fault;
+use crate::storing::store_purpose_below;
+use crate::storing::store_purpose_root;
+use crate::storing::store_role_below;
+use crate::storing::store_role_root;
+use index::counts::Counts;
+use index::layout::PURPOSE_CELLS;
+use index::layout::ROLE_CELLS;
+use stepping::step::Step;
+use stepping::step::is_fine;
+ghost use Prim.Native.Nat.{_≤_, ℕ};
+ghost use lib.ListN.{length};
+ghost use mathlib.Core.List.{List};
+ghost use mathlib.Core.Option.{none, some};
+ghost use Rattle.index.specs.Workspace.{Indexed};
+ghost use Rattle.stepping.specs.Follows.{Follows};
+ghost use Rattle.document.specs.Check.{checkForm};
+ghost use Rattle.document.specs.Policy.{Doc};
+ghost use Rattle.form.specs.Form.{purpose, role};
+ghost use Rattle.stepping.specs.Stored.{LineAt};
+ghost use Rattle.text.specs.Words.{wordOf};
+
+// A root purpose, whose name stands at n.
+pub fn step_purpose_root(
+    text: &[u8],
+    at: usize,
+    line: &[u8],
+    purposes: &mut [usize; PURPOSE_CELLS],
+    c: Counts,
+    n: usize,
+) -> Step
+    ensures { λ s. ⌜ ((d : Doc) (rs′ bs′ us′ cs′ gs′ ls′ ms′ ts′ ws′ : List ℕ) → LineAt (now (text .entry)) at (now (line .entry)) → (n ≤ length (now (line .entry))) → Indexed (now (text .entry)) (now (purposes .entry)) rs′ bs′ us′ cs′ gs′ ls′ ms′ ts′ ws′ c d → Follows (Indexed (now (text .entry)) (now (purposes .exit)) rs′ bs′ us′ cs′ gs′ ls′ ms′ ts′ ws′) (now (line .entry)) (checkForm d (now (line .entry)) (purpose (wordOf (now (line .entry)) n) none)) s) ⌝ }
+{
+    let k = c.purposes;
+    let f = purpose_root_fault(text, purposes, k, line, n);
+    if is_fine(f) {
+        store_purpose_root(text, purposes, k, at, line, n);
+        return Step::Goes(Counts {
+            purposes: k + 1,
+            roles: c.roles,
+            attributes: c.attributes,
+            users: c.users,
+            conds: c.conds,
+            grants: c.grants,
+            labels: c.labels,
+            tables: c.tables,
+            rows: c.rows,
+        });
+    }
+    Step::Fails(f)
+}
+
+// A purpose below the one whose name stands at p.
+pub fn step_purpose_below(
+    text: &[u8],
+    at: usize,
+    line: &[u8],
+    purposes: &mut [usize; PURPOSE_CELLS],
+    c: Counts,
+    n: usize,
+    p: usize,
+) -> Step
+    ensures { λ s. ⌜ ((d : Doc) (rs′ bs′ us′ cs′ gs′ ls′ ms′ ts′ ws′ : List ℕ) → LineAt (now (text .entry)) at (now (line .entry)) → ((n ≤ length (now (line .entry))) × (p ≤ length (now (line .entry)))) → Indexed (now (text .entry)) (now (purposes .entry)) rs′ bs′ us′ cs′ gs′ ls′ ms′ ts′ ws′ c d → Follows (Indexed (now (text .entry)) (now (purposes .exit)) rs′ bs′ us′ cs′ gs′ ls′ ms′ ts′ ws′) (now (line .entry)) (checkForm d (now (line .entry)) (purpose (wordOf (now (line .entry)) n) (some (wordOf (now (line .entry)) p)))) s) ⌝ }
+{
+    let k = c.purposes;
+    let f = purpose_below_fault(text, purposes, k, line, n, p);
+    if is_fine(f) {
+        store_purpose_below(text, purposes, k, at, line, n, p);
+        return Step::Goes(Counts {
+            purposes: k + 1,
+            roles: c.roles,
+            attributes: c.attributes,
+            users: c.users,
+            conds: c.conds,
+            grants: c.grants,
+            labels: c.labels,
+            tables: c.tables,
+            rows: c.rows,
+        });
+    }
+    Step::Fails(f)
+}
+
+// A root role, whose name stands at n.
+pub fn step_role_root(
+    text: &[u8],
+    at: usize,
+    line: &[u8],
+    roles: &mut [usize; ROLE_CELLS],
+    c: Counts,
+    n: usize,
+) -> Step
+    ensures { λ s. ⌜ ((d : Doc) (ps′ bs′ us′ cs′ gs′ ls′ ms′ ts′ ws′ : List ℕ) → LineAt (now (text .entry)) at (now (line .entry)) → (n ≤ length (now (line .entry))) → Indexed (now (text .entry)) ps′ (now (roles .entry)) bs′ us′ cs′ gs′ ls′ ms′ ts′ ws′ c d → Follows (Indexed (now (text .entry)) ps′ (now (roles .exit)) bs′ us′ cs′ gs′ ls′ ms′ ts′ ws′) (now (line .entry)) (checkForm d (now (line .entry)) (role (wordOf (now (line .entry)) n) none)) s) ⌝ }
+{
+    let k = c.roles;
+    let f = role_root_fault(text, roles, k, line, n);
+    if is_fine(f) {
+        store_role_root(text, roles, k, at, line, n);
+        return Step::Goes(Counts {
+            purposes: c.purposes,
+            roles: k + 1,
+            attributes: c.attributes,
+            users: c.users,
+            conds: c.conds,
+            grants: c.grants,
+            labels: c.labels,
+            tables: c.tables,
+            rows: c.rows,
+        });
+    }
+    Step::Fails(f)
+}
+
+// A role below the one whose name stands at p.
+pub fn step_role_below(
+    text: &[u8],
+    at: usize,
+    line: &[u8],
+    roles: &mut [usize; ROLE_CELLS],
+    c: Counts,
+    n: usize,
+    p: usize,
+) -> Step
+    ensures { λ s. ⌜ ((d : Doc) (ps′ bs′ us′ cs′ gs′ ls′ ms′ ts′ ws′ : List ℕ) → LineAt (now (text .entry)) at (now (line .entry)) → ((n ≤ length (now (line .entry))) × (p ≤ length (now (line .entry)))) → Indexed (now (text .entry)) ps′ (now (roles .entry)) bs′ us′ cs′ gs′ ls′ ms′ ts′ ws′ c d → Follows (Indexed (now (text .entry)) ps′ (now (roles .exit)) bs′ us′ cs′ gs′ ls′ ms′ ts′ ws′) (now (line .entry)) (checkForm d (now (line .entry)) (role (wordOf (now (line .entry)) n) (some (wordOf (now (line .entry)) p)))) s) ⌝ }
+{
+    let k = c.roles;
+    let f = role_below_fault(text, roles, k, line, n, p);
+    if is_fine(f) {
+        store_role_below(text, roles, k, at, line, n, p);
+        return Step::Goes(Counts {
+            purposes: c.purposes,
+            roles: k + 1,
+            attributes: c.attributes,
+            users: c.users,
+            conds: c.conds,
+            grants: c.grants,
+            labels: c.labels,
+            tables: c.tables,
+            rows: c.rows,
+        });
+    }
+    Step::Fails(f)
+}

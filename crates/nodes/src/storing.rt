@@ -1,0 +1,88 @@
+// Storing purposes and roles.
+use index::hashes::hash_word;
+use index::layout::PURPOSE_CELLS;
+use index::layout::ROLE_CELLS;
+use index::names::add_purpose;
+use index::names::add_role;
+use index::names::find_purpose;
+use index::names::find_role;
+use stepping::places::number;
+use stepping::places::place;
+ghost use Prim.Native.Nat.{_+_, _≤_};
+ghost use lib.ListN.{length};
+ghost use mathlib.Core.Option.{none, some};
+ghost use Rattle.document.specs.Meaning.{add};
+ghost use Rattle.document.specs.Policy.{Doc};
+ghost use Rattle.form.specs.Form.{purpose, role};
+ghost use Rattle.index.specs.Index.{Nodes};
+ghost use Rattle.purpose.specs.Members.{limit};
+ghost use Rattle.stepping.specs.Stored.{LineAt, Passes};
+ghost use Rattle.text.specs.Words.{wordOf};
+
+// Stores the purpose of the name at n of the line, behind k of them: the root, whose parent is its own number.
+pub fn store_purpose_root(
+    text: &[u8],
+    purposes: &mut [usize; PURPOSE_CELLS],
+    k: usize,
+    at: usize,
+    line: &[u8],
+    n: usize,
+)
+    ensures { λ _. ⌜ ((d : Doc) → LineAt (now (text .entry)) at (now (line .entry)) → Nodes limit (now (text .entry)) (now (purposes .entry)) k (d .policy .purposes) → Passes d (now (line .entry)) (purpose (wordOf (now (line .entry)) n) none) → n ≤ length (now (line .entry)) → Nodes limit (now (text .entry)) (now (purposes .exit)) (k + 1) (add d (purpose (wordOf (now (line .entry)) n) none) .policy .purposes)) ⌝ }
+{
+    let pos = place(text, at, n);
+    let w = hash_word(line, n);
+    add_purpose(purposes, k, pos, k, w.hash);
+}
+
+// Stores the purpose of the name at n of the line, below that of the name at p.
+pub fn store_purpose_below(
+    text: &[u8],
+    purposes: &mut [usize; PURPOSE_CELLS],
+    k: usize,
+    at: usize,
+    line: &[u8],
+    n: usize,
+    p: usize,
+)
+    ensures { λ _. ⌜ ((d : Doc) → LineAt (now (text .entry)) at (now (line .entry)) → Nodes limit (now (text .entry)) (now (purposes .entry)) k (d .policy .purposes) → Passes d (now (line .entry)) (purpose (wordOf (now (line .entry)) n) (some (wordOf (now (line .entry)) p))) → n ≤ length (now (line .entry)) → Nodes limit (now (text .entry)) (now (purposes .exit)) (k + 1) (add d (purpose (wordOf (now (line .entry)) n) (some (wordOf (now (line .entry)) p))) .policy .purposes)) ⌝ }
+{
+    let parent = number(find_purpose(text, purposes, k, line, p));
+    let pos = place(text, at, n);
+    let w = hash_word(line, n);
+    add_purpose(purposes, k, pos, parent, w.hash);
+}
+
+// Stores the role of the name at n of the line, behind k of them: a root, whose parent is its own number.
+pub fn store_role_root(
+    text: &[u8],
+    roles: &mut [usize; ROLE_CELLS],
+    k: usize,
+    at: usize,
+    line: &[u8],
+    n: usize,
+)
+    ensures { λ _. ⌜ ((d : Doc) → LineAt (now (text .entry)) at (now (line .entry)) → Nodes 64 (now (text .entry)) (now (roles .entry)) k (d .policy .roles) → Passes d (now (line .entry)) (role (wordOf (now (line .entry)) n) none) → n ≤ length (now (line .entry)) → Nodes 64 (now (text .entry)) (now (roles .exit)) (k + 1) (add d (role (wordOf (now (line .entry)) n) none) .policy .roles)) ⌝ }
+{
+    let pos = place(text, at, n);
+    let w = hash_word(line, n);
+    add_role(roles, k, pos, k, w.hash);
+}
+
+// Stores the role of the name at n of the line, below that of the name at p.
+pub fn store_role_below(
+    text: &[u8],
+    roles: &mut [usize; ROLE_CELLS],
+    k: usize,
+    at: usize,
+    line: &[u8],
+    n: usize,
+    p: usize,
+)
+    ensures { λ _. ⌜ ((d : Doc) → LineAt (now (text .entry)) at (now (line .entry)) → Nodes 64 (now (text .entry)) (now (roles .entry)) k (d .policy .roles) → Passes d (now (line .entry)) (role (wordOf (now (line .entry)) n) (some (wordOf (now (line .entry)) p))) → n ≤ length (now (line .entry)) → Nodes 64 (now (text .entry)) (now (roles .exit)) (k + 1) (add d (role (wordOf (now (line .entry)) n) (some (wordOf (now (line .entry)) p))) .policy .roles)) ⌝ }
+{
+    let parent = number(find_role(text, roles, k, line, p));
+    let pos = place(text, at, n);
+    let w = hash_word(line, n);
+    add_role(roles, k, pos, parent, w.hash);
+}

@@ -1,0 +1,134 @@
+-- The row that is stored is what its line adds: its values fit its table, and its scheme says where its labels stand. Assumes nothing.
+use Prim.Native.Nat.{_+_, _<_, _≤_, ℕ}
+use borrow.Author.Tests.{eqb-true, leb-false}
+use lib.Dec.{eqb}
+use lib.ListN.{getD, length, length-map}
+use mathlib.Core.List.{List, [], _++_, _∷_, map}
+use mathlib.Core.Option.{Option·getD, some}
+use mathlib.Core.Path.{_∙_, _≡_, ap, subst, sym}
+use native.Mathlib.Omega.{arith}
+use Rattle.document.specs.Bounds.{overBound}
+use Rattle.document.specs.Lookup.{columnsAt, columnsOf, labelOf, schemeOf, tableOf}
+use Rattle.document.specs.Meaning.{add, rowMeant, rowsGiven}
+use Rattle.document.specs.NameFaults.{bracketLabels, leadingName, rowLabels, unknown}
+use Rattle.document.specs.Policy.{Doc, Policy, Row, Table}
+use Rattle.document.specs.ValueFaults.{bracketValues, misfit, plainValues, rowValues, valuesBehindLabel}
+use Rattle.form.specs.Form.{GivenForm, Item, Scheme, row}
+use Rattle.form.specs.Walks.{givensAt, itemsAt, namesAt}
+use Rattle.index.proofs.ListedLaws.{length-listed}
+use Rattle.index.proofs.RowLaws.{row-empty, rows-counted}
+use Rattle.index.proofs.TableLaws.{columns-at, scheme-read, tables-counted}
+use Rattle.index.specs.Index.{FillingRow, LabelStored, Rows, Tables, columnIn, columnLabelIn, schemeBy, schemeIn}
+use Rattle.index.specs.Listed.{listed}
+use Rattle.index.specs.declared.tables.SchemeCode.{SchemeCode}
+use Rattle.lists.proofs.ListLaws.{findIndex-found, holdsOf-some, map-map, there-some}
+use Rattle.lists.proofs.Tests.{not-false}
+use Rattle.lists.specs.Lists.{known, there}
+use Rattle.stepping.proofs.PassLaws.{Passed, passed}
+use Rattle.rows.proofs.StoredItems.{bracket-labels, bracket-values, leading, plain-names}
+use Rattle.stepping.specs.Stored.{Passes, RowFilled}
+use Rattle.text.proofs.OffendingLaws.{leftmost-head, unless-none}
+use Rattle.text.specs.Numbers.{Value}
+use Rattle.text.specs.Walking.{wordEndAt}
+use Rattle.text.specs.Words.{Word, isCalled, wordAt, wordOf}
+
+-- ---- the row by its table's scheme, as each function that stores one says it
+
+-- what `add_row` promises
+abbrev pub AddsRow : List ℕ → List ℕ → List ℕ → ℕ → ℕ → ℕ → ℕ → Type 0
+AddsRow text mid after k table n m = (rs : List Row) (vs : List Value) (ls : List ℕ) → Rows text mid k rs → k < 1024 → FillingRow text mid k n m vs ls → Rows text after (k + 1) (rs ++ (record { table = table; values = vs; labels = ls } ∷ []))
+
+module _ {text before mid after : List ℕ} {k table n : ℕ} (line : List ℕ) (is : ℕ) (rs : List Row) (ws : List Word) (N : Rows text before k rs) (small : k < 1024) (few : length ws ≤ 16) where
+  pub plain-stored : plainValues (itemsAt line is) ≡ some ws
+      → (length (namesAt line is) ≤ 16 → FillingRow text before k 0 0 [] [] → RowFilled text before mid k n 0 (map (λ w. w .bytes) (namesAt line is)) [])
+      → AddsRow text mid after k table n 0
+      → Rows text after (k + 1) (rs ++ (record { table = table; values = map (λ w. w .bytes) ws; labels = [] } ∷ []))
+  plain-stored h filled more =
+      let e : ws ≡ namesAt line is = plain-names line is ws h in
+      let f = filled (subst (λ (xs : List Word). length xs ≤ 16) e few) (row-empty text before k) in
+      subst (λ (xs : List Word). Rows text after (k + 1) (rs ++ (record { table = table; values = map (λ w. w .bytes) xs; labels = [] } ∷ []))) (sym e)
+      (more rs _ _ (f .kept rs N) small (f .filling))
+
+  pub cells-stored : (d : Policy) → bracketValues (itemsAt line is) ≡ some ws
+      → (length (givensAt line is) ≤ 16 → RowFilled text before mid k n n (map (λ g. g .attribute .bytes) (givensAt line is)) (map (λ g. known (labelOf d (g .value))) (givensAt line is)))
+      → AddsRow text mid after k table n n
+      → Rows text after (k + 1) (rs ++ (record { table = table; values = map (λ w. w .bytes) ws; labels = map (λ w. known (labelOf d w)) (bracketLabels (itemsAt line is)) } ∷ []))
+  cells-stored d h filled more =
+      let e : ws ≡ map (λ (g : GivenForm). g .attribute) (givensAt line is) = bracket-values line is ws h in
+      let f = filled (subst (λ m. m ≤ 16) (ap length e ∙ length-map (givensAt line is) (λ (g : GivenForm). g .attribute)) few) in
+      subst (λ (x : Row). Rows text after (k + 1) (rs ++ (x ∷ [])))
+      (λ j. record {
+        table = table;
+        values = sym (ap (map (λ (w : Word). w .bytes)) e ∙ map-map (λ (w : Word). w .bytes) (λ (g : GivenForm). g .attribute) (givensAt line is)) j;
+        labels = sym (ap (map (λ (w : Word). known (labelOf d w))) (bracket-labels line is ws h) ∙ map-map (λ (w : Word). known (labelOf d w)) (λ (g : GivenForm). g .value) (givensAt line is)) j;
+      })
+      (more rs _ _ (f .kept rs N) small (f .filling))
+
+  pub leading-stored : {marked : List ℕ} (d : Policy) (label e : ℕ) → valuesBehindLabel (itemsAt line is) ≡ some ws → getD line is 0 ≡ 32 → label ≡ known (labelOf d (wordOf line (is + 1)))
+      → LabelStored before marked k 0 label → e ≡ is + 1 + length (wordAt line (is + 1))
+      → (length (namesAt line e) ≤ 16 → FillingRow text marked k 0 1 [] (label ∷ []) → RowFilled text marked mid k n 1 (map (λ w. w .bytes) (namesAt line e)) (label ∷ []))
+      → AddsRow text mid after k table n 1
+      → Rows text after (k + 1) (rs ++ (record { table = table; values = map (λ w. w .bytes) ws; labels = map (λ w. known (labelOf d w)) (leadingName (itemsAt line is)) } ∷ []))
+  unfolding wordEndAt
+  leading-stored d label e h space named s ends filled more =
+      let g = leading line is ws h space in
+      let v : ws ≡ namesAt line e = g .values ∙ ap (namesAt line) (sym ends) in
+      let f = filled (subst (λ (xs : List Word). length xs ≤ 16) v few) (s .grown text 0 [] [] small (omega arith) (row-empty text before k)) in
+      subst (λ (x : Row). Rows text after (k + 1) (rs ++ (x ∷ [])))
+      (λ j. record {
+        table = table;
+        values = map (λ (w : Word). w .bytes) (sym v j);
+        labels = (ap (λ m. m ∷ []) named ∙ sym (ap (map (λ (w : Word). known (labelOf d w))) (g .label))) j;
+      })
+      (more rs _ _ (f .kept rs (s .kept text k rs (omega arith) N)) small (f .filling))
+
+-- ---- the row that its line adds
+
+-- the words of the items are the row's values under the scheme s, which is that of the table
+pub record RowFits (d : Doc) (t : Word) (items : List Item) (k : ℕ) (s : Scheme ℕ) : Type 0 where
+  pub small : k < 1024
+  pub words : List Word
+  pub values : rowValues s items ≡ some words
+  pub few : length words ≤ 16
+  pub is : schemeOf (d .policy) t ≡ s
+
+module _ {text tables rows : List ℕ} {count k : ℕ} (d : Doc) (line : List ℕ) (t : Word) (items : List Item) (T : Tables text tables count (d .policy .tables)) (N : Rows text rows k (d .rows)) (ok : Passes d line (row t items)) where
+  p : Passed d (row t items)
+  p = passed d line (row t items) ok
+
+  table-there : known (tableOf (d .policy) t) < count
+  unfolding unknown tableOf
+  table-there =
+      subst (λ n. known (tableOf (d .policy) t) < n) (tables-counted text tables count (d .policy .tables) T)
+      (findIndex-found (λ (x : Table). isCalled t (x .name)) (d .policy .tables) (known (tableOf (d .policy) t)) (there-some (tableOf (d .policy) t) (unless-none (there (tableOf (d .policy) t)) t (leftmost-head _ _ (p .knows)))) .1)
+
+  pub row-fits : (n : ℕ) (r s : SchemeCode) → n ≡ known (tableOf (d .policy) t) → r ≡ s → (n < 8 → schemeIn tables n ≡ schemeBy r (getD tables (16 + n) 0) (listed (columnLabelIn tables n) (getD tables (24 + n) 0)))
+      → RowFits d t items k (schemeBy s (getD tables (16 + known (tableOf (d .policy) t)) 0) (listed (columnLabelIn tables (known (tableOf (d .policy) t))) (length (columnsAt (d .policy) (known (tableOf (d .policy) t))))))
+  unfolding misfit overBound schemeOf columnsOf
+  row-fits n r s e same told =
+      let m : ℕ = known (tableOf (d .policy) t) in
+      let q = holdsOf-some (λ (ws : List Word). eqb (length ws) (length (columnsOf (d .policy) t))) (rowValues (schemeOf (d .policy) t) items) (not-false _ (p .fits)) in
+      let scheme = scheme-read text tables count m (d .policy) T table-there s (subst (λ (x : ℕ × SchemeCode). x .0 < 8 → schemeIn tables (x .0) ≡ schemeBy (x .1) (getD tables (16 + x .0) 0) (listed (columnLabelIn tables (x .0)) (getD tables (24 + x .0) 0))) (λ j. (e j, same j)) told) in
+      let wide : length (q .0) ≡ length (columnsAt (d .policy) m) = eqb-true _ _ (q .2) in
+      let counted : length (columnsAt (d .policy) m) ≡ getD tables (24 + m) 0 = ap length (columns-at text tables count m (d .policy) T table-there) ∙ length-listed (columnIn text tables m) (getD tables (24 + m) 0) in
+      record {
+        small = subst (λ i. i < 1024) (rows-counted text rows k (d .rows) N) (leb-false 1024 _ (p .room));
+        words = q .0;
+        values = sym (ap (λ x. rowValues x items) scheme) ∙ q .1;
+        few = omega (arith, wide, counted, T .narrow m table-there);
+        is = scheme;
+      }
+
+-- with the labels that the scheme says
+pub row-stored : {text rows′ : List ℕ} {k : ℕ} (d : Doc) (t : Word) (items : List Item) (s : Scheme ℕ) (n : ℕ) (f : RowFits d t items k s) → n ≡ known (tableOf (d .policy) t)
+    → Rows text rows′ (k + 1) (d .rows ++ (record { table = n; values = map (λ w. w .bytes) (f .words); labels = map (λ w. known (labelOf (d .policy) w)) (rowLabels s items) } ∷ []))
+    → Rows text rows′ (k + 1) (add d (row t items) .rows)
+unfolding add rowsGiven rowMeant
+row-stored {text} {rows′} {k} d t items s n f e h =
+    subst (λ (x : Row). Rows text rows′ (k + 1) (d .rows ++ (x ∷ [])))
+    (λ j. record {
+      table = e j;
+      values = map (λ (w : Word). w .bytes) (sym (ap (λ o. Option·getD o []) (ap (λ x. rowValues x items) (f .is) ∙ f .values)) j);
+      labels = map (λ (w : Word). known (labelOf (d .policy) w)) (rowLabels (sym (f .is) j) items);
+    })
+    h

@@ -1,0 +1,125 @@
+-- The values and labels of a row that is being stored: what the loops over them keep, and the row that is stored in the end. Assumes
+-- nothing.
+use Prim.Native.Nat.{_+_, _<_, _≤_, ℕ}
+use lib.ListN.{getD, length, length-append, length-map}
+use mathlib.Core.List.{List, [], _++_, _∷_, append-assoc, append-nil, map}
+use mathlib.Core.Path.{_∙_, _≡_, ap, refl, subst, sym}
+use native.Mathlib.Omega.{arith}
+use Rattle.document.specs.Lookup.{labelOf}
+use Rattle.document.specs.Policy.{Policy, Row}
+use Rattle.form.proofs.WalkSteps.{givens-more, names-more}
+use Rattle.form.specs.Form.{GivenForm}
+use Rattle.form.specs.Walks.{firstIn, givenAt, givensAt, namesAt, pairEndAt, secondIn}
+use Rattle.index.proofs.ListedLaws.{length-listed}
+use Rattle.index.proofs.RowLaws.{row-empty}
+use Rattle.index.specs.Index.{FillingRow, LabelStored, Rows, ValueStored, rowLabelIn, valueIn}
+use Rattle.lists.specs.Lists.{known}
+use Rattle.stepping.proofs.ColumnLaws.{pair-ends, second-is}
+use Rattle.stepping.proofs.PlaceLaws.{word-placed}
+use Rattle.stepping.specs.Stored.{LineAt, RowFilled}
+use Rattle.text.proofs.WalkingLaws.{past-within}
+use Rattle.text.specs.Numbers.{Value}
+use Rattle.text.specs.Walking.{nextWord, past, wordEndAt}
+use Rattle.text.specs.Words.{Word, wordAt, wordOf}
+
+-- of all the values and labels some were stored, and the others are left
+pub record Rowed (text before after : List ℕ) (k c m : ℕ) (all left : List Value) (labels behind : List ℕ) : Type 0 where
+  pub kept : (rs : List Row) → Rows text before k rs → Rows text after k rs
+  pub passed : List Value
+  pub marked : List ℕ
+  pub filling : FillingRow text after k c m passed marked
+  pub values : all ≡ passed ++ left
+  pub labelled : labels ≡ marked ++ behind
+
+pub rowed-none : (text ws : List ℕ) (k : ℕ) (all : List Value) (labels : List ℕ) → Rowed text ws ws k 0 0 all all labels labels
+rowed-none text ws k all labels = record {
+  kept = λ rs h. h;
+  passed = [];
+  marked = [];
+  filling = row-empty text ws k;
+  values = refl;
+  labelled = refl;
+}
+
+-- where the labels stand already
+pub rowed-marked : {text ws : List ℕ} {k m : ℕ} {ls : List ℕ} (all : List Value) → FillingRow text ws k 0 m [] ls → Rowed text ws ws k 0 m all all ls []
+rowed-marked {text} {ws} {k} {m} {ls} all h = record {
+  kept = λ rs h. h;
+  passed = [];
+  marked = ls;
+  filling = h;
+  values = refl;
+  labelled = sym (append-nil ls);
+}
+
+-- one value more is stored, where it has room
+pub value-added : {text before ws after : List ℕ} {k c m pos : ℕ} {all left : List Value} {labels behind : List ℕ} (x : Value) → Rowed text before ws k c m all (x ∷ left) labels behind → k < 1024 → c < 16
+    → ValueStored ws after k c pos → wordAt text pos ≡ x → Rowed text before after k (c + 1) m all left labels behind
+value-added {text} {before} {ws} {after} {k} {c} {m} {pos} {all} {left} x g small room s n = record {
+  kept = λ rs h. s .kept text k rs (omega arith) (g .kept rs h);
+  passed = g .passed ++ (x ∷ []);
+  marked = g .marked;
+  filling = subst (λ z. FillingRow text after k (c + 1) m (g .passed ++ (z ∷ [])) (g .marked)) n (s .grown text m (g .passed) (g .marked) small room (g .filling));
+  values = g .values ∙ sym (append-assoc (g .passed) (x ∷ []) left);
+  labelled = g .labelled;
+}
+
+-- it has room where all have
+pub rowed-value : {text before ws after : List ℕ} {k c m pos : ℕ} {all left : List Value} {labels behind : List ℕ} (x : Value) → Rowed text before ws k c m all (x ∷ left) labels behind → k < 1024 → length all ≤ 16
+    → ValueStored ws after k c pos → wordAt text pos ≡ x → Rowed text before after k (c + 1) m all left labels behind
+rowed-value {text} {before} {ws} {after} {k} {c} {m} {pos} {all} {left} x g small few s n =
+    let long : length (g .passed) ≡ c = sym (ap length (g .filling .values)) ∙ length-listed (valueIn text ws k) c in
+    value-added x g small (omega (arith, ap length (g .values), length-append (g .passed) (x ∷ left), long, few)) s n
+
+-- one label more, likewise
+pub label-added : {text before ws after : List ℕ} {k c m label : ℕ} {all left : List Value} {labels behind : List ℕ} (y : ℕ) → Rowed text before ws k c m all left labels (y ∷ behind) → k < 1024 → m < 16
+    → LabelStored ws after k m label → label ≡ y → Rowed text before after k c (m + 1) all left labels behind
+label-added {text} {before} {ws} {after} {k} {c} {m} {label} {all} {left} {labels} {behind} y g small room s n = record {
+  kept = λ rs h. s .kept text k rs (omega arith) (g .kept rs h);
+  passed = g .passed;
+  marked = g .marked ++ (y ∷ []);
+  filling = subst (λ z. FillingRow text after k c (m + 1) (g .passed) (g .marked ++ (z ∷ []))) n (s .grown text c (g .passed) (g .marked) small room (g .filling));
+  values = g .values;
+  labelled = g .labelled ∙ sym (append-assoc (g .marked) (y ∷ []) behind);
+}
+
+pub rowed-label : {text before ws after : List ℕ} {k c m label : ℕ} {all left : List Value} {labels behind : List ℕ} (y : ℕ) → Rowed text before ws k c m all left labels (y ∷ behind) → k < 1024 → length labels ≤ 16
+    → LabelStored ws after k m label → label ≡ y → Rowed text before after k c (m + 1) all left labels behind
+rowed-label {text} {before} {ws} {after} {k} {c} {m} {label} {all} {left} {labels} {behind} y g small few s n =
+    let long : length (g .marked) ≡ m = sym (ap length (g .filling .labels)) ∙ length-listed (rowLabelIn ws k) m in
+    label-added y g small (omega (arith, ap length (g .labelled), length-append (g .marked) (y ∷ behind), long, few)) s n
+
+pub rowed-all : {text before after : List ℕ} {k c m : ℕ} {all left : List Value} {labels behind : List ℕ} → Rowed text before after k c m all left labels behind → left ≡ [] → behind ≡ [] → RowFilled text before after k c m all labels
+rowed-all {text} {before} {after} {k} {c} {m} g e f = record {
+  kept = g .kept;
+  filling = subst (λ (z : List Value × List ℕ). FillingRow text after k c m (z .0) (z .1))
+      (λ j. (sym (g .values ∙ ap (λ x. g .passed ++ x) e ∙ append-nil (g .passed)) j, sym (g .labelled ∙ ap (λ x. g .marked ++ x) f ∙ append-nil (g .marked)) j)) (g .filling);
+}
+
+-- ---- one turn of the loops
+
+module _ {text : List ℕ} {at : ℕ} {line : List ℕ} (l : LineAt text at line) (j e pos : ℕ) (space : getD line j 0 ≡ 32) (inside : j < length line) where
+  pub value-turn : {before ws after : List ℕ} {k c m : ℕ} {ls : List ℕ} (is : ℕ) → (at + (j + 1) ≤ length text → pos ≡ at + (j + 1)) → e ≡ j + 1 + length (wordAt line (j + 1)) → ValueStored ws after k c pos → k < 1024 → length (namesAt line is) ≤ 16
+      → Rowed text before ws k c m (map (λ w. w .bytes) (namesAt line is)) (map (λ w. w .bytes) (namesAt line j)) ls []
+      → Rowed text before after k (c + 1) m (map (λ w. w .bytes) (namesAt line is)) (map (λ w. w .bytes) (namesAt line e)) ls []
+  unfolding wordEndAt
+  value-turn {before} {ws} {after} {k} {c} {m} {ls} is placed ends s small few g =
+      rowed-value (wordAt line (j + 1))
+      (subst (λ (xs : List Word). Rowed text before ws k c m (map (λ w. w .bytes) (namesAt line is)) (map (λ w. w .bytes) xs) ls [])
+      (names-more line j space ∙ ap (λ n. wordOf line (j + 1) ∷ namesAt line n) (sym ends)) g)
+      small (subst (λ n. n ≤ 16) (sym (length-map (namesAt line is) (λ (w : Word). w .bytes))) few) s (word-placed l (j + 1) pos (omega arith) placed)
+
+  pub cell-turn : {before ws mid after : List ℕ} {k c : ℕ} (d : Policy) (is w q label : ℕ) → w ≡ past 40 line (j + 1) → q ≡ nextWord line w → (at + w ≤ length text → pos ≡ at + w) → label ≡ known (labelOf d (wordOf line q))
+      → e ≡ past 41 line (q + length (wordAt line q)) → ValueStored ws mid k c pos → LabelStored mid after k c label → k < 1024 → length (givensAt line is) ≤ 16
+      → Rowed text before ws k c c (map (λ g. g .attribute .bytes) (givensAt line is)) (map (λ g. g .attribute .bytes) (givensAt line j)) (map (λ g. known (labelOf d (g .value))) (givensAt line is)) (map (λ g. known (labelOf d (g .value))) (givensAt line j))
+      → Rowed text before after k (c + 1) (c + 1) (map (λ g. g .attribute .bytes) (givensAt line is)) (map (λ g. g .attribute .bytes) (givensAt line e)) (map (λ g. known (labelOf d (g .value))) (givensAt line is)) (map (λ g. known (labelOf d (g .value))) (givensAt line e))
+  unfolding givenAt firstIn
+  cell-turn {before} {ws} {mid} {after} {k} {c} d is w q label first second placed named ends s t small few g =
+      let within : w ≤ length line = subst (λ n. n ≤ length line) (sym first) (past-within 40 line (j + 1) (omega arith)) in
+      rowed-label (known (labelOf d (wordOf line (secondIn line (j + 1)))))
+      (rowed-value (wordAt line (firstIn line (j + 1)))
+      (subst (λ (xs : List GivenForm). Rowed text before ws k c c (map (λ g. g .attribute .bytes) (givensAt line is)) (map (λ g. g .attribute .bytes) xs) (map (λ g. known (labelOf d (g .value))) (givensAt line is)) (map (λ g. known (labelOf d (g .value))) xs))
+      (givens-more line j space ∙ ap (λ n. givenAt line (j + 1) ∷ givensAt line n) (sym (pair-ends line (j + 1) w q e first second ends))) g)
+      small (subst (λ n. n ≤ 16) (sym (length-map (givensAt line is) (λ (g : GivenForm). g .attribute .bytes))) few) s (word-placed l w pos within placed ∙ ap (wordAt line) first))
+      small (subst (λ n. n ≤ 16) (sym (length-map (givensAt line is) (λ (g : GivenForm). known (labelOf d (g .value))))) few) t
+      (named ∙ ap (λ n. known (labelOf d (wordOf line n))) (second-is line (j + 1) w q e first second))

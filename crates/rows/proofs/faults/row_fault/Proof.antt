@@ -1,0 +1,179 @@
+-- `rows::faults::row_fault` meets its contract: each answer is a law of RowJudging. In the answers, f is the place where the table and
+-- the labels were looked up, w the one where the values were counted, and m the search for one of the wrong type. Assumes nothing.
+use borrow.Author.Tests.{not-false, not-true}
+use mathlib.Core.Path.{_∙_, ap, sym}
+use Rattle.document.specs.Lookup.{tableOf}
+use Rattle.form.specs.Walks.{itemsAt}
+use Rattle.index.specs.Index.{foundAs}
+use Rattle.text.specs.Words.{wordOf}
+use Rattle.rows.proofs.RowJudging.{found-fine, found-misfit, found-mistyped, found-unknown, near-at, row-no-table, row-over}
+use borrow.Author.Needs.{needs}
+use Rattle.rows.proofs.faults.row_fault.Statement.{statement}
+use Rattle.rows.proofs.faults.row_fault.Tie as tie
+
+returns : tie.Need-returns
+returns c =
+    let a = c .before .before .before .args in
+    let s = a .line .now in
+    record { is = λ d h. row-over d s (wordOf s (a .t)) (itemsAt s (a .is)) (a .k) (h .2) (c .if1 .taken); roomy = tt; reaches = λ p. tt }
+
+find-table-requires : tie.Need-find-table-requires
+find-table-requires c κs = search needs
+
+enum-known-found : tie.Need-enum-known-found
+enum-known-found c = search needs
+
+enum-told : tie.Need-enum-told
+enum-told c = search needs
+
+returns-2 : tie.Need-returns-2
+unfolding tableOf
+returns-2 c =
+    let a = c .before .before .before .before .before .before .args in
+    let s = a .line .now in
+    record {
+      is = λ d h.
+          row-no-table d s (wordOf s (a .t)) (itemsAt s (a .is)) (a .k) (h .2) (c .before .before .before .if1 .left)
+          (sym (c .before .before .find-table .ensures .0 (d .policy .tables) (h .1)) ∙ ap foundAs (c .enum-told .given .1));
+      roomy = tt;
+      reaches = λ p. p .0;
+    }
+
+table-scheme-requires : tie.Need-table-scheme-requires
+table-scheme-requires c κs = search needs
+
+unknown-label-requires : tie.Need-unknown-label-requires
+unknown-label-requires c κs = search needs
+
+enum-known-unknown : tie.Need-enum-known-unknown
+enum-known-unknown c = search needs
+
+returns-3 : tie.Need-returns-3
+unfolding tableOf
+returns-3 c =
+    let f = c .before .before .before in
+    let a = f .before .before .before .before .before .before .before .before .before .args in
+    let s = a .line .now in
+    let q = f .before .before .before .before .before .find-table in
+    record {
+      is = λ d h.
+          found-unknown (a .text .now) (a .tables .now) s (a .tables-count) (a .k) (a .t) (itemsAt s (a .is)) d (h .1) (h .2) (f .before .before .before .before .before .before .if1 .left)
+          (q .result) (q .ensures .0 (d .policy .tables) (h .1)) (q .ensures .1) (f .before .before .before .found .given .0 .0) (f .before .before .before .found .given .1)
+          (f .before .table-scheme .result) (f .before .table-scheme .ensures)
+          (f .unknown-label .result) (λ l ls. f .unknown-label .ensures .0 (h .0 .0) (d .policy) l ls (h .0 .1))
+          (c .before .unknown .given .0 .0) (c .before .unknown .given .1);
+      roomy = tt;
+      reaches = λ p. near-at s (f .unknown-label .result) (c .before .unknown .given .0 .0) (c .before .unknown .given .1) (f .unknown-label .ensures .1);
+    }
+
+enum-told-2 : tie.Need-enum-told-2
+enum-told-2 c = search needs
+
+table-width-requires : tie.Need-table-width-requires
+table-width-requires c κs = search needs
+
+row-fits-requires : tie.Need-row-fits-requires
+row-fits-requires c κs = search needs
+
+returns-4 : tie.Need-returns-4
+unfolding tableOf
+returns-4 c =
+    let f = c .before .before .before .before .before in
+    let a = f .before .before .before .before .before .before .before .before .before .args in
+    let s = a .line .now in
+    let q = f .before .before .before .before .before .find-table in
+    record {
+      is = λ d h.
+          found-misfit (a .text .now) (a .tables .now) s (a .tables-count) (a .k) (a .t) (itemsAt s (a .is)) d (h .1) (h .2) (f .before .before .before .before .before .before .if1 .left)
+          (q .result) (q .ensures .0 (d .policy .tables) (h .1)) (q .ensures .1) (f .before .before .before .found .given .0 .0) (f .before .before .before .found .given .1)
+          (f .before .table-scheme .result) (f .before .table-scheme .ensures)
+          (f .unknown-label .result) (λ l ls. f .unknown-label .ensures .0 (h .0 .0) (d .policy) l ls (h .0 .1))
+          (c .before .before .before .enum-told2 .given .1) (c .before .before .table-width .result) (c .before .before .table-width .ensures) (c .before .row-fits .result) (c .before .row-fits .ensures)
+          (not-true (c .before .row-fits .result) (c .if2 .taken));
+      roomy = tt;
+      reaches = λ p. tt;
+    }
+
+values-start-requires : tie.Need-values-start-requires
+values-start-requires c κs = search needs
+
+first-mistyped-requires : tie.Need-first-mistyped-requires
+first-mistyped-requires c κs = search needs
+
+enum-known-wrong : tie.Need-enum-known-wrong
+enum-known-wrong c = search needs
+
+enum-told-3 : tie.Need-enum-told-3
+enum-told-3 c = search needs
+
+returns-5 : tie.Need-returns-5
+unfolding tableOf
+returns-5 c =
+    let f = c .before .before .before .before .before .before .before .before .before .before in
+    let a = f .before .before .before .before .before .before .before .before .before .args in
+    let s = a .line .now in
+    let q = f .before .before .before .before .before .find-table in
+    let w = c .before .before .before .before .before .before in
+    let m = c .before .before .before .first-mistyped in
+    record {
+      is = λ d h.
+          found-mistyped (a .text .now) (a .tables .now) s (a .tables-count) (a .k) (a .t) (itemsAt s (a .is)) d (h .1) (h .2) (f .before .before .before .before .before .before .if1 .left)
+          (q .result) (q .ensures .0 (d .policy .tables) (h .1)) (q .ensures .1) (f .before .before .before .found .given .0 .0) (f .before .before .before .found .given .1)
+          (f .before .table-scheme .result) (f .before .table-scheme .ensures)
+          (f .unknown-label .result) (λ l ls. f .unknown-label .ensures .0 (h .0 .0) (d .policy) l ls (h .0 .1))
+          (c .before .before .before .before .before .before .before .before .enum-told2 .given .1) (w .before .table-width .result) (w .before .table-width .ensures) (w .row-fits .result) (w .row-fits .ensures)
+          (not-false (w .row-fits .result) (c .before .before .before .before .before .if2 .left))
+          (c .before .before .before .before .values-start .result) (c .before .before .before .before .values-start .ensures)
+          (m .result) (λ l. m .ensures .0 (a .text .now) (a .tables-count) (d .policy) (h .1) l)
+          (c .before .wrong .given .0 .0) (c .before .wrong .given .1);
+      roomy = tt;
+      reaches = λ p. near-at s (m .result) (c .before .wrong .given .0 .0) (c .before .wrong .given .1) (m .ensures .1);
+    }
+
+returns-6 : tie.Need-returns-6
+unfolding tableOf
+returns-6 c =
+    let f = c .before .before .before .before .before .before .before .before .before in
+    let a = f .before .before .before .before .before .before .before .before .before .args in
+    let s = a .line .now in
+    let q = f .before .before .before .before .before .find-table in
+    let w = c .before .before .before .before .before in
+    let m = c .before .before .first-mistyped in
+    record {
+      is = λ d h.
+          found-fine (a .text .now) (a .tables .now) s (a .tables-count) (a .k) (a .t) (itemsAt s (a .is)) d (h .1) (h .2) (f .before .before .before .before .before .before .if1 .left)
+          (q .result) (q .ensures .0 (d .policy .tables) (h .1)) (q .ensures .1) (f .before .before .before .found .given .0 .0) (f .before .before .before .found .given .1)
+          (f .before .table-scheme .result) (f .before .table-scheme .ensures)
+          (f .unknown-label .result) (λ l ls. f .unknown-label .ensures .0 (h .0 .0) (d .policy) l ls (h .0 .1))
+          (c .before .before .before .before .before .before .before .enum-told2 .given .1) (w .before .table-width .result) (w .before .table-width .ensures) (w .row-fits .result) (w .row-fits .ensures)
+          (not-false (w .row-fits .result) (c .before .before .before .before .if2 .left))
+          (c .before .before .before .values-start .result) (c .before .before .before .values-start .ensures)
+          (m .result) (λ l. m .ensures .0 (a .text .now) (a .tables-count) (d .policy) (h .1) l)
+          (c .enum-told3 .given .1);
+      roomy = f .before .before .before .before .before .before .if1 .left;
+      reaches = λ p. tt;
+    }
+
+pub row-fault-spec : {M : Type 1} → statement M
+row-fault-spec =
+    tie.close
+    (tie.spec
+    returns
+    find-table-requires
+    enum-known-found
+    enum-told
+    returns-2
+    table-scheme-requires
+    unknown-label-requires
+    enum-known-unknown
+    returns-3
+    enum-told-2
+    table-width-requires
+    row-fits-requires
+    returns-4
+    values-start-requires
+    first-mistyped-requires
+    enum-known-wrong
+    enum-told-3
+    returns-5
+    returns-6)

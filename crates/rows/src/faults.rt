@@ -1,0 +1,212 @@
+// What is wrong with a row form.
+use crate::items::behind_first;
+use crate::items::item_end_at;
+use crate::items::leads;
+use crate::items::led_values_fit;
+use crate::items::values_fit;
+use condition::kinds::Kind;
+use condition::kinds::has_kind;
+use index::found::Found;
+use index::labels::find_label;
+use index::layout::LABELS;
+use index::layout::ROWS;
+use index::layout::TABLE_CELLS;
+use index::tables::SchemeCode;
+use index::tables::column_kind;
+use index::tables::find_table;
+use index::tables::table_scheme;
+use index::tables::table_width;
+use stepping::fault::Fault;
+use text::bytes::byte_at;
+use text::refusals::Reason;
+use text::walking::next_word;
+use text::walking::skip_byte;
+ghost use Prim.Native.Nat.{_+_, _<_, _≤_, ℕ};
+ghost use lib.Dec.{eqb};
+ghost use lib.ListN.{length};
+ghost use mathlib.Core.List.{List, [], _∷_};
+ghost use mathlib.Core.Option.{some};
+ghost use mathlib.Core.Path.{_≡_};
+ghost use Rattle.condition.specs.Kinds.{hasKind};
+ghost use Rattle.document.specs.Lookup.{columnsAt, labelOf};
+ghost use Rattle.document.specs.NameFaults.{bracketLabels, leadingName, rowLabels};
+ghost use Rattle.document.specs.Policy.{Policy};
+ghost use Rattle.document.specs.TypeFaults.{mistypedValue};
+ghost use Rattle.document.specs.ValueFaults.{rowValues};
+ghost use Rattle.stepping.specs.Judged.{Judges};
+ghost use Rattle.stepping.specs.Places.{Near, wordFound};
+ghost use Rattle.rows.specs.RowWords.{labelAt, valuesAt};
+ghost use Rattle.form.specs.Form.{row};
+ghost use Rattle.form.specs.Walks.{itemAt, itemsAt};
+ghost use Rattle.index.specs.Index.{Labels, Tables, kindSaid, schemeBy};
+ghost use Rattle.lists.specs.Lists.{holdsOf, there};
+ghost use Rattle.text.specs.Offending.{missing, unless};
+ghost use Rattle.text.specs.Words.{Word, wordAt, wordOf};
+
+// Whether the items from a position on are shaped for the scheme, with as many values as this.
+fn row_fits(scheme: SchemeCode, line: &[u8], at: usize, width: usize) -> bool
+    ensures { λ r. ⌜ ((l : ℕ) (ls : List ℕ) → r ≡ holdsOf (λ ws. eqb (length ws) width) (rowValues (schemeBy scheme l ls) (itemsAt (now (line .entry)) at))) ⌝ }
+{
+    match scheme {
+        SchemeCode::Unlabelled => values_fit(line, at, false, width),
+        SchemeCode::ByTable => values_fit(line, at, false, width),
+        SchemeCode::ByColumn => values_fit(line, at, false, width),
+        SchemeCode::ByRow => led_values_fit(line, at, width),
+        SchemeCode::ByCell => values_fit(line, at, true, width),
+    }
+}
+
+// Where the items that have the values begin, of those from a position on.
+pub fn values_start(scheme: SchemeCode, line: &[u8], at: usize) -> usize
+    ensures { λ r. ⌜ ((l : ℕ) (ls : List ℕ) (ws : List Word) → rowValues (schemeBy scheme l ls) (itemsAt (now (line .entry)) at) ≡ some ws → valuesAt (now (line .entry)) r ≡ ws) ⌝ }
+{
+    match scheme {
+        SchemeCode::Unlabelled => at,
+        SchemeCode::ByTable => at,
+        SchemeCode::ByColumn => at,
+        SchemeCode::ByRow => behind_first(line, at),
+        SchemeCode::ByCell => at,
+    }
+}
+
+// Whether the word at a position is a name, or is a number.
+fn typed(line: &[u8], at: usize, named: bool) -> bool
+    ensures { λ r. ⌜ r ≡ hasKind (kindSaid named) (wordAt (now (line .entry)) at) ⌝ }
+{
+    if named {
+        return has_kind(line, at, Kind::Name);
+    }
+    has_kind(line, at, Kind::Num)
+}
+
+// The first value of the items from a position on that is not of its column's type.
+fn first_mistyped(tables: &[usize; TABLE_CELLS], t: usize, line: &[u8], at: usize) -> Found
+    ensures { λ r. ⌜ ((text : List ℕ) (k : ℕ) (d : Policy) → Tables text (now (tables .entry)) k (d .tables) → t < k → wordFound (now (line .entry)) r ≡ mistypedValue (columnsAt d t) (valuesAt (now (line .entry)) at)) × Near (now (line .entry)) r ⌝ }
+{
+    let n = table_width(tables, t);
+    let mut c = 0;
+    let mut i = at;
+    while c < n {
+        if byte_at(line, i) != b' ' {
+            return Found::Nothing;
+        }
+        let v = skip_byte(line, i + 1, b'(');
+        let named = column_kind(tables, t, c);
+        if !typed(line, v, named) {
+            return Found::At(v);
+        }
+        c += 1;
+        i = item_end_at(line, i + 1);
+    }
+    Found::Nothing
+}
+
+// Whether the label of the item at a position is known; where it has none, there is nothing to know.
+fn label_known(text: &[u8], labels: &[usize; LABELS], k: usize, line: &[u8], at: usize) -> bool
+    ensures { λ r. ⌜ ((sets : List ℕ) (d : Policy) → Labels (now (text .entry)) (now (labels .entry)) sets k (d .labels) → missing (λ w. there (labelOf d w)) (bracketLabels (itemAt (now (line .entry)) at ∷ [])) ≡ unless r (labelAt (now (line .entry)) at)) ⌝ }
+{
+    if byte_at(line, at) != b'(' {
+        return true;
+    }
+    let f = find_label(
+        text,
+        labels,
+        k,
+        line,
+        next_word(line, skip_byte(line, at, b'(')),
+    );
+    match f {
+        Found::At(_) => true,
+        Found::Nothing => false,
+    }
+}
+
+// The first bracket's label, of the items from a position on, that is not known.
+fn first_unknown_label(
+    text: &[u8],
+    labels: &[usize; LABELS],
+    k: usize,
+    line: &[u8],
+    at: usize,
+) -> Found
+    ensures { λ r. ⌜ ((sets : List ℕ) (d : Policy) → Labels (now (text .entry)) (now (labels .entry)) sets k (d .labels) → wordFound (now (line .entry)) r ≡ missing (λ w. there (labelOf d w)) (bracketLabels (itemsAt (now (line .entry)) at))) × Near (now (line .entry)) r ⌝ }
+{
+    let mut i = at;
+    while byte_at(line, i) == b' ' {
+        if !label_known(text, labels, k, line, i + 1) {
+            return Found::At(next_word(line, skip_byte(line, i + 1, b'(')));
+        }
+        i = item_end_at(line, i + 1);
+    }
+    Found::Nothing
+}
+
+// The first item, if it is a name without a bracket and no known label.
+fn leading_unknown(text: &[u8], labels: &[usize; LABELS], k: usize, line: &[u8], at: usize) -> Found
+    ensures { λ r. ⌜ ((sets : List ℕ) (d : Policy) → Labels (now (text .entry)) (now (labels .entry)) sets k (d .labels) → wordFound (now (line .entry)) r ≡ missing (λ w. there (labelOf d w)) (leadingName (itemsAt (now (line .entry)) at))) × Near (now (line .entry)) r ⌝ }
+{
+    if !leads(line, at) {
+        return Found::Nothing;
+    }
+    let f = find_label(text, labels, k, line, at + 1);
+    match f {
+        Found::At(_) => Found::Nothing,
+        Found::Nothing => Found::At(at + 1),
+    }
+}
+
+// The first label that the items from a position on use by the scheme, and that is not known.
+fn unknown_label(
+    scheme: SchemeCode,
+    text: &[u8],
+    labels: &[usize; LABELS],
+    k: usize,
+    line: &[u8],
+    at: usize,
+) -> Found
+    ensures { λ r. ⌜ ((sets : List ℕ) (d : Policy) (l : ℕ) (ls : List ℕ) → Labels (now (text .entry)) (now (labels .entry)) sets k (d .labels) → wordFound (now (line .entry)) r ≡ missing (λ w. there (labelOf d w)) (rowLabels (schemeBy scheme l ls) (itemsAt (now (line .entry)) at))) × Near (now (line .entry)) r ⌝ }
+{
+    match scheme {
+        SchemeCode::Unlabelled => Found::Nothing,
+        SchemeCode::ByTable => Found::Nothing,
+        SchemeCode::ByColumn => Found::Nothing,
+        SchemeCode::ByRow => leading_unknown(text, labels, k, line, at),
+        SchemeCode::ByCell => first_unknown_label(text, labels, k, line, at),
+    }
+}
+
+// What is wrong with `(row T item ..)`, the table's name at t and the items from `is` on, where there are k rows already.
+pub fn row_fault(
+    text: &[u8],
+    labels: &[usize; LABELS],
+    labels_count: usize,
+    tables: &[usize; TABLE_CELLS],
+    tables_count: usize,
+    k: usize,
+    line: &[u8],
+    t: usize,
+    is: usize,
+) -> Fault
+    ensures { λ r. ⌜ Judges (λ d. ((sets : List ℕ) × Labels (now (text .entry)) (now (labels .entry)) sets «labels_count» (d .policy .labels)) × Tables (now (text .entry)) (now (tables .entry)) «tables_count» (d .policy .tables) × (k ≡ length (d .rows))) ((t ≤ length (now (line .entry))) × (is ≤ length (now (line .entry)))) (now (line .entry)) (row (wordOf (now (line .entry)) t) (itemsAt (now (line .entry)) is)) k 1024 r ⌝ }
+{
+    if ROWS <= k {
+        return Fault::Whole(Reason::OverBound);
+    }
+    let found = find_table(text, tables, tables_count, line, t);
+    let Found::At(x) = found else {
+        return Fault::Item(Reason::NameUnknown, t);
+    };
+    let scheme = table_scheme(tables, x);
+    let unknown = unknown_label(scheme, text, labels, labels_count, line, is);
+    if let Found::At(p) = unknown {
+        return Fault::Item(Reason::NameUnknown, p);
+    }
+    if !row_fits(scheme, line, is, table_width(tables, x)) {
+        return Fault::Whole(Reason::WrongValues);
+    }
+    let wrong = first_mistyped(tables, x, line, values_start(scheme, line, is));
+    match wrong {
+        Found::At(p) => Fault::Item(Reason::WrongType, p),
+        Found::Nothing => Fault::Fine,
+    }
+}

@@ -1,0 +1,96 @@
+// The items of a row, by their places in the line: where each ends, whether they are shaped for a scheme, and how many there are.
+use text::bytes::byte_at;
+use text::walking::next_word;
+use text::walking::skip_byte;
+use text::words::End;
+use text::words::name_end;
+use text::words::word_end;
+ghost use Prim.Native.Nat.{_+_};
+ghost use lib.Dec.{eqb};
+ghost use lib.ListN.{getD, length};
+ghost use mathlib.Core.Bool.{cond, false, not, true};
+ghost use mathlib.Core.List.{List, []};
+ghost use mathlib.Core.Option.{none, some};
+ghost use mathlib.Core.Path.{_≡_};
+ghost use Rattle.document.specs.NameFaults.{leadingName};
+ghost use Rattle.document.specs.ValueFaults.{valuesBehindLabel};
+ghost use Rattle.rows.specs.RowWords.{shapedValues, valuesAt};
+ghost use Rattle.form.specs.Walks.{itemEndAt, itemsAt};
+ghost use Rattle.lists.specs.Lists.{holdsOf};
+ghost use Rattle.text.specs.Names.{isName};
+ghost use Rattle.text.specs.Words.{Word, wordAt};
+
+// Where the item at a position ends.
+pub fn item_end_at(line: &[u8], at: usize) -> usize
+    ensures { λ r. ⌜ r ≡ itemEndAt (now (line .entry)) at ⌝ }
+{
+    if byte_at(line, at) == b'(' {
+        let second = next_word(line, skip_byte(line, at, b'('));
+        return skip_byte(line, word_end(line, second), b')');
+    }
+    word_end(line, at)
+}
+
+// Whether the item at a position is a bracket, where brackets are wanted, and else is none.
+fn item_fits(line: &[u8], at: usize, bracketed: bool) -> bool
+    ensures { λ r. ⌜ eqb (getD (now (line .entry)) at 0) 40 ≡ cond r bracketed (not bracketed) ⌝ }
+{
+    if byte_at(line, at) == b'(' {
+        bracketed
+    } else {
+        !bracketed
+    }
+}
+
+// Whether the items from a position on are all shaped so, and as many as this.
+pub(crate) fn values_fit(line: &[u8], at: usize, bracketed: bool, width: usize) -> bool
+    ensures { λ r. ⌜ r ≡ holdsOf (λ ws. eqb (length ws) width) (shapedValues bracketed (itemsAt (now (line .entry)) at)) ⌝ }
+{
+    let mut n = 0;
+    let mut i = at;
+    while byte_at(line, i) == b' ' {
+        if !item_fits(line, i + 1, bracketed) {
+            return false;
+        }
+        n += 1;
+        i = item_end_at(line, i + 1);
+    }
+    n == width
+}
+
+// Whether the first item from a position on is a name without a bracket.
+pub(crate) fn leads(line: &[u8], at: usize) -> bool
+    ensures { λ r. ⌜ (r ≡ true → (getD (now (line .entry)) at 0 ≡ 32) × (eqb (getD (now (line .entry)) (at + 1) 0) 40 ≡ false) × (isName (wordAt (now (line .entry)) (at + 1)) ≡ true)) × (r ≡ false → (leadingName (itemsAt (now (line .entry)) at) ≡ []) × (valuesBehindLabel (itemsAt (now (line .entry)) at) ≡ none)) ⌝ }
+{
+    if byte_at(line, at) != b' ' {
+        return false;
+    }
+    if byte_at(line, at + 1) == b'(' {
+        return false;
+    }
+    let n = name_end(line, at + 1);
+    match n {
+        End::At(_) => true,
+        End::Nothing => false,
+    }
+}
+
+// Whether the first item is a name without a bracket, and those behind it are without brackets and as many as this.
+pub(crate) fn led_values_fit(line: &[u8], at: usize, width: usize) -> bool
+    ensures { λ r. ⌜ r ≡ holdsOf (λ ws. eqb (length ws) width) (valuesBehindLabel (itemsAt (now (line .entry)) at)) ⌝ }
+{
+    if leads(line, at) {
+        return values_fit(line, word_end(line, at + 1), false, width);
+    }
+    false
+}
+
+// Where the items behind the first begin.
+pub fn behind_first(line: &[u8], at: usize) -> usize
+    ensures { λ r. ⌜ ((ws : List Word) → valuesBehindLabel (itemsAt (now (line .entry)) at) ≡ some ws → valuesAt (now (line .entry)) r ≡ ws) ⌝ }
+{
+    if byte_at(line, at) == b' ' {
+        return item_end_at(line, at + 1);
+    }
+    at
+}

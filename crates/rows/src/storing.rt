@@ -1,0 +1,178 @@
+// Storing a row: its values and labels one by one, and then the row.
+use index::labels::find_label;
+use index::layout::LABELS;
+use index::layout::ROW_CELLS;
+use index::layout::TABLE_CELLS;
+use index::rows::add_row;
+use index::rows::set_label;
+use index::rows::set_value;
+use index::tables::SchemeCode;
+use index::tables::find_table;
+use index::tables::table_scheme;
+use stepping::places::number;
+use stepping::places::place;
+use text::bytes::byte_at;
+use text::walking::next_word;
+use text::walking::skip_byte;
+use text::words::word_end;
+ghost use Prim.Native.Nat.{_+_, _<_, _≤_, ℕ};
+ghost use lib.ListN.{length};
+ghost use mathlib.Core.List.{List, [], _++_, _∷_, map};
+ghost use mathlib.Core.Option.{some};
+ghost use mathlib.Core.Path.{_≡_};
+ghost use Rattle.document.specs.Lookup.{labelOf};
+ghost use Rattle.document.specs.Meaning.{add};
+ghost use Rattle.document.specs.NameFaults.{bracketLabels, leadingName};
+ghost use Rattle.document.specs.Policy.{Doc, Policy, Row};
+ghost use Rattle.document.specs.ValueFaults.{bracketValues, plainValues, valuesBehindLabel};
+ghost use Rattle.form.specs.Form.{row};
+ghost use Rattle.form.specs.Walks.{givensAt, itemsAt, namesAt};
+ghost use Rattle.index.specs.Index.{FillingRow, Labels, Rows, Tables};
+ghost use Rattle.lists.specs.Lists.{known};
+ghost use Rattle.stepping.specs.Stored.{LineAt, Passes, RowFilled};
+ghost use Rattle.text.specs.Words.{Word, wordOf};
+
+// Stores the words that stand from a place of the line on as the values of row k, and gives their number.
+fn store_values(
+    text: &[u8],
+    rows: &mut [usize; ROW_CELLS],
+    k: usize,
+    at: usize,
+    line: &[u8],
+    is: usize,
+) -> usize
+    ensures { λ r. ⌜ ((m : ℕ) (ls : List ℕ) → LineAt (now (text .entry)) at (now (line .entry)) → k < 1024 → length (namesAt (now (line .entry)) is) ≤ 16 → FillingRow (now (text .entry)) (now (rows .entry)) k 0 m [] ls → RowFilled (now (text .entry)) (now (rows .entry)) (now (rows .exit)) k r m (map (λ w. w .bytes) (namesAt (now (line .entry)) is)) ls) ⌝ }
+{
+    let mut c: usize = 0;
+    let mut j = is;
+    while byte_at(line, j) == b' ' {
+        let w = j + 1;
+        let pos = place(text, at, w);
+        set_value(rows, k, c, pos);
+        j = word_end(line, w);
+        c += 1;
+    }
+    c
+}
+
+// Stores the cells `(v L)` that stand from a place of the line on as the values and labels of row k, and gives their number.
+fn store_cells(
+    text: &[u8],
+    labels: &[usize; LABELS],
+    labels_count: usize,
+    rows: &mut [usize; ROW_CELLS],
+    k: usize,
+    at: usize,
+    line: &[u8],
+    is: usize,
+) -> usize
+    ensures { λ r. ⌜ ((d : Policy) (sets : List ℕ) → LineAt (now (text .entry)) at (now (line .entry)) → Labels (now (text .entry)) (now (labels .entry)) sets «labels_count» (d .labels) → k < 1024 → length (givensAt (now (line .entry)) is) ≤ 16 → RowFilled (now (text .entry)) (now (rows .entry)) (now (rows .exit)) k r r (map (λ g. g .attribute .bytes) (givensAt (now (line .entry)) is)) (map (λ g. known (labelOf d (g .value))) (givensAt (now (line .entry)) is))) ⌝ }
+{
+    let mut c: usize = 0;
+    let mut j = is;
+    while byte_at(line, j) == b' ' {
+        let w = skip_byte(line, j + 1, b'(');
+        let q = next_word(line, w);
+        let label = number(find_label(text, labels, labels_count, line, q));
+        let pos = place(text, at, w);
+        set_value(rows, k, c, pos);
+        set_label(rows, k, c, label);
+        j = skip_byte(line, word_end(line, q), b')');
+        c += 1;
+    }
+    c
+}
+
+// Stores row k of a table, with the values from a place of the line on and no label.
+fn store_plain(
+    text: &[u8],
+    rows: &mut [usize; ROW_CELLS],
+    k: usize,
+    at: usize,
+    line: &[u8],
+    table: usize,
+    is: usize,
+)
+    ensures { λ _. ⌜ ((rs : List Row) (ws : List Word) → LineAt (now (text .entry)) at (now (line .entry)) → Rows (now (text .entry)) (now (rows .entry)) k rs → k < 1024 → plainValues (itemsAt (now (line .entry)) is) ≡ some ws → length ws ≤ 16 → Rows (now (text .entry)) (now (rows .exit)) (k + 1) (rs ++ (record { table = table; values = map (λ w. w .bytes) ws; labels = [] } ∷ []))) ⌝ }
+{
+    let n = store_values(text, rows, k, at, line, is);
+    add_row(rows, k, table, n, 0);
+}
+
+// Stores row k of a table, with the label that stands first from a place of the line on, and the values behind it.
+fn store_by_row(
+    text: &[u8],
+    labels: &[usize; LABELS],
+    labels_count: usize,
+    rows: &mut [usize; ROW_CELLS],
+    k: usize,
+    at: usize,
+    line: &[u8],
+    table: usize,
+    is: usize,
+)
+    ensures { λ _. ⌜ ((d : Policy) (sets : List ℕ) (rs : List Row) (ws : List Word) → LineAt (now (text .entry)) at (now (line .entry)) → Labels (now (text .entry)) (now (labels .entry)) sets «labels_count» (d .labels) → Rows (now (text .entry)) (now (rows .entry)) k rs → k < 1024 → valuesBehindLabel (itemsAt (now (line .entry)) is) ≡ some ws → length ws ≤ 16 → Rows (now (text .entry)) (now (rows .exit)) (k + 1) (rs ++ (record { table = table; values = map (λ w. w .bytes) ws; labels = map (λ w. known (labelOf d w)) (leadingName (itemsAt (now (line .entry)) is)) } ∷ []))) ⌝ }
+{
+    if byte_at(line, is) == b' ' {
+        let w = is + 1;
+        let label = number(find_label(text, labels, labels_count, line, w));
+        set_label(rows, k, 0, label);
+        let n = store_values(text, rows, k, at, line, word_end(line, w));
+        add_row(rows, k, table, n, 1);
+    }
+}
+
+// Stores row k of a table, with the values from a place of the line on and a label at each.
+fn store_by_cell(
+    text: &[u8],
+    labels: &[usize; LABELS],
+    labels_count: usize,
+    rows: &mut [usize; ROW_CELLS],
+    k: usize,
+    at: usize,
+    line: &[u8],
+    table: usize,
+    is: usize,
+)
+    ensures { λ _. ⌜ ((d : Policy) (sets : List ℕ) (rs : List Row) (ws : List Word) → LineAt (now (text .entry)) at (now (line .entry)) → Labels (now (text .entry)) (now (labels .entry)) sets «labels_count» (d .labels) → Rows (now (text .entry)) (now (rows .entry)) k rs → k < 1024 → bracketValues (itemsAt (now (line .entry)) is) ≡ some ws → length ws ≤ 16 → Rows (now (text .entry)) (now (rows .exit)) (k + 1) (rs ++ (record { table = table; values = map (λ w. w .bytes) ws; labels = map (λ w. known (labelOf d w)) (bracketLabels (itemsAt (now (line .entry)) is)) } ∷ []))) ⌝ }
+{
+    let n = store_cells(text, labels, labels_count, rows, k, at, line, is);
+    add_row(rows, k, table, n, n);
+}
+
+// Stores the row of the table of the name at t of the line, behind k of them, with the items from `is` on.
+pub fn store_row(
+    text: &[u8],
+    labels: &[usize; LABELS],
+    labels_count: usize,
+    tables: &[usize; TABLE_CELLS],
+    tables_count: usize,
+    rows: &mut [usize; ROW_CELLS],
+    k: usize,
+    at: usize,
+    line: &[u8],
+    t: usize,
+    is: usize,
+)
+    ensures { λ _. ⌜ ((d : Doc) (sets : List ℕ) → LineAt (now (text .entry)) at (now (line .entry)) → Labels (now (text .entry)) (now (labels .entry)) sets «labels_count» (d .policy .labels) → Tables (now (text .entry)) (now (tables .entry)) «tables_count» (d .policy .tables) → Rows (now (text .entry)) (now (rows .entry)) k (d .rows) → Passes d (now (line .entry)) (row (wordOf (now (line .entry)) t) (itemsAt (now (line .entry)) is)) → Rows (now (text .entry)) (now (rows .exit)) (k + 1) (add d (row (wordOf (now (line .entry)) t) (itemsAt (now (line .entry)) is)) .rows)) ⌝ }
+{
+    let table = number(find_table(text, tables, tables_count, line, t));
+    let scheme = table_scheme(tables, table);
+    match scheme {
+        SchemeCode::Unlabelled => {
+            store_plain(text, rows, k, at, line, table, is);
+        }
+        SchemeCode::ByTable => {
+            store_plain(text, rows, k, at, line, table, is);
+        }
+        SchemeCode::ByColumn => {
+            store_plain(text, rows, k, at, line, table, is);
+        }
+        SchemeCode::ByRow => {
+            store_by_row(text, labels, labels_count, rows, k, at, line, table, is);
+        }
+        SchemeCode::ByCell => {
+            store_by_cell(text, labels, labels_count, rows, k, at, line, table, is);
+        }
+    }
+}

@@ -1,0 +1,64 @@
+-- A line in its text: its words stand there, and it is the bytes from its start to its end. Assumes nothing.
+use Prim.Native.Nat.{_+_, _-_, _<_, _≤_, ℕ}
+use borrow.Author.Tests.{ltb-false, ltb-true}
+use lib.Dec.{ltb}
+use lib.ListN.{drop, drop-of-length-le, getD, length, length-append, length-drop, length-take, take, take-append-drop}
+use lib.Seq.{drop-append-le, drop-drop, take-at}
+use mathlib.Core.Bool.{Bool, cond, false, true}
+use mathlib.Core.List.{List, [], _++_, _∷_}
+use mathlib.Core.Logic.{⊎-elim}
+use mathlib.Core.Path.{_∙_, _≡_, ap, refl, subst, sym}
+use native.Mathlib.Omega.{arith}
+use Rattle.index.specs.Index.{lineIn}
+use Rattle.lists.proofs.Tests.{decide}
+use Rattle.stepping.specs.Stored.{LineAt}
+use Rattle.text.specs.Bytes.{isDigit, isLetter, isNameByte}
+use Rattle.text.specs.Lines.{LineEnd}
+use Rattle.text.specs.Words.{nameBytes, wordAt}
+use Rattle.text.proofs.WordLaws.{word-stop}
+
+-- name bytes before something that does not begin with one
+run-before : (bs rest : List ℕ) → nameBytes rest ≡ [] → nameBytes (bs ++ rest) ≡ nameBytes bs
+unfolding nameBytes
+run-before [] rest h = h
+run-before (b ∷ bs) rest h = ap (λ l. cond (isNameByte b) (b ∷ l) []) (run-before bs rest h)
+
+module _ {text : List ℕ} {at : ℕ} {line : List ℕ} (l : LineAt text at line) where
+  -- a word of the line stands in the text
+  pub word-in-line : (p : ℕ) → p ≤ length line → wordAt text (at + p) ≡ wordAt line p
+  word-in-line p h =
+      ap nameBytes (sym (drop-drop p at text) ∙ ap (drop p) (l .is) ∙ drop-append-le p line (l .rest) h)
+      ∙ run-before (drop p line) (l .rest) (l .ends)
+
+  -- so it does at the position that the code finds
+  pub word-placed : (p r : ℕ) → p ≤ length line → (at + p ≤ length text → r ≡ at + p) → wordAt text r ≡ wordAt line p
+  word-placed p r h e = ap (wordAt text) (e (omega (arith, l .within))) ∙ word-in-line p h
+
+  -- the line itself
+  pub line-placed : (e : ℕ) → (at + length line ≤ length text → e ≡ at + length line) → lineIn text at e ≡ line
+  line-placed e h =
+      let m : e - at ≡ length line = omega (arith, h (l .within)) in
+      ap (λ n. take n (drop at text)) m ∙ ap (take (length line)) (l .is) ∙ take-at line (l .rest) (length line) refl
+
+-- what a line ends with is no name byte
+feed-none : isNameByte 10 ≡ false
+unfolding isNameByte isLetter isDigit
+feed-none = refl
+
+-- a line that the code finds stands there
+pub line-at : (text : List ℕ) (at e : ℕ) → at ≤ length text → at ≤ e → LineEnd text at e → LineAt text at (lineIn text at e)
+line-at text at e h k l = record {
+  rest = drop e text;
+  is = sym (ap (λ x. take (e - at) (drop at text) ++ x) tail ∙ take-append-drop (e - at) (drop at text));
+  ends = ⊎-elim (λ t. word-stop text e (ap isNameByte (l .feed (ltb-true e (length text) t)) ∙ feed-none)) (λ f. last (ltb-false e (length text) f)) (decide (ltb e (length text)));
+  within = omega (arith, length-take (e - at) (drop at text), length-drop at text, l .within h);
+}
+  where
+    tail : drop e text ≡ drop (e - at) (drop at text)
+    tail = ap (λ n. drop n text) (split (omega (arith, k))) ∙ sym (drop-drop (e - at) at text)
+      where
+        split : e ≡ at + (e - at) → e ≡ at + (e - at)
+        split x = x
+
+    last : length text ≤ e → nameBytes (drop e text) ≡ []
+    last g = unfold nameBytes in ap nameBytes (drop-of-length-le text g)

@@ -1,0 +1,30 @@
+-- `stepping::step::is_fine` meets its contract. Assumes nothing.
+use borrow.Author.Needs.{needs}
+use mathlib.Core.Path.{ap, sym}
+use Rattle.stepping.specs.Follows.{isFine}
+use Rattle.stepping.proofs.step.is_fine.Statement.{statement}
+use Rattle.stepping.proofs.step.is_fine.Tie as tie
+
+enum-told : tie.Need-enum-told
+enum-told c = search needs
+
+enum-told-2 : tie.Need-enum-told-2
+enum-told-2 c = search needs
+
+enum-told-3 : tie.Need-enum-told-3
+enum-told-3 c = search needs
+
+returns : tie.Need-returns
+unfolding isFine
+returns c = sym (ap isFine (c .enum-told .given .1))
+
+returns-2 : tie.Need-returns-2
+unfolding isFine
+returns-2 c = sym (ap isFine (c .enum-told2 .given .1))
+
+returns-3 : tie.Need-returns-3
+unfolding isFine
+returns-3 c = sym (ap isFine (c .enum-told3 .given .1))
+
+pub is-fine-spec : {M : Type 1} → statement M
+is-fine-spec = tie.close (tie.spec enum-told enum-told-2 enum-told-3 returns returns-2 returns-3)

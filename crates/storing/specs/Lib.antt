@@ -1,2 +1,0 @@
--- What storing an accepted line means. Assumes nothing.
-pub mod Stored

@@ -1,0 +1,7 @@
+-- Laws of these lines. Assumes nothing.
+pub mod LabelFaults
+pub mod NameWalks
+pub mod SetLaws
+pub mod TableLineLaws
+pub mod TableLines
+pub mod TableStored

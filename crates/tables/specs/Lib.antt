@@ -1,0 +1,3 @@
+-- What the contracts of these lines say. Assumes nothing.
+pub mod SchemeCodes
+pub mod TableLine

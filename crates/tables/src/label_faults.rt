@@ -1,0 +1,53 @@
+// Label lines: what is wrong with one.
+use crate::words::first_repeat;
+use crate::words::first_unknown_purpose;
+use index::found::Found;
+use index::labels::find_label;
+use index::layout::LABELS;
+use index::layout::PURPOSE_CELLS;
+use stepping::fault::Fault;
+use text::refusals::Reason;
+ghost use Prim.Native.Nat.{_≤_, ℕ};
+ghost use lib.ListN.{length};
+ghost use mathlib.Core.List.{List};
+ghost use Rattle.stepping.specs.Judged.{Judges};
+ghost use Rattle.form.specs.Form.{label};
+ghost use Rattle.form.specs.Walks.{namesAt};
+ghost use Rattle.index.specs.Index.{Labels, Nodes};
+ghost use Rattle.purpose.specs.Members.{limit};
+ghost use Rattle.text.specs.Words.{wordOf};
+
+// The label whose name stands at l of the line, behind k labels; its sets of purposes stand from `allowed` and from `denied` on.
+pub fn label_fault(
+    text: &[u8],
+    purposes: &[usize; PURPOSE_CELLS],
+    purposes_count: usize,
+    labels: &[usize; LABELS],
+    k: usize,
+    line: &[u8],
+    l: usize,
+    allowed: usize,
+    denied: usize,
+) -> Fault
+    ensures { λ r. ⌜ Judges (λ d. Nodes limit (now (text .entry)) (now (purposes .entry)) «purposes_count» (d .policy .purposes) × ((sets : List ℕ) × Labels (now (text .entry)) (now (labels .entry)) sets k (d .policy .labels))) (l ≤ length (now (line .entry))) (now (line .entry)) (label (wordOf (now (line .entry)) l) (namesAt (now (line .entry)) allowed) (namesAt (now (line .entry)) denied)) k 64 r ⌝ }
+{
+    if LABELS <= k {
+        return Fault::Whole(Reason::OverBound);
+    }
+    if let Found::At(_) = find_label(text, labels, k, line, l) {
+        return Fault::Item(Reason::NameTaken, l);
+    }
+    if let Found::At(v) = first_repeat(line, allowed) {
+        return Fault::Item(Reason::NameTaken, v);
+    }
+    if let Found::At(v) = first_repeat(line, denied) {
+        return Fault::Item(Reason::NameTaken, v);
+    }
+    if let Found::At(v) = first_unknown_purpose(text, purposes, purposes_count, line, allowed) {
+        return Fault::Item(Reason::NameUnknown, v);
+    }
+    if let Found::At(v) = first_unknown_purpose(text, purposes, purposes_count, line, denied) {
+        return Fault::Item(Reason::NameUnknown, v);
+    }
+    Fault::Fine
+}

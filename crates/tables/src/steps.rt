@@ -1,0 +1,147 @@
+// A line of a label or a table: what is wrong with it, or what it defines is stored.
+use crate::label_faults::label_fault;
+use crate::label_storing::store_label;
+use crate::table_faults::table_fault;
+use crate::table_storing::store_table;
+use form::lines::Scheme;
+use index::counts::Counts;
+use index::layout::LABELS;
+use index::layout::PURPOSE_CELLS;
+use index::layout::SET_WORDS;
+use index::layout::TABLE_CELLS;
+use index::tables::SchemeCode;
+use stepping::step::Step;
+use stepping::step::is_fine;
+ghost use Prim.Native.Nat.{_≤_, ℕ};
+ghost use lib.ListN.{length};
+ghost use mathlib.Core.List.{List};
+ghost use mathlib.Core.Option.{none};
+ghost use mathlib.Core.Path.{_≡_};
+ghost use Rattle.index.specs.Workspace.{Indexed};
+ghost use Rattle.stepping.specs.Follows.{Follows};
+ghost use Rattle.tables.specs.SchemeCodes.{labelPlace, schemeCoded};
+ghost use Rattle.document.specs.Check.{checkForm};
+ghost use Rattle.document.specs.Policy.{Doc};
+ghost use Rattle.form.specs.Form.{label, table};
+ghost use Rattle.form.specs.Places.{SchemeWithin, schemeAt, tableColumnsAt};
+ghost use Rattle.form.specs.Walks.{namesAt};
+ghost use Rattle.stepping.specs.Stored.{LineAt};
+ghost use Rattle.text.specs.Reader.{from};
+ghost use Rattle.text.specs.Words.{wordOf};
+
+// A scheme without its label.
+fn scheme_code(k: Scheme) -> SchemeCode
+    ensures { λ r. ⌜ r ≡ schemeCoded k ⌝ }
+{
+    match k {
+        Scheme::Unlabelled => SchemeCode::Unlabelled,
+        Scheme::ByTable(_) => SchemeCode::ByTable,
+        Scheme::ByColumn => SchemeCode::ByColumn,
+        Scheme::ByRow => SchemeCode::ByRow,
+        Scheme::ByCell => SchemeCode::ByCell,
+    }
+}
+
+// The place of the label of a table; 0 where it has none.
+fn scheme_label(k: Scheme) -> usize
+    ensures { λ r. ⌜ r ≡ labelPlace k ⌝ }
+{
+    match k {
+        Scheme::Unlabelled => 0,
+        Scheme::ByTable(l) => l,
+        Scheme::ByColumn => 0,
+        Scheme::ByRow => 0,
+        Scheme::ByCell => 0,
+    }
+}
+
+// A label, whose name stands at l, with the purposes from two places on.
+pub fn step_label(
+    text: &[u8],
+    at: usize,
+    line: &[u8],
+    purposes: &[usize; PURPOSE_CELLS],
+    labels: &mut [usize; LABELS],
+    sets: &mut [u64; SET_WORDS],
+    c: Counts,
+    l: usize,
+    allowed: usize,
+    denied: usize,
+) -> Step
+    ensures { λ s. ⌜ ((d : Doc) (rs′ bs′ us′ cs′ gs′ ts′ ws′ : List ℕ) → LineAt (now (text .entry)) at (now (line .entry)) → (l ≤ length (now (line .entry))) → Indexed (now (text .entry)) (now (purposes .entry)) rs′ bs′ us′ cs′ gs′ (now (labels .entry)) (now (sets .entry)) ts′ ws′ c d → Follows (Indexed (now (text .entry)) (now (purposes .entry)) rs′ bs′ us′ cs′ gs′ (now (labels .exit)) (now (sets .exit)) ts′ ws′) (now (line .entry)) (checkForm d (now (line .entry)) (label (wordOf (now (line .entry)) l) (namesAt (now (line .entry)) allowed) (namesAt (now (line .entry)) denied))) s) ⌝ }
+{
+    let k = c.labels;
+    let f = label_fault(
+        text,
+        purposes,
+        c.purposes,
+        labels,
+        k,
+        line,
+        l,
+        allowed,
+        denied,
+    );
+    if is_fine(f) {
+        store_label(
+            text,
+            purposes,
+            c.purposes,
+            labels,
+            sets,
+            k,
+            at,
+            line,
+            l,
+            allowed,
+            denied,
+        );
+        return Step::Goes(Counts {
+            purposes: c.purposes,
+            roles: c.roles,
+            attributes: c.attributes,
+            users: c.users,
+            conds: c.conds,
+            grants: c.grants,
+            labels: k + 1,
+            tables: c.tables,
+            rows: c.rows,
+        });
+    }
+    Step::Fails(f)
+}
+
+// A table, whose name stands at t, of this scheme, with its columns from cs on.
+pub fn step_table(
+    text: &[u8],
+    at: usize,
+    line: &[u8],
+    labels: &[usize; LABELS],
+    tables: &mut [usize; TABLE_CELLS],
+    c: Counts,
+    t: usize,
+    scheme: Scheme,
+    cs: usize,
+) -> Step
+    ensures { λ s. ⌜ ((d : Doc) (ps′ rs′ bs′ us′ cs′ gs′ ms′ ws′ : List ℕ) → LineAt (now (text .entry)) at (now (line .entry)) → ((t ≤ length (now (line .entry))) × SchemeWithin (now (line .entry)) scheme × (cs ≤ length (now (line .entry)))) → Indexed (now (text .entry)) ps′ rs′ bs′ us′ cs′ gs′ (now (labels .entry)) ms′ (now (tables .entry)) ws′ c d → Follows (Indexed (now (text .entry)) ps′ rs′ bs′ us′ cs′ gs′ (now (labels .entry)) ms′ (now (tables .exit)) ws′) (now (line .entry)) (checkForm d (now (line .entry)) (table (wordOf (now (line .entry)) t) (schemeAt (now (line .entry)) scheme cs) (tableColumnsAt (now (line .entry)) scheme cs))) s) ⌝ }
+{
+    let k = c.tables;
+    let code = scheme_code(scheme);
+    let l = scheme_label(scheme);
+    let f = table_fault(text, labels, c.labels, tables, k, line, t, code, l, cs);
+    if is_fine(f) {
+        store_table(text, labels, c.labels, tables, k, at, line, t, code, l, cs);
+        return Step::Goes(Counts {
+            purposes: c.purposes,
+            roles: c.roles,
+            attributes: c.attributes,
+            users: c.users,
+            conds: c.conds,
+            grants: c.grants,
+            labels: c.labels,
+            tables: k + 1,
+            rows: c.rows,
+        });
+    }
+    Step::Fails(f)
+}

@@ -1,0 +1,116 @@
+// Storing a table: its columns one by one, and then the table.
+use index::labels::find_label;
+use index::layout::LABELS;
+use index::layout::TABLE_CELLS;
+use index::tables::SchemeCode;
+use index::tables::add_table;
+use index::tables::labels_columns;
+use index::tables::set_column;
+use stepping::places::number;
+use stepping::places::place;
+use text::bytes::byte_at;
+use text::walking::next_word;
+use text::walking::skip_byte;
+use text::words::is_word;
+use text::words::word_end;
+ghost use Prim.Native.Nat.{_+_, _<_, _≤_, ℕ};
+ghost use lib.ListN.{length};
+ghost use mathlib.Core.List.{List, map};
+ghost use mathlib.Core.Path.{_≡_};
+ghost use Rattle.document.specs.Lookup.{labelOf};
+ghost use Rattle.document.specs.Meaning.{add, columnMeant};
+ghost use Rattle.document.specs.Policy.{Doc, Policy};
+ghost use Rattle.form.specs.Walks.{columnLabelsAt, columnsAt, kindAt, labelledColumnsAt};
+ghost use Rattle.index.specs.Index.{Labels, Tables, kindSaid};
+ghost use Rattle.index.specs.TableWords.{tableLine};
+ghost use Rattle.lists.specs.Lists.{known};
+ghost use Rattle.stepping.specs.Stored.{ColumnsFilled, LineAt, Passes};
+
+// Whether the type at a place of the line is that of names.
+fn kind_named(line: &[u8], q: usize) -> bool
+    ensures { λ r. ⌜ kindSaid r ≡ kindAt (now (line .entry)) q ⌝ }
+{
+    !is_word(line, q, b"num")
+}
+
+// Stores the columns `(COL num)` of table k that stand from a place of the line on, and gives their number.
+fn store_columns(
+    text: &[u8],
+    tables: &mut [usize; TABLE_CELLS],
+    k: usize,
+    at: usize,
+    line: &[u8],
+    cs: usize,
+) -> usize
+    ensures { λ r. ⌜ (LineAt (now (text .entry)) at (now (line .entry)) → k < 8 → length (columnsAt (now (line .entry)) cs) ≤ 16 → ColumnsFilled (now (text .entry)) (now (tables .entry)) (now (tables .exit)) k r (map columnMeant (columnsAt (now (line .entry)) cs)) (map (λ x. 0) (columnsAt (now (line .entry)) cs))) ⌝ }
+{
+    let mut c: usize = 0;
+    let mut j = cs;
+    while byte_at(line, j) == b' ' {
+        let w = skip_byte(line, j + 1, b'(');
+        let q = next_word(line, w);
+        let named = kind_named(line, q);
+        let pos = place(text, at, w);
+        set_column(tables, k, c, pos, named, 0);
+        j = skip_byte(line, word_end(line, q), b')');
+        c += 1;
+    }
+    c
+}
+
+// Stores the columns `(COL num L)` of table k that stand from a place of the line on, and gives their number.
+fn store_labelled_columns(
+    text: &[u8],
+    labels: &[usize; LABELS],
+    labels_count: usize,
+    tables: &mut [usize; TABLE_CELLS],
+    k: usize,
+    at: usize,
+    line: &[u8],
+    cs: usize,
+) -> usize
+    ensures { λ r. ⌜ ((d : Policy) (sets : List ℕ) → LineAt (now (text .entry)) at (now (line .entry)) → Labels (now (text .entry)) (now (labels .entry)) sets «labels_count» (d .labels) → k < 8 → length (labelledColumnsAt (now (line .entry)) cs) ≤ 16 → ColumnsFilled (now (text .entry)) (now (tables .entry)) (now (tables .exit)) k r (map columnMeant (labelledColumnsAt (now (line .entry)) cs)) (map (λ w. known (labelOf d w)) (columnLabelsAt (now (line .entry)) cs))) ⌝ }
+{
+    let mut c: usize = 0;
+    let mut j = cs;
+    while byte_at(line, j) == b' ' {
+        let w = skip_byte(line, j + 1, b'(');
+        let q = next_word(line, w);
+        let m = next_word(line, q);
+        let named = kind_named(line, q);
+        let label = number(find_label(text, labels, labels_count, line, m));
+        let pos = place(text, at, w);
+        set_column(tables, k, c, pos, named, label);
+        j = skip_byte(line, word_end(line, m), b')');
+        c += 1;
+    }
+    c
+}
+
+// Stores the table of the name at t of the line, behind k of them: its scheme, the table's label of the name at l where the scheme has
+// one, and its columns from cs on.
+pub fn store_table(
+    text: &[u8],
+    labels: &[usize; LABELS],
+    labels_count: usize,
+    tables: &mut [usize; TABLE_CELLS],
+    k: usize,
+    at: usize,
+    line: &[u8],
+    t: usize,
+    scheme: SchemeCode,
+    l: usize,
+    cs: usize,
+)
+    ensures { λ _. ⌜ ((d : Doc) (sets : List ℕ) → LineAt (now (text .entry)) at (now (line .entry)) → Labels (now (text .entry)) (now (labels .entry)) sets «labels_count» (d .policy .labels) → Tables (now (text .entry)) (now (tables .entry)) k (d .policy .tables) → Passes d (now (line .entry)) (tableLine (now (line .entry)) t scheme l cs) → t ≤ length (now (line .entry)) → Tables (now (text .entry)) (now (tables .exit)) (k + 1) (add d (tableLine (now (line .entry)) t scheme l cs) .policy .tables)) ⌝ }
+{
+    let label = number(find_label(text, labels, labels_count, line, l));
+    let pos = place(text, at, t);
+    if labels_columns(scheme) {
+        let width = store_labelled_columns(text, labels, labels_count, tables, k, at, line, cs);
+        add_table(tables, k, pos, scheme, label, width);
+        return;
+    }
+    let width = store_columns(text, tables, k, at, line, cs);
+    add_table(tables, k, pos, scheme, label, width);
+}

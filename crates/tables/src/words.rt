@@ -1,0 +1,76 @@
+// The names of a set in a line: whether one stands before, the first that repeats another, and the first that is no purpose.
+use index::found::Found;
+use index::layout::PURPOSE_CELLS;
+use index::names::find_purpose;
+use text::bytes::byte_at;
+use text::words::same_name;
+use text::words::word_end;
+ghost use lib.ListN.{take};
+ghost use mathlib.Core.List.{List};
+ghost use mathlib.Core.Path.{_≡_};
+ghost use Rattle.document.specs.Policy.{Node};
+ghost use Rattle.stepping.specs.Places.{Near, wordFound};
+ghost use Rattle.form.specs.Walks.{namesAt};
+ghost use Rattle.index.specs.Index.{Nodes};
+ghost use Rattle.lists.specs.Lists.{anyOf, findIndex, there};
+ghost use Rattle.purpose.specs.Members.{limit};
+ghost use Rattle.text.specs.Offending.{missing, repeated};
+ghost use Rattle.text.specs.Words.{isCalled, wordOf};
+
+// Whether the name at w is one of the first k names from `at` on.
+pub fn among_first(line: &[u8], at: usize, k: usize, w: usize) -> bool
+    ensures { λ r. ⌜ r ≡ anyOf (λ v. isCalled (wordOf (now (line .entry)) w) (v .bytes)) (take k (namesAt (now (line .entry)) «at»)) ⌝ }
+{
+    let mut j = at;
+    let mut left = k;
+    while 0 < left {
+        if byte_at(line, j) != b' ' {
+            return false;
+        }
+        let v = j + 1;
+        if same_name(line, w, line, v) {
+            return true;
+        }
+        j = word_end(line, v);
+        left -= 1;
+    }
+    false
+}
+
+// The first name from `at` on that stands earlier among them.
+pub fn first_repeat(line: &[u8], at: usize) -> Found
+    ensures { λ r. ⌜ (wordFound (now (line .entry)) r ≡ repeated (namesAt (now (line .entry)) «at»)) × Near (now (line .entry)) r ⌝ }
+{
+    let mut j = at;
+    let mut k = 0;
+    while byte_at(line, j) == b' ' {
+        let v = j + 1;
+        if among_first(line, at, k, v) {
+            return Found::At(v);
+        }
+        j = word_end(line, v);
+        k += 1;
+    }
+    Found::Nothing
+}
+
+// The first name from `at` on that is none of the k purposes.
+pub fn first_unknown_purpose(
+    text: &[u8],
+    purposes: &[usize; PURPOSE_CELLS],
+    k: usize,
+    line: &[u8],
+    at: usize,
+) -> Found
+    ensures { λ r. ⌜ ((ns : List Node) → Nodes limit (now (text .entry)) (now (purposes .entry)) k ns → wordFound (now (line .entry)) r ≡ missing (λ w. there (findIndex (λ x. isCalled w (x .name)) ns)) (namesAt (now (line .entry)) «at»)) × Near (now (line .entry)) r ⌝ }
+{
+    let mut j = at;
+    while byte_at(line, j) == b' ' {
+        let v = j + 1;
+        if let Found::Nothing = find_purpose(text, purposes, k, line, v) {
+            return Found::At(v);
+        }
+        j = word_end(line, v);
+    }
+    Found::Nothing
+}

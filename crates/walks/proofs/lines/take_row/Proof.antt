@@ -1,0 +1,146 @@
+-- `walks::lines::take_row` meets its contract, by the scheme of the row's table. Assumes nothing.
+use Prim.Native.Nat.{_<_, ℕ}
+use borrow.Author.Needs.{needs}
+use mathlib.Core.Bool.{Bool}
+use mathlib.Core.List.{List}
+use mathlib.Core.Path.{_∙_, _≡_, refl, subst, sym}
+use Rattle.document.specs.Lookup.{tableOf}
+use Rattle.document.specs.NameFaults.{rowLabels}
+use Rattle.document.specs.Policy.{Doc}
+use Rattle.document.specs.ValueFaults.{rowValues}
+use Rattle.index.specs.Index.{Tables, schemeBy}
+use Rattle.index.specs.declared.tables.SchemeCode.{SchemeCode}
+use Rattle.lists.proofs.Tests.{true-not-false}
+use Rattle.walks.proofs.RowLines.{line-taken, name-ends}
+use Rattle.walks.proofs.RowsTaken.{TableTold, table-told}
+use Rattle.walks.specs.Taken.{NoLabels, TakesItems, TakesRow, tableEnd}
+use Rattle.text.specs.Walking.{wordEndAt}
+use Rattle.text.specs.Words.{wordOf}
+use Rattle.text.specs.declared.words.End.the-variants.{At}
+use Rattle.walks.proofs.lines.take_row.Statement.{statement}
+use Rattle.walks.proofs.lines.take_row.Tie as tie
+
+-- what is known before the scheme decides
+room : (c : tie.After-table-scheme) → c .before .before .before .before .before .before .before .before .before .before .before .before .args .k < 1024
+room c = c .before .before .before .before .before .before .before .before .before .if1 .left
+
+ends : (c : tie.After-table-scheme) → tableEnd (c .before .before .before .before .before .before .before .before .before .before .before .before .args .line .now) ≡ At (c .before .before .before .before .before .before .t .given .0 .0)
+ends c = sym (c .before .before .before .before .before .before .before .before .table-end .ensures) ∙ c .before .before .before .before .before .before .t .given .1
+
+found : (c : tie.After-table-scheme) (d : Doc) {s : SchemeCode} → Tables (c .before .before .before .before .before .before .before .before .before .before .before .before .args .text .now) (c .before .before .before .before .before .before .before .before .before .before .before .before .args .tables .now) (c .before .before .before .before .before .before .before .before .before .before .before .before .args .tables-count) (d .policy .tables) → c .table-scheme .result ≡ s
+    → TableTold (c .before .before .before .before .before .before .before .before .before .before .before .before .args .tables .now) (c .before .before .before .before .before .before .before .before .before .before .before .before .args .tables-count) (c .before .before .found .given .0 .0) s (wordOf (c .before .before .before .before .before .before .before .before .before .before .before .before .args .line .now) 5) (d .policy)
+unfolding tableOf wordEndAt
+found c d T told = table-told (wordOf (c .before .before .before .before .before .before .before .before .before .before .before .before .args .line .now) 5) (d .policy) T (c .before .before .found .given .1) (c .before .before .before .before .find-table-to .ensures .0 _ (name-ends (c .before .before .before .before .before .before .before .before .before .before .before .before .args .line .now) (c .before .before .before .before .before .before .t .given .0 .0) (ends c)) T) (c .before .before .before .before .find-table-to .ensures .1) told (c .table-scheme .ensures)
+
+as-line : (c : tie.After-table-scheme) (after : List ℕ) (d : Doc) (r : Bool) → TakesItems (c .before .before .before .before .before .before .before .before .before .before .before .before .args .text .now) (c .before .before .before .before .before .before .before .before .before .before .before .before .args .line .now) after (c .before .before .before .before .before .before .before .before .before .before .before .before .args .k) (c .before .before .before .before .before .before .t .given .0 .0) d r → TakesRow (c .before .before .before .before .before .before .before .before .before .before .before .before .args .text .now) (c .before .before .before .before .before .before .before .before .before .before .before .before .args .line .now) after (c .before .before .before .before .before .before .before .before .before .before .before .before .args .k) d r
+as-line c after d r = line-taken (c .before .before .before .before .before .before .before .before .before .before .before .before .args .line .now) (c .before .before .before .before .before .before .t .given .0 .0) (ends c) (c .before .before .before .before .before .before .before .before .before .before .before .before .args .text .now) after (c .before .before .before .before .before .before .before .before .before .before .before .before .args .k) d r
+
+returns : tie.Need-returns
+returns c = (λ d sets l L T N. N, λ e. true-not-false e refl)
+
+table-end-requires : tie.Need-table-end-requires
+table-end-requires c κs = search needs
+
+enum-known-t : tie.Need-enum-known-t
+enum-known-t c = search needs
+
+enum-told : tie.Need-enum-told
+enum-told c = search needs
+
+returns-2 : tie.Need-returns-2
+returns-2 c = search needs
+
+find-table-to-requires : tie.Need-find-table-to-requires
+find-table-to-requires c κs = search needs
+
+enum-known-found : tie.Need-enum-known-found
+enum-known-found c = search needs
+
+enum-told-2 : tie.Need-enum-told-2
+enum-told-2 c = search needs
+
+returns-3 : tie.Need-returns-3
+returns-3 c = search needs
+
+table-scheme-requires : tie.Need-table-scheme-requires
+table-scheme-requires c κs = search needs
+
+enum-told-3 : tie.Need-enum-told-3
+enum-told-3 c = search needs
+
+take-plain-requires : tie.Need-take-plain-requires
+take-plain-requires c κs = search needs
+
+enum-told-4 : tie.Need-enum-told-4
+enum-told-4 c = search needs
+
+take-plain-requires-2 : tie.Need-take-plain-requires-2
+take-plain-requires-2 c κs = search needs
+
+enum-told-5 : tie.Need-enum-told-5
+enum-told-5 c = search needs
+
+take-plain-requires-3 : tie.Need-take-plain-requires-3
+take-plain-requires-3 c κs = search needs
+
+enum-told-6 : tie.Need-enum-told-6
+enum-told-6 c = search needs
+
+take-led-requires : tie.Need-take-led-requires
+take-led-requires c κs = search needs
+
+enum-told-7 : tie.Need-enum-told-7
+enum-told-7 c = search needs
+
+take-labelled-requires : tie.Need-take-labelled-requires
+take-labelled-requires c κs = search needs
+
+returns-4 : tie.Need-returns-4
+unfolding schemeBy rowValues rowLabels
+returns-4 c = (λ d sets l L T N. let g = found (c .before .before .before .before) d T (c .before .before .enum-told3 .given .1) in as-line (c .before .before .before .before) _ d (c .take-plain .result) (c .take-plain .ensures d _ l T (g .table) (g .inside) (subst NoLabels (sym (g .scheme)) (record { values = λ is. refl; labels = λ is. refl })) (room (c .before .before .before .before)) N), λ e. room (c .before .before .before .before))
+
+returns-5 : tie.Need-returns-5
+unfolding schemeBy rowValues rowLabels
+returns-5 c = (λ d sets l L T N. let g = found (c .before .before .before .before) d T (c .before .before .enum-told4 .given .1) in as-line (c .before .before .before .before) _ d (c .take-plain2 .result) (c .take-plain2 .ensures d _ l T (g .table) (g .inside) (subst NoLabels (sym (g .scheme)) (record { values = λ is. refl; labels = λ is. refl })) (room (c .before .before .before .before)) N), λ e. room (c .before .before .before .before))
+
+returns-6 : tie.Need-returns-6
+unfolding schemeBy rowValues rowLabels
+returns-6 c = (λ d sets l L T N. let g = found (c .before .before .before .before) d T (c .before .before .enum-told5 .given .1) in as-line (c .before .before .before .before) _ d (c .take-plain3 .result) (c .take-plain3 .ensures d _ l T (g .table) (g .inside) (subst NoLabels (sym (g .scheme)) (record { values = λ is. refl; labels = λ is. refl })) (room (c .before .before .before .before)) N), λ e. room (c .before .before .before .before))
+
+returns-7 : tie.Need-returns-7
+unfolding schemeBy
+returns-7 c = (λ d sets l L T N. let g = found (c .before .before .before .before) d T (c .before .before .enum-told6 .given .1) in as-line (c .before .before .before .before) _ d (c .take-led .result) (c .take-led .ensures d sets _ l L T (g .table) (g .inside) (g .scheme) (room (c .before .before .before .before)) N), λ e. room (c .before .before .before .before))
+
+returns-8 : tie.Need-returns-8
+unfolding schemeBy
+returns-8 c = (λ d sets l L T N. let g = found (c .before .before .before .before) d T (c .before .before .enum-told7 .given .1) in as-line (c .before .before .before .before) _ d (c .take-labelled .result) (c .take-labelled .ensures d sets _ l L T (g .table) (g .inside) (g .scheme) (room (c .before .before .before .before)) N), λ e. room (c .before .before .before .before))
+
+pub take-row-spec : {M : Type 1} → statement M
+take-row-spec =
+    tie.close
+    (tie.spec
+    returns
+    table-end-requires
+    enum-known-t
+    enum-told
+    returns-2
+    find-table-to-requires
+    enum-known-found
+    enum-told-2
+    returns-3
+    table-scheme-requires
+    enum-told-3
+    take-plain-requires
+    enum-told-4
+    take-plain-requires-2
+    enum-told-5
+    take-plain-requires-3
+    enum-told-6
+    take-led-requires
+    enum-told-7
+    take-labelled-requires
+    returns-4
+    returns-5
+    returns-6
+    returns-7
+    returns-8)

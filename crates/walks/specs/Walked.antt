@@ -1,0 +1,75 @@
+-- What one walk over the items of a row line finds and stores; for the functions that are not called from outside.
+use Prim.Native.Nat.{_+_, ℕ}
+use lib.Dec.{eqb}
+use lib.ListN.{drop, getD, length}
+use mathlib.Core.Bool.{Bool, cond, false, true}
+use mathlib.Core.List.{List, [], map}
+use mathlib.Core.Path.{_≡_}
+use Rattle.condition.specs.Kinds.{hasKind}
+use Rattle.document.specs.Lookup.{labelOf}
+use Rattle.document.specs.NameFaults.{bracketLabels}
+use Rattle.document.specs.Policy.{Column, Policy, Row}
+use Rattle.document.specs.TypeFaults.{mistypedValue}
+use Rattle.rows.specs.RowWords.{shapedValues, valuesAt}
+use Rattle.form.specs.FormReader.{item}
+use Rattle.form.specs.Walks.{givensAt, itemsAt, namesAt}
+use Rattle.index.specs.Index.{LabelStored, Rows, kindSaid}
+use Rattle.lists.specs.Lists.{holdsOf, known, there}
+use Rattle.stepping.specs.Stored.{RowFilled}
+use Rattle.text.specs.Brackets.{many}
+use Rattle.text.specs.CodeEnds.{wordEnd}
+use Rattle.text.specs.Names.{isName}
+use Rattle.text.specs.Offending.{missing}
+use Rattle.text.specs.Reader.{from}
+use Rattle.text.specs.Walking.{wordEndAt}
+use Rattle.text.specs.Words.{wordAt, wordOf}
+use Rattle.text.specs.declared.words.End.{End}
+use Rattle.text.specs.declared.words.End.the-variants.{At, Nothing}
+
+-- where the word at a place ends, if it is a name (true), or a number (false)
+unfoldable pub typedEnd : List ℕ → ℕ → Bool → End
+typedEnd line at named = cond (hasKind (kindSaid named) (wordAt line at)) (At (wordEndAt line at)) Nothing
+
+-- the first k rows stay
+abbrev pub KeepsRows : (text before after : List ℕ) → ℕ → Type 0
+KeepsRows text before after k = (rs : List Row) → Rows text before k rs → Rows text after k rs
+
+-- n items, brackets (true) or none (false), stand from `is` to e, and each has a value of its column's type
+pub record ItemsWalked (bracketed : Bool) (line : List ℕ) (n : ℕ) (cs : List Column) (is e : ℕ) : Type 0 where
+  pub ends : wordEnd (many item (from line is)) ≡ wordEnd (many item (from line e))
+  pub fits : holdsOf (λ ws. eqb (length ws) n) (shapedValues bracketed (itemsAt line is)) ≡ holdsOf (λ ws. eqb (n + length ws) n) (shapedValues bracketed (itemsAt line e))
+  pub typed : mistypedValue cs (valuesAt line is) ≡ mistypedValue (drop n cs) (valuesAt line e)
+
+-- n values stand from `is` to e, and if they are all, they are stored as those of row k, which has m labels already
+pub record ValuesTaken (text before after line : List ℕ) (k n m : ℕ) (ls : List ℕ) (cs : List Column) (is e : ℕ) : Type 0 where
+  pub walked : ItemsWalked false line n cs is e
+  pub filled : namesAt line e ≡ [] → RowFilled text before after k n m (map (λ w. w .bytes) (namesAt line is)) ls
+
+-- the same for n cells with a known label at each
+pub record CellsTaken (text before after line : List ℕ) (k n : ℕ) (d : Policy) (cs : List Column) (is e : ℕ) : Type 0 where
+  pub walked : ItemsWalked true line n cs is e
+  pub labelled : missing (λ w. there (labelOf d w)) (bracketLabels (itemsAt line is)) ≡ missing (λ w. there (labelOf d w)) (bracketLabels (itemsAt line e))
+  pub filled : givensAt line e ≡ [] → RowFilled text before after k n n (map (λ g. g .attribute .bytes) (givensAt line is)) (map (λ g. known (labelOf d (g .value))) (givensAt line is))
+
+-- the name of a known label stands behind a space and ends at e, and it is stored as label m of row k
+pub record LabelTaken (before after line : List ℕ) (d : Policy) (k m at e : ℕ) : Type 0 where
+  pub space : getD line at 0 ≡ 32
+  pub named : isName (wordAt line (at + 1)) ≡ true
+  pub end : e ≡ wordEndAt line (at + 1)
+  pub found : there (labelOf d (wordOf line (at + 1))) ≡ true
+  pub stored : LabelStored before after k m (known (labelOf d (wordOf line (at + 1))))
+
+-- the code's answer for values: they were taken up to an end, or nothing is said
+abbrev pub ValuesWalked : (text before after line : List ℕ) → ℕ → ℕ → ℕ → List ℕ → List Column → ℕ → End → Type 0
+ValuesWalked text before after line k n m ls cs is Nothing = Unit {0}
+ValuesWalked text before after line k n m ls cs is (At e) = ValuesTaken text before after line k n m ls cs is e
+
+-- its answer for cells
+abbrev pub CellsWalked : (text before after line : List ℕ) → ℕ → ℕ → Policy → List Column → ℕ → End → Type 0
+CellsWalked text before after line k n d cs is Nothing = Unit {0}
+CellsWalked text before after line k n d cs is (At e) = CellsTaken text before after line k n d cs is e
+
+-- its answer for a label
+abbrev pub LabelWalked : (before after line : List ℕ) → Policy → ℕ → ℕ → ℕ → End → Type 0
+LabelWalked before after line d k m at Nothing = Unit {0}
+LabelWalked before after line d k m at (At e) = LabelTaken before after line d k m at e

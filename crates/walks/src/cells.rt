@@ -1,0 +1,146 @@
+// The values and labels of a row line: judged while they are read, and stored while they are judged.
+use index::found::Found;
+use index::labels::find_label_to;
+use index::layout::LABELS;
+use index::layout::ROW_CELLS;
+use index::layout::TABLE_CELLS;
+use index::rows::set_label;
+use index::rows::set_value;
+use index::tables::column_kind;
+use stepping::places::place;
+use text::bytes::byte_at;
+use text::numbers::Number;
+use text::numbers::read_number;
+use text::words::End;
+use text::words::name_end;
+ghost use Prim.Native.Nat.{_<_, _≤_, ℕ};
+ghost use lib.ListN.{length};
+ghost use mathlib.Core.List.{List, []};
+ghost use mathlib.Core.Path.{_≡_};
+ghost use Rattle.document.specs.Lookup.{columnsAt};
+ghost use Rattle.document.specs.Policy.{Policy};
+ghost use Rattle.index.specs.Index.{FillingRow, Labels, Tables};
+ghost use Rattle.walks.specs.Walked.{CellsWalked, KeepsRows, LabelWalked, ValuesWalked, typedEnd};
+ghost use Rattle.stepping.specs.Stored.{LineAt};
+
+// The end of the name, or of the number, that stands at a position.
+fn typed_end(line: &[u8], at: usize, named: bool) -> End
+    ensures { λ r. ⌜ r ≡ typedEnd (now (line .entry)) at named ⌝ }
+{
+    if named {
+        return name_end(line, at);
+    }
+    let n = read_number(line, at);
+    match n {
+        Number::At(e, _) => End::At(e),
+        Number::Nothing => End::Nothing,
+    }
+}
+
+// Stores the n values from a place of the line on as those of row k, where they are of the types of the columns of table x, and gives their end.
+pub(crate) fn take_values(
+    text: &[u8],
+    at: usize,
+    line: &[u8],
+    tables: &[usize; TABLE_CELLS],
+    x: usize,
+    n: usize,
+    rows: &mut [usize; ROW_CELLS],
+    k: usize,
+    is: usize,
+) -> End
+    ensures { λ r. ⌜ KeepsRows (now (text .entry)) (now (rows .entry)) (now (rows .exit)) k × ((d : Policy) (count m : ℕ) (ls : List ℕ) → LineAt (now (text .entry)) at (now (line .entry)) → Tables (now (text .entry)) (now (tables .entry)) count (d .tables) → x < count → n ≡ length (columnsAt d x) → k < 1024 → FillingRow (now (text .entry)) (now (rows .entry)) k 0 m [] ls → ValuesWalked (now (text .entry)) (now (rows .entry)) (now (rows .exit)) (now (line .entry)) k n m ls (columnsAt d x) is r) ⌝ }
+{
+    let mut m: usize = 0;
+    let mut j = is;
+    while m < n {
+        if byte_at(line, j) != b' ' {
+            return End::Nothing;
+        }
+        let v = j + 1;
+        let named = column_kind(tables, x, m);
+        let r = typed_end(line, v, named);
+        let End::At(e) = r else {
+            return End::Nothing;
+        };
+        let pos = place(text, at, v);
+        set_value(rows, k, m, pos);
+        j = e;
+        m += 1;
+    }
+    End::At(j)
+}
+
+// The end of the name of a known label that stands behind a space, which is stored as label m of row k.
+pub(crate) fn take_label(
+    text: &[u8],
+    line: &[u8],
+    labels: &[usize; LABELS],
+    labels_count: usize,
+    rows: &mut [usize; ROW_CELLS],
+    k: usize,
+    m: usize,
+    at: usize,
+) -> End
+    ensures { λ r. ⌜ KeepsRows (now (text .entry)) (now (rows .entry)) (now (rows .exit)) k × ((d : Policy) (sets : List ℕ) → Labels (now (text .entry)) (now (labels .entry)) sets «labels_count» (d .labels) → LabelWalked (now (rows .entry)) (now (rows .exit)) (now (line .entry)) d k m at r) ⌝ }
+{
+    if byte_at(line, at) != b' ' {
+        return End::Nothing;
+    }
+    let r = name_end(line, at + 1);
+    let End::At(e) = r else {
+        return End::Nothing;
+    };
+    let found = find_label_to(text, labels, labels_count, line, at + 1, e);
+    let Found::At(y) = found else {
+        return End::Nothing;
+    };
+    set_label(rows, k, m, y);
+    End::At(e)
+}
+
+// Stores the n cells `(v L)` from a place of the line on as the values and labels of row k, likewise, and gives their end.
+pub(crate) fn take_cells(
+    text: &[u8],
+    at: usize,
+    line: &[u8],
+    labels: &[usize; LABELS],
+    labels_count: usize,
+    tables: &[usize; TABLE_CELLS],
+    x: usize,
+    n: usize,
+    rows: &mut [usize; ROW_CELLS],
+    k: usize,
+    is: usize,
+) -> End
+    ensures { λ r. ⌜ KeepsRows (now (text .entry)) (now (rows .entry)) (now (rows .exit)) k × ((d : Policy) (count : ℕ) (sets : List ℕ) → LineAt (now (text .entry)) at (now (line .entry)) → Labels (now (text .entry)) (now (labels .entry)) sets «labels_count» (d .labels) → Tables (now (text .entry)) (now (tables .entry)) count (d .tables) → x < count → n ≡ length (columnsAt d x) → k < 1024 → CellsWalked (now (text .entry)) (now (rows .entry)) (now (rows .exit)) (now (line .entry)) k n d (columnsAt d x) is r) ⌝ }
+{
+    let mut m: usize = 0;
+    let mut j = is;
+    while m < n {
+        if byte_at(line, j) != b' ' {
+            return End::Nothing;
+        }
+        if byte_at(line, j + 1) != b'(' {
+            return End::Nothing;
+        }
+        let v = j + 2;
+        let named = column_kind(tables, x, m);
+        let r = typed_end(line, v, named);
+        let End::At(e) = r else {
+            return End::Nothing;
+        };
+        let pos = place(text, at, v);
+        set_value(rows, k, m, pos);
+        let l = take_label(text, line, labels, labels_count, rows, k, m, e);
+        let End::At(f) = l else {
+            return End::Nothing;
+        };
+        if byte_at(line, f) != b')' {
+            return End::Nothing;
+        }
+        j = f + 1;
+        m += 1;
+    }
+    End::At(j)
+}

@@ -1,0 +1,191 @@
+// A row line, from its opening bracket to its end.
+use crate::cells::take_cells;
+use crate::cells::take_label;
+use crate::cells::take_values;
+use index::found::Found;
+use index::layout::LABELS;
+use index::layout::ROW_CELLS;
+use index::layout::ROWS;
+use index::layout::TABLE_CELLS;
+use index::rows::add_row;
+use index::tables::SchemeCode;
+use index::tables::find_table_to;
+use index::tables::table_scheme;
+use index::tables::table_width;
+use text::bytes::byte_at;
+use text::words::End;
+use text::words::is_word;
+use text::words::name_end;
+ghost use Prim.Native.Nat.{_<_, ℕ};
+ghost use mathlib.Core.Bool.{true};
+ghost use mathlib.Core.List.{List};
+ghost use mathlib.Core.Option.{some};
+ghost use mathlib.Core.Path.{_≡_};
+ghost use Rattle.document.specs.Lookup.{schemeAt, tableOf};
+ghost use Rattle.document.specs.Policy.{Doc};
+ghost use Rattle.form.specs.Form.{byCell, byRow};
+ghost use Rattle.index.specs.Index.{Labels, Rows, Tables};
+ghost use Rattle.walks.specs.Taken.{NoLabels, TakesItems, TakesRow, closesAt, tableEnd};
+ghost use Rattle.stepping.specs.Stored.{LineAt};
+ghost use Rattle.text.specs.Words.{wordOf};
+
+// Where the name of the table ends in a line that begins with `(row T`.
+fn table_end(line: &[u8]) -> End
+    ensures { λ r. ⌜ r ≡ tableEnd (now (line .entry)) ⌝ }
+{
+    if byte_at(line, 0) != b'(' {
+        return End::Nothing;
+    }
+    if !is_word(line, 1, b"row") {
+        return End::Nothing;
+    }
+    if byte_at(line, 4) != b' ' {
+        return End::Nothing;
+    }
+    name_end(line, 5)
+}
+
+// Whether the line's last byte stands at a position and is a closing bracket.
+pub fn closes(line: &[u8], at: usize) -> bool
+    ensures { λ r. ⌜ r ≡ closesAt (now (line .entry)) at ⌝ }
+{
+    if byte_at(line, at) != b')' {
+        return false;
+    }
+    at + 1 == line.len()
+}
+
+// Takes a row of table x, whose scheme puts no labels into rows, with the values from a place of the line on.
+fn take_plain(
+    text: &[u8],
+    at: usize,
+    line: &[u8],
+    tables: &[usize; TABLE_CELLS],
+    x: usize,
+    rows: &mut [usize; ROW_CELLS],
+    k: usize,
+    is: usize,
+) -> bool
+    ensures { λ r. ⌜ ((d : Doc) (count : ℕ) → LineAt (now (text .entry)) at (now (line .entry)) → Tables (now (text .entry)) (now (tables .entry)) count (d .policy .tables) → tableOf (d .policy) (wordOf (now (line .entry)) 5) ≡ some x → x < count → NoLabels (schemeAt (d .policy) x) → k < 1024 → Rows (now (text .entry)) (now (rows .entry)) k (d .rows) → TakesItems (now (text .entry)) (now (line .entry)) (now (rows .exit)) k is d r) ⌝ }
+{
+    let n = table_width(tables, x);
+    let r = take_values(text, at, line, tables, x, n, rows, k, is);
+    let End::At(e) = r else {
+        return false;
+    };
+    if !closes(line, e) {
+        return false;
+    }
+    add_row(rows, k, x, n, 0);
+    true
+}
+
+// Takes a row of table x with its label and then its values from a place of the line on.
+fn take_led(
+    text: &[u8],
+    at: usize,
+    line: &[u8],
+    labels: &[usize; LABELS],
+    labels_count: usize,
+    tables: &[usize; TABLE_CELLS],
+    x: usize,
+    rows: &mut [usize; ROW_CELLS],
+    k: usize,
+    is: usize,
+) -> bool
+    ensures { λ r. ⌜ ((d : Doc) (sets : List ℕ) (count : ℕ) → LineAt (now (text .entry)) at (now (line .entry)) → Labels (now (text .entry)) (now (labels .entry)) sets «labels_count» (d .policy .labels) → Tables (now (text .entry)) (now (tables .entry)) count (d .policy .tables) → tableOf (d .policy) (wordOf (now (line .entry)) 5) ≡ some x → x < count → schemeAt (d .policy) x ≡ byRow → k < 1024 → Rows (now (text .entry)) (now (rows .entry)) k (d .rows) → TakesItems (now (text .entry)) (now (line .entry)) (now (rows .exit)) k is d r) ⌝ }
+{
+    let l = take_label(text, line, labels, labels_count, rows, k, 0, is);
+    let End::At(j) = l else {
+        return false;
+    };
+    let n = table_width(tables, x);
+    let r = take_values(text, at, line, tables, x, n, rows, k, j);
+    let End::At(e) = r else {
+        return false;
+    };
+    if !closes(line, e) {
+        return false;
+    }
+    add_row(rows, k, x, n, 1);
+    true
+}
+
+// Takes a row of table x with a label at each of its values, from a place of the line on.
+fn take_labelled(
+    text: &[u8],
+    at: usize,
+    line: &[u8],
+    labels: &[usize; LABELS],
+    labels_count: usize,
+    tables: &[usize; TABLE_CELLS],
+    x: usize,
+    rows: &mut [usize; ROW_CELLS],
+    k: usize,
+    is: usize,
+) -> bool
+    ensures { λ r. ⌜ ((d : Doc) (sets : List ℕ) (count : ℕ) → LineAt (now (text .entry)) at (now (line .entry)) → Labels (now (text .entry)) (now (labels .entry)) sets «labels_count» (d .policy .labels) → Tables (now (text .entry)) (now (tables .entry)) count (d .policy .tables) → tableOf (d .policy) (wordOf (now (line .entry)) 5) ≡ some x → x < count → schemeAt (d .policy) x ≡ byCell → k < 1024 → Rows (now (text .entry)) (now (rows .entry)) k (d .rows) → TakesItems (now (text .entry)) (now (line .entry)) (now (rows .exit)) k is d r) ⌝ }
+{
+    let n = table_width(tables, x);
+    let r = take_cells(
+        text,
+        at,
+        line,
+        labels,
+        labels_count,
+        tables,
+        x,
+        n,
+        rows,
+        k,
+        is,
+    );
+    let End::At(e) = r else {
+        return false;
+    };
+    if !closes(line, e) {
+        return false;
+    }
+    add_row(rows, k, x, n, n);
+    true
+}
+
+// Takes the line behind k rows, if it is a row that the check accepts and there is room. A line that it does not take may be one
+// all the same: the checker says.
+pub fn take_row(
+    text: &[u8],
+    at: usize,
+    line: &[u8],
+    labels: &[usize; LABELS],
+    labels_count: usize,
+    tables: &[usize; TABLE_CELLS],
+    tables_count: usize,
+    rows: &mut [usize; ROW_CELLS],
+    k: usize,
+) -> bool
+    ensures { λ r. ⌜ ((d : Doc) (sets : List ℕ) → LineAt (now (text .entry)) at (now (line .entry)) → Labels (now (text .entry)) (now (labels .entry)) sets «labels_count» (d .policy .labels) → Tables (now (text .entry)) (now (tables .entry)) «tables_count» (d .policy .tables) → Rows (now (text .entry)) (now (rows .entry)) k (d .rows) → TakesRow (now (text .entry)) (now (line .entry)) (now (rows .exit)) k d r) × (r ≡ true → k < 1024) ⌝ }
+{
+    if ROWS <= k {
+        return false;
+    }
+    let t = table_end(line);
+    let End::At(is) = t else {
+        return false;
+    };
+    let found = find_table_to(text, tables, tables_count, line, 5, is);
+    let Found::At(x) = found else {
+        return false;
+    };
+    let scheme = table_scheme(tables, x);
+    match scheme {
+        SchemeCode::Unlabelled => take_plain(text, at, line, tables, x, rows, k, is),
+        SchemeCode::ByTable => take_plain(text, at, line, tables, x, rows, k, is),
+        SchemeCode::ByColumn => take_plain(text, at, line, tables, x, rows, k, is),
+        SchemeCode::ByRow => {
+            take_led(text, at, line, labels, labels_count, tables, x, rows, k, is)
+        }
+        SchemeCode::ByCell => {
+            take_labelled(text, at, line, labels, labels_count, tables, x, rows, k, is)
+        }
+    }
+}
