@@ -68,17 +68,9 @@ pub fn step_attr(
     );
     if is_fine(f) {
         store_attr(text, roles, c.roles, attributes, k, at, line, r, a, named);
-        return Step::Goes(Counts {
-            purposes: c.purposes,
-            roles: c.roles,
-            attributes: k + 1,
-            users: c.users,
-            conds: c.conds,
-            grants: c.grants,
-            labels: c.labels,
-            tables: c.tables,
-            rows: c.rows,
-        });
+        let mut next = c;
+        next.attributes = k + 1;
+        return Step::Goes(next);
     }
     Step::Fails(f)
 }
@@ -114,17 +106,9 @@ pub fn step_cond(
     );
     if is_fine(f) {
         store_cond_role(text, roles, c.roles, conds, k, at, line, n, r, t);
-        return Step::Goes(Counts {
-            purposes: c.purposes,
-            roles: c.roles,
-            attributes: c.attributes,
-            users: c.users,
-            conds: k + 1,
-            grants: c.grants,
-            labels: c.labels,
-            tables: c.tables,
-            rows: c.rows,
-        });
+        let mut next = c;
+        next.conds = k + 1;
+        return Step::Goes(next);
     }
     Step::Fails(f)
 }

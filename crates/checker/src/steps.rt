@@ -104,17 +104,9 @@ fn step_other(
 {
     let k = c.purposes;
     if take_purpose(text, at, line, purposes, k) {
-        return Step::Goes(Counts {
-            purposes: k + 1,
-            roles: c.roles,
-            attributes: c.attributes,
-            users: c.users,
-            conds: c.conds,
-            grants: c.grants,
-            labels: c.labels,
-            tables: c.tables,
-            rows: c.rows,
-        });
+        let mut next = c;
+        next.purposes = k + 1;
+        return Step::Goes(next);
     }
     step_form(
         text,
@@ -155,17 +147,9 @@ pub(crate) fn step_line(
 {
     let k = c.rows;
     if take_row(text, at, line, labels, c.labels, tables, c.tables, rows, k) {
-        return Step::Goes(Counts {
-            purposes: c.purposes,
-            roles: c.roles,
-            attributes: c.attributes,
-            users: c.users,
-            conds: c.conds,
-            grants: c.grants,
-            labels: c.labels,
-            tables: c.tables,
-            rows: k + 1,
-        });
+        let mut next = c;
+        next.rows = k + 1;
+        return Step::Goes(next);
     }
     step_other(
         text,

@@ -57,17 +57,9 @@ pub fn step_user(
     );
     if is_fine(f) {
         store_user(text, roles, c.roles, users, k, at, line, u, r, gs);
-        return Step::Goes(Counts {
-            purposes: c.purposes,
-            roles: c.roles,
-            attributes: c.attributes,
-            users: k + 1,
-            conds: c.conds,
-            grants: c.grants,
-            labels: c.labels,
-            tables: c.tables,
-            rows: c.rows,
-        });
+        let mut next = c;
+        next.users = k + 1;
+        return Step::Goes(next);
     }
     Step::Fails(f)
 }
@@ -101,17 +93,9 @@ pub fn step_grant(
             p,
             h,
         );
-        return Step::Goes(Counts {
-            purposes: c.purposes,
-            roles: c.roles,
-            attributes: c.attributes,
-            users: c.users,
-            conds: c.conds,
-            grants: k + 1,
-            labels: c.labels,
-            tables: c.tables,
-            rows: c.rows,
-        });
+        let mut next = c;
+        next.grants = k + 1;
+        return Step::Goes(next);
     }
     Step::Fails(f)
 }

@@ -39,17 +39,9 @@ pub fn step_purpose_root(
     let f = purpose_root_fault(text, purposes, k, line, n);
     if is_fine(f) {
         store_purpose_root(text, purposes, k, at, line, n);
-        return Step::Goes(Counts {
-            purposes: k + 1,
-            roles: c.roles,
-            attributes: c.attributes,
-            users: c.users,
-            conds: c.conds,
-            grants: c.grants,
-            labels: c.labels,
-            tables: c.tables,
-            rows: c.rows,
-        });
+        let mut next = c;
+        next.purposes = k + 1;
+        return Step::Goes(next);
     }
     Step::Fails(f)
 }
@@ -70,17 +62,9 @@ pub fn step_purpose_below(
     let f = purpose_below_fault(text, purposes, k, line, n, p);
     if is_fine(f) {
         store_purpose_below(text, purposes, k, at, line, n, p);
-        return Step::Goes(Counts {
-            purposes: k + 1,
-            roles: c.roles,
-            attributes: c.attributes,
-            users: c.users,
-            conds: c.conds,
-            grants: c.grants,
-            labels: c.labels,
-            tables: c.tables,
-            rows: c.rows,
-        });
+        let mut next = c;
+        next.purposes = k + 1;
+        return Step::Goes(next);
     }
     Step::Fails(f)
 }
@@ -100,17 +84,9 @@ pub fn step_role_root(
     let f = role_root_fault(text, roles, k, line, n);
     if is_fine(f) {
         store_role_root(text, roles, k, at, line, n);
-        return Step::Goes(Counts {
-            purposes: c.purposes,
-            roles: k + 1,
-            attributes: c.attributes,
-            users: c.users,
-            conds: c.conds,
-            grants: c.grants,
-            labels: c.labels,
-            tables: c.tables,
-            rows: c.rows,
-        });
+        let mut next = c;
+        next.roles = k + 1;
+        return Step::Goes(next);
     }
     Step::Fails(f)
 }
@@ -131,17 +107,9 @@ pub fn step_role_below(
     let f = role_below_fault(text, roles, k, line, n, p);
     if is_fine(f) {
         store_role_below(text, roles, k, at, line, n, p);
-        return Step::Goes(Counts {
-            purposes: c.purposes,
-            roles: k + 1,
-            attributes: c.attributes,
-            users: c.users,
-            conds: c.conds,
-            grants: c.grants,
-            labels: c.labels,
-            tables: c.tables,
-            rows: c.rows,
-        });
+        let mut next = c;
+        next.roles = k + 1;
+        return Step::Goes(next);
     }
     Step::Fails(f)
 }

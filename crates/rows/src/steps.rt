@@ -50,17 +50,9 @@ pub fn step_row(
             t,
             items,
         );
-        return Step::Goes(Counts {
-            purposes: c.purposes,
-            roles: c.roles,
-            attributes: c.attributes,
-            users: c.users,
-            conds: c.conds,
-            grants: c.grants,
-            labels: c.labels,
-            tables: c.tables,
-            rows: k + 1,
-        });
+        let mut next = c;
+        next.rows = k + 1;
+        return Step::Goes(next);
     }
     Step::Fails(f)
 }

@@ -96,17 +96,9 @@ pub fn step_label(
             allowed,
             denied,
         );
-        return Step::Goes(Counts {
-            purposes: c.purposes,
-            roles: c.roles,
-            attributes: c.attributes,
-            users: c.users,
-            conds: c.conds,
-            grants: c.grants,
-            labels: k + 1,
-            tables: c.tables,
-            rows: c.rows,
-        });
+        let mut next = c;
+        next.labels = k + 1;
+        return Step::Goes(next);
     }
     Step::Fails(f)
 }
@@ -131,17 +123,9 @@ pub fn step_table(
     let f = table_fault(text, labels, c.labels, tables, k, line, t, code, l, cs);
     if is_fine(f) {
         store_table(text, labels, c.labels, tables, k, at, line, t, code, l, cs);
-        return Step::Goes(Counts {
-            purposes: c.purposes,
-            roles: c.roles,
-            attributes: c.attributes,
-            users: c.users,
-            conds: c.conds,
-            grants: c.grants,
-            labels: c.labels,
-            tables: k + 1,
-            rows: c.rows,
-        });
+        let mut next = c;
+        next.tables = k + 1;
+        return Step::Goes(next);
     }
     Step::Fails(f)
 }

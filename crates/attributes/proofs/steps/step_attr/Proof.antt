@@ -23,8 +23,8 @@ is-fine-requires c κs = tt
 store-attr-requires : tie.Need-store-attr-requires
 store-attr-requires c κs = tt
 
-add-t17 : tie.Need-add-t17
-add-t17 c = omega (arith, has-room (c .before .before .before .before .attr-fault .ensures) (sym (c .before .before .before .is-fine .ensures) ∙ c .before .before .if1 .taken))
+add-next : tie.Need-add-next
+add-next c = omega (arith, has-room (c .before .before .before .before .attr-fault .ensures) (sym (c .before .before .before .is-fine .ensures) ∙ c .before .before .if1 .taken))
 
 returns : tie.Need-returns
 returns c = λ d ps′ us′ cs′ gs′ ls′ ms′ ts′ ws′ a w I.
@@ -42,6 +42,6 @@ step-attr-spec =
     attr-fault-requires
     is-fine-requires
     store-attr-requires
-    add-t17
+    add-next
     returns
     returns-2)

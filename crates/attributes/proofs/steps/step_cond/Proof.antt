@@ -16,8 +16,8 @@ is-fine-requires c κs = tt
 store-cond-role-requires : tie.Need-store-cond-role-requires
 store-cond-role-requires c κs = tt
 
-add-t17 : tie.Need-add-t17
-add-t17 c = omega (arith, has-room (cond-judges (c .before .before .before .before .cond-role-fault .ensures) (sym (c .before .before .before .is-fine .ensures) ∙ c .before .before .if1 .taken)) (sym (c .before .before .before .is-fine .ensures) ∙ c .before .before .if1 .taken))
+add-next : tie.Need-add-next
+add-next c = omega (arith, has-room (cond-judges (c .before .before .before .before .cond-role-fault .ensures) (sym (c .before .before .before .is-fine .ensures) ∙ c .before .before .if1 .taken)) (sym (c .before .before .before .is-fine .ensures) ∙ c .before .before .if1 .taken))
 
 returns : tie.Need-returns
 returns c = λ d ps′ us′ gs′ ls′ ms′ ts′ ws′ is a w I.
@@ -34,6 +34,6 @@ step-cond-spec =
     cond-role-fault-requires
     is-fine-requires
     store-cond-role-requires
-    add-t17
+    add-next
     returns
     returns-2)

@@ -23,8 +23,8 @@ left text line after k d r e h = subst (TakesRow text line after k d) e h
 take-row-requires : tie.Need-take-row-requires
 take-row-requires c κs = tt
 
-add-t20 : tie.Need-add-t20
-add-t20 c = omega (arith, c .before .take-row .ensures .1 (c .if1 .taken))
+add-next : tie.Need-add-next
+add-next c = omega (arith, c .before .take-row .ensures .1 (c .if1 .taken))
 
 returns : tie.Need-returns
 returns c = λ d a I U.
@@ -40,4 +40,4 @@ returns-2 c = λ d a I U.
 
 pub step-line-spec : {M : Type 1} → statement M
 step-line-spec =
-    tie.close (tie.spec take-row-requires add-t20 returns step-other-requires returns-2)
+    tie.close (tie.spec take-row-requires add-next returns step-other-requires returns-2)

@@ -24,8 +24,8 @@ left text line after k d r e h = subst (TakesPurpose text line after k d) e h
 take-purpose-requires : tie.Need-take-purpose-requires
 take-purpose-requires c κs = tt
 
-add-t18 : tie.Need-add-t18
-add-t18 c = omega (arith, c .before .take-purpose .ensures .1 (c .if1 .taken))
+add-next : tie.Need-add-next
+add-next c = omega (arith, c .before .take-purpose .ensures .1 (c .if1 .taken))
 
 returns : tie.Need-returns
 returns c = λ d a I U.
@@ -41,4 +41,4 @@ returns-2 c = λ d a I U.
 
 pub step-other-spec : {M : Type 1} → statement M
 step-other-spec =
-    tie.close (tie.spec take-purpose-requires add-t18 returns step-form-requires returns-2)
+    tie.close (tie.spec take-purpose-requires add-next returns step-form-requires returns-2)

@@ -15,8 +15,8 @@ is-fine-requires c κs = tt
 store-grant-requires : tie.Need-store-grant-requires
 store-grant-requires c κs = tt
 
-add-t15 : tie.Need-add-t15
-add-t15 c = omega (arith, has-room (c .before .before .before .before .grant-fault .ensures) (sym (c .before .before .before .is-fine .ensures) ∙ c .before .before .if1 .taken))
+add-next : tie.Need-add-next
+add-next c = omega (arith, has-room (c .before .before .before .before .grant-fault .ensures) (sym (c .before .before .before .is-fine .ensures) ∙ c .before .before .if1 .taken))
 
 returns : tie.Need-returns
 returns c = λ d rs′ bs′ us′ ls′ ms′ ts′ ws′ a w I.
@@ -29,4 +29,4 @@ returns-2 c = λ d rs′ bs′ us′ ls′ ms′ ts′ ws′ a w I. follows-fail
 pub step-grant-spec : {M : Type 1} → statement M
 step-grant-spec =
     tie.close
-    (tie.spec grant-fault-requires is-fine-requires store-grant-requires add-t15 returns returns-2)
+    (tie.spec grant-fault-requires is-fine-requires store-grant-requires add-next returns returns-2)

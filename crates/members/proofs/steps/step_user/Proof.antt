@@ -15,8 +15,8 @@ is-fine-requires c κs = tt
 store-user-requires : tie.Need-store-user-requires
 store-user-requires c κs = tt
 
-add-t17 : tie.Need-add-t17
-add-t17 c = omega (arith, has-room (c .before .before .before .before .user-fault .ensures) (sym (c .before .before .before .is-fine .ensures) ∙ c .before .before .if1 .taken))
+add-next : tie.Need-add-next
+add-next c = omega (arith, has-room (c .before .before .before .before .user-fault .ensures) (sym (c .before .before .before .is-fine .ensures) ∙ c .before .before .if1 .taken))
 
 returns : tie.Need-returns
 returns c = λ d ps′ cs′ gs′ ls′ ms′ ts′ ws′ a w I U.
@@ -29,4 +29,4 @@ returns-2 c = λ d ps′ cs′ gs′ ls′ ms′ ts′ ws′ a w I U. follows-fa
 pub step-user-spec : {M : Type 1} → statement M
 step-user-spec =
     tie.close
-    (tie.spec user-fault-requires is-fine-requires store-user-requires add-t17 returns returns-2)
+    (tie.spec user-fault-requires is-fine-requires store-user-requires add-next returns returns-2)

@@ -15,8 +15,8 @@ is-fine-requires c κs = tt
 store-role-below-requires : tie.Need-store-role-below-requires
 store-role-below-requires c κs = tt
 
-add-t14 : tie.Need-add-t14
-add-t14 c = omega (arith, has-room (c .before .before .before .before .role-below-fault .ensures) (sym (c .before .before .before .is-fine .ensures) ∙ c .before .before .if1 .taken))
+add-next : tie.Need-add-next
+add-next c = omega (arith, has-room (c .before .before .before .before .role-below-fault .ensures) (sym (c .before .before .before .is-fine .ensures) ∙ c .before .before .if1 .taken))
 
 returns : tie.Need-returns
 returns c = λ d ps′ bs′ us′ cs′ gs′ ls′ ms′ ts′ ws′ a w I.
@@ -33,6 +33,6 @@ step-role-below-spec =
     role-below-fault-requires
     is-fine-requires
     store-role-below-requires
-    add-t14
+    add-next
     returns
     returns-2)

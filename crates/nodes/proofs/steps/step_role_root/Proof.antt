@@ -15,8 +15,8 @@ is-fine-requires c κs = tt
 store-role-root-requires : tie.Need-store-role-root-requires
 store-role-root-requires c κs = tt
 
-add-t13 : tie.Need-add-t13
-add-t13 c = omega (arith, has-room (c .before .before .before .before .role-root-fault .ensures) (sym (c .before .before .before .is-fine .ensures) ∙ c .before .before .if1 .taken))
+add-next : tie.Need-add-next
+add-next c = omega (arith, has-room (c .before .before .before .before .role-root-fault .ensures) (sym (c .before .before .before .is-fine .ensures) ∙ c .before .before .if1 .taken))
 
 returns : tie.Need-returns
 returns c = λ d ps′ bs′ us′ cs′ gs′ ls′ ms′ ts′ ws′ a w I.
@@ -33,6 +33,6 @@ step-role-root-spec =
     role-root-fault-requires
     is-fine-requires
     store-role-root-requires
-    add-t13
+    add-next
     returns
     returns-2)

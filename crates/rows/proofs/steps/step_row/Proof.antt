@@ -15,8 +15,8 @@ is-fine-requires c κs = tt
 store-row-requires : tie.Need-store-row-requires
 store-row-requires c κs = tt
 
-add-t15 : tie.Need-add-t15
-add-t15 c = omega (arith, has-room (c .before .before .before .before .row-fault .ensures) (sym (c .before .before .before .is-fine .ensures) ∙ c .before .before .if1 .taken))
+add-next : tie.Need-add-next
+add-next c = omega (arith, has-room (c .before .before .before .before .row-fault .ensures) (sym (c .before .before .before .is-fine .ensures) ∙ c .before .before .if1 .taken))
 
 returns : tie.Need-returns
 returns c = λ d ps′ rs′ bs′ us′ cs′ gs′ ms′ a w I.
@@ -29,4 +29,4 @@ returns-2 c = λ d ps′ rs′ bs′ us′ cs′ gs′ ms′ a w I. follows-fail
 pub step-row-spec : {M : Type 1} → statement M
 step-row-spec =
     tie.close
-    (tie.spec row-fault-requires is-fine-requires store-row-requires add-t15 returns returns-2)
+    (tie.spec row-fault-requires is-fine-requires store-row-requires add-next returns returns-2)

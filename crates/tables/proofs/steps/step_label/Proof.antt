@@ -15,8 +15,8 @@ is-fine-requires c κs = tt
 store-label-requires : tie.Need-store-label-requires
 store-label-requires c κs = tt
 
-add-t18 : tie.Need-add-t18
-add-t18 c = omega (arith, has-room (c .before .before .before .before .before .label-fault .ensures) (sym (c .before .before .before .before .is-fine .ensures) ∙ c .before .before .before .if1 .taken))
+add-next : tie.Need-add-next
+add-next c = omega (arith, has-room (c .before .before .before .before .before .label-fault .ensures) (sym (c .before .before .before .before .is-fine .ensures) ∙ c .before .before .before .if1 .taken))
 
 returns : tie.Need-returns
 returns c = λ d rs′ bs′ us′ cs′ gs′ ts′ ws′ a w I.
@@ -29,4 +29,4 @@ returns-2 c = λ d rs′ bs′ us′ cs′ gs′ ts′ ws′ a w I. follows-fail
 pub step-label-spec : {M : Type 1} → statement M
 step-label-spec =
     tie.close
-    (tie.spec label-fault-requires is-fine-requires store-label-requires add-t18 returns returns-2)
+    (tie.spec label-fault-requires is-fine-requires store-label-requires add-next returns returns-2)

@@ -23,8 +23,8 @@ is-fine-requires c κs = tt
 store-table-requires : tie.Need-store-table-requires
 store-table-requires c κs = tt
 
-add-t18 : tie.Need-add-t18
-add-t18 c = omega (arith, has-room (c .before .before .before .before .table-fault .ensures .judges) (sym (c .before .before .before .is-fine .ensures) ∙ c .before .before .if1 .taken))
+add-next : tie.Need-add-next
+add-next c = omega (arith, has-room (c .before .before .before .before .table-fault .ensures .judges) (sym (c .before .before .before .is-fine .ensures) ∙ c .before .before .if1 .taken))
 
 returns : tie.Need-returns
 returns c = λ d ps′ rs′ bs′ us′ cs′ gs′ ms′ ws′ a w I.
@@ -43,6 +43,6 @@ step-table-spec =
     table-fault-requires
     is-fine-requires
     store-table-requires
-    add-t18
+    add-next
     returns
     returns-2)
