@@ -16,7 +16,7 @@ use Rattle.answering.specs.declared.tally.Tally.{Tally}
 use Rattle.document.specs.Policy.{Doc, Row}
 use Rattle.index.proofs.ListedLaws.{listed-map, listed-same}
 use Rattle.index.proofs.RowLaws.{row-at}
-use Rattle.index.specs.Index.{Rows, rowIn}
+use Rattle.index.specs.Rows.{Rows, rowIn}
 use Rattle.lists.proofs.KeptLaws.{flatten-keep}
 use Rattle.lists.specs.Lists.{keep}
 use Rattle.query.specs.Query.{Query}

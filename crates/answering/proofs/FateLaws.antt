@@ -22,7 +22,9 @@ use Rattle.document.specs.Policy.{Doc, Policy, Row}
 use Rattle.index.proofs.ListedLaws.{listed-more}
 use Rattle.index.proofs.RowLaws.{row-known}
 use Rattle.index.proofs.TableLaws.{scheme-at, table-inside}
-use Rattle.index.specs.Index.{Opened, Rows, columnLabelIn, rowIn, schemeBy}
+use Rattle.index.specs.Labels.{Opened}
+use Rattle.index.specs.Rows.{Rows, rowIn}
+use Rattle.index.specs.Tables.{columnLabelIn, schemeBy}
 use Rattle.index.specs.Listed.{listed}
 use Rattle.index.specs.declared.tables.SchemeCode.{SchemeCode}
 use Rattle.lists.proofs.ListLaws.{count-keep}

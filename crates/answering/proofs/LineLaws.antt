@@ -11,7 +11,8 @@ use Rattle.answer.specs.Answer.{rowLine}
 use Rattle.answering.specs.Lines.{lineMarked, linesMarked, spaced}
 use Rattle.document.specs.Policy.{Row}
 use Rattle.index.proofs.ListedLaws.{length-listed, listed-getD, listed-more}
-use Rattle.index.specs.Index.{Cut, Rows, rowIn, valueIn}
+use Rattle.index.specs.Rows.{Rows, rowIn, valueIn}
+use Rattle.index.specs.Tables.{Cut}
 use Rattle.index.specs.Listed.{listed}
 use Rattle.text.proofs.Lefts.{drop-here}
 use Rattle.text.specs.Bytes.{ascii, isNameByte}

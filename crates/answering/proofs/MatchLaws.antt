@@ -19,7 +19,9 @@ use Rattle.condition.specs.Kinds.{numbers}
 use Rattle.document.specs.Lookup.{columnKind, columnOf, columnsAt}
 use Rattle.document.specs.Policy.{Column, Doc, Policy}
 use Rattle.index.proofs.TableLaws.{column-at, column-inside, table-inside}
-use Rattle.index.specs.Index.{Tables, columnIn, kindOfCell, rowIn}
+use Rattle.index.specs.Cells.{kindOfCell}
+use Rattle.index.specs.Rows.{rowIn}
+use Rattle.index.specs.Tables.{Tables, columnIn}
 use Rattle.lists.proofs.ListLaws.{all-map, findIndex-found, map-map, there-some}
 use Rattle.lists.proofs.Tests.{and-left, and-right}
 use Rattle.lists.specs.Lists.{allOf, known, there}

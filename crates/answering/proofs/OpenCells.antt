@@ -13,7 +13,9 @@ use Rattle.answering.specs.Judging.{labelsIn, openIn}
 use Rattle.document.specs.Open.{labelOpen, rowWithheld}
 use Rattle.document.specs.Policy.{Policy}
 use Rattle.index.proofs.ListedLaws.{length-listed, listed-at}
-use Rattle.index.specs.Index.{Cut, Opened, rowLabelIn, schemeBy}
+use Rattle.index.specs.Labels.{Opened}
+use Rattle.index.specs.Rows.{rowLabelIn}
+use Rattle.index.specs.Tables.{Cut, schemeBy}
 use Rattle.index.specs.declared.tables.SchemeCode.the-variants as code
 use Rattle.index.specs.declared.tables.SchemeCode.{SchemeCode}
 use Rattle.lists.proofs.Tests.{or-left, or-right}

@@ -19,7 +19,9 @@ use Rattle.condition.specs.CondForm.{Compared, conditionInForm}
 use Rattle.condition.specs.Kinds.{Op, eq, ge, gt, le, lt, ne}
 use Rattle.document.specs.Open.{labelOpen}
 use Rattle.document.specs.Policy.{Doc, Policy, Row}
-use Rattle.index.specs.Index.{columnLabelIn, kindOfCell, kindSaid, rowIn, rowLabelIn, schemeBy, schemeIn}
+use Rattle.index.specs.Cells.{kindOfCell, kindSaid}
+use Rattle.index.specs.Rows.{rowIn, rowLabelIn}
+use Rattle.index.specs.Tables.{columnLabelIn, schemeBy, schemeIn}
 use Rattle.index.specs.Listed.{listed}
 use Rattle.index.specs.declared.tables.SchemeCode.{SchemeCode}
 use Rattle.lists.specs.Lists.{countOf, known}

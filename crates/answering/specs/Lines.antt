@@ -4,7 +4,7 @@ use lib.ListN.{getD}
 use mathlib.Core.Bool.{Bool, cond, false}
 use mathlib.Core.List.{List, [], _∷_, flatten, map}
 use Rattle.answer.specs.Answer.{Answer, counted, rowLine}
-use Rattle.index.specs.Index.{rowIn}
+use Rattle.index.specs.Rows.{rowIn}
 use Rattle.index.specs.Listed.{listed}
 use Rattle.text.specs.Numbers.{Value}
 

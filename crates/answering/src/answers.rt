@@ -19,7 +19,7 @@ ghost use Rattle.answering.specs.Answering.{Writes};
 ghost use Rattle.answering.specs.Lines.{answerMarked};
 ghost use Rattle.answering.specs.Prepared.{Prepared};
 ghost use Rattle.document.specs.Policy.{Doc, Row};
-ghost use Rattle.index.specs.Index.{Rows};
+ghost use Rattle.index.specs.Rows.{Rows};
 ghost use Rattle.query.specs.Query.{Query};
 ghost use Rattle.writing.specs.Write.{Stored};
 

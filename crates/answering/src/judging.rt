@@ -25,7 +25,9 @@ ghost use Rattle.answering.specs.Prepared.{Judged, Prepared};
 ghost use Rattle.condition.specs.Answers.{Jumps};
 ghost use Rattle.document.specs.Open.{labelOpen, rowWithheld};
 ghost use Rattle.document.specs.Policy.{Doc, Policy};
-ghost use Rattle.index.specs.Index.{Opened, rowIn, schemeBy};
+ghost use Rattle.index.specs.Labels.{Opened};
+ghost use Rattle.index.specs.Rows.{rowIn};
+ghost use Rattle.index.specs.Tables.{schemeBy};
 ghost use Rattle.lists.specs.Lists.{anyOf};
 ghost use Rattle.query.specs.Query.{Query};
 

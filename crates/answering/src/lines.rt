@@ -15,7 +15,7 @@ ghost use mathlib.Core.Path.{_≡_};
 ghost use Rattle.answer.specs.Answer.{endLine, rowLine};
 ghost use Rattle.answering.specs.Lines.{lineMarked, linesMarked, spaced};
 ghost use Rattle.document.specs.Policy.{Row};
-ghost use Rattle.index.specs.Index.{Rows, valueIn};
+ghost use Rattle.index.specs.Rows.{Rows, valueIn};
 ghost use Rattle.index.specs.Listed.{listed};
 ghost use Rattle.writing.specs.Write.{Wrote};
 

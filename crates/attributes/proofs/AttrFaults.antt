@@ -21,7 +21,9 @@ use Rattle.stepping.specs.declared.fault.Fault.{Fault}
 use Rattle.stepping.specs.declared.fault.Fault.the-variants.{Fine, Item, Whole}
 use Rattle.form.specs.Form.{attr}
 use Rattle.index.proofs.IndexLaws.{attributes-length}
-use Rattle.index.specs.Index.{Attributes, Nodes, foundAs}
+use Rattle.index.specs.Attributes.{Attributes}
+use Rattle.index.specs.Found.{foundAs}
+use Rattle.index.specs.Nodes.{Nodes}
 use Rattle.index.specs.declared.found.Found.{Found}
 use Rattle.index.specs.declared.found.Found.the-variants.{At, Nothing}
 use Rattle.lists.specs.Lists.{findIndex}

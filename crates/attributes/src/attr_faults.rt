@@ -12,7 +12,9 @@ ghost use lib.ListN.{length};
 ghost use mathlib.Core.Path.{_≡_};
 ghost use Rattle.stepping.specs.Judged.{Judges};
 ghost use Rattle.form.specs.Form.{attr};
-ghost use Rattle.index.specs.Index.{Attributes, Nodes, kindSaid};
+ghost use Rattle.index.specs.Attributes.{Attributes};
+ghost use Rattle.index.specs.Cells.{kindSaid};
+ghost use Rattle.index.specs.Nodes.{Nodes};
 ghost use Rattle.text.specs.Words.{wordOf};
 
 // The attribute whose name stands at a of the line, at the role whose name stands at r, behind k attributes; `named`: whether its

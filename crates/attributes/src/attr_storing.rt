@@ -10,7 +10,9 @@ ghost use lib.ListN.{length};
 ghost use Rattle.document.specs.Meaning.{add};
 ghost use Rattle.document.specs.Policy.{Doc};
 ghost use Rattle.form.specs.Form.{attr};
-ghost use Rattle.index.specs.Index.{Attributes, Nodes, kindSaid};
+ghost use Rattle.index.specs.Attributes.{Attributes};
+ghost use Rattle.index.specs.Cells.{kindSaid};
+ghost use Rattle.index.specs.Nodes.{Nodes};
 ghost use Rattle.stepping.specs.Stored.{LineAt, Passes};
 ghost use Rattle.text.specs.Words.{wordOf};
 

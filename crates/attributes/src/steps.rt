@@ -23,7 +23,7 @@ ghost use Rattle.document.specs.Check.{checkForm, checkLine};
 ghost use Rattle.document.specs.Policy.{Doc};
 ghost use Rattle.form.specs.Form.{attr, condRole, role};
 ghost use Rattle.form.specs.FormReader.{formOf};
-ghost use Rattle.index.specs.Index.{kindSaid};
+ghost use Rattle.index.specs.Cells.{kindSaid};
 ghost use Rattle.stepping.specs.Stored.{LineAt};
 ghost use Rattle.text.specs.Reader.{from};
 ghost use Rattle.text.specs.Words.{wordOf};

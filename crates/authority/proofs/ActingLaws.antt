@@ -10,7 +10,8 @@ use Rattle.document.specs.Meaning.{givenOf}
 use Rattle.document.specs.Policy.{Given, Policy, User}
 use Rattle.form.specs.Walks.{givensAt}
 use Rattle.index.proofs.ListedLaws.{listed-at}
-use Rattle.index.specs.Index.{Users, lineIn, userIn}
+use Rattle.index.specs.Cells.{lineIn}
+use Rattle.index.specs.Users.{Users, userIn}
 use Rattle.lists.specs.Lists.{findIndex}
 use Rattle.query.specs.Authority.{Clock, authorises, firstGrant}
 

@@ -10,7 +10,9 @@ use Rattle.authority.specs.Held.{Held, conditionHolds}
 use Rattle.document.specs.Policy.{CondRole, Grant, Policy, User, treeOf}
 use Rattle.index.proofs.IndexLaws.{conds-length}
 use Rattle.index.proofs.ListedLaws.{listed-at, listed-found, listed-none, listed-there}
-use Rattle.index.specs.Index.{CondRoles, Grants, Nodes, condRoleIn, grantIn}
+use Rattle.index.specs.CondRoles.{CondRoles, condRoleIn}
+use Rattle.index.specs.Grants.{Grants, grantIn}
+use Rattle.index.specs.Nodes.{Nodes}
 use Rattle.lists.proofs.ListLaws.{holdsOf-some}
 use Rattle.lists.proofs.Tests.{and-both}
 use Rattle.lists.specs.Lists.{findIndex, holdsOf}

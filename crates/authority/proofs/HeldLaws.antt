@@ -26,7 +26,9 @@ use Rattle.document.specs.Meaning.{attributeComparison}
 use Rattle.document.specs.Policy.{Attribute, CondRole, Policy, User}
 use Rattle.index.proofs.IndexLaws.{attributes-length}
 use Rattle.index.proofs.ListedLaws.{listed-at, listed-there}
-use Rattle.index.specs.Index.{Attributes, CondRoles, attributesKnown, condRoleIn, conditionAt, conditionIn, conditionRead, lineIn, noCondition}
+use Rattle.index.specs.Attributes.{Attributes}
+use Rattle.index.specs.Cells.{lineIn}
+use Rattle.index.specs.CondRoles.{CondRoles, attributesKnown, condRoleIn, conditionAt, conditionIn, conditionRead, noCondition}
 use Rattle.lists.proofs.ListLaws.{all-here, findIndex-found, holdsOf-some, map-map, there-some}
 use Rattle.lists.proofs.Tests.{and-left, and-right, decide}
 use Rattle.lists.specs.Lists.{allOf, findIndex, holdsOf, known, there}

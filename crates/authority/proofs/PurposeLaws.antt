@@ -15,7 +15,7 @@ use Rattle.document.specs.Policy.{Node}
 use Rattle.document.specs.Policy as policy
 use Rattle.index.proofs.ListedLaws.{length-listed, listed-getD}
 use Rattle.index.proofs.NodeLaws.{tree-length, tree-parent}
-use Rattle.index.specs.Index.{Nodes}
+use Rattle.index.specs.Nodes.{Nodes}
 use Rattle.index.specs.Listed.{listed}
 use Rattle.lists.proofs.Tests.{decide}
 use Rattle.purpose.specs.Compliance.{Grown, climbs, descends, parent}

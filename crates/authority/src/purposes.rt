@@ -11,7 +11,7 @@ ghost use mathlib.Core.Path.{_≡_};
 ghost use Rattle.authority.specs.Purposes.{parentIn};
 ghost use Rattle.document.specs.Policy.{Node};
 ghost use Rattle.document.specs.Policy as policy;
-ghost use Rattle.index.specs.Index.{Nodes};
+ghost use Rattle.index.specs.Nodes.{Nodes};
 ghost use Rattle.index.specs.Listed.{listed};
 ghost use Rattle.purpose.specs.Compliance.{Grown};
 ghost use Rattle.purpose.specs.Meaning.{ClosureOf, treeOf};

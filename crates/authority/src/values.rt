@@ -15,7 +15,7 @@ ghost use Rattle.document.specs.Lookup.{attributeOf};
 ghost use Rattle.document.specs.Meaning.{givenOf};
 ghost use Rattle.document.specs.Policy.{Policy};
 ghost use Rattle.form.specs.Walks.{firstIn, givensAt, pairEndAt, secondIn};
-ghost use Rattle.index.specs.Index.{Attributes};
+ghost use Rattle.index.specs.Attributes.{Attributes};
 ghost use Rattle.lists.specs.Lists.{known};
 ghost use Rattle.text.specs.Words.{wordOf};
 

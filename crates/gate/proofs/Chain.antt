@@ -13,7 +13,7 @@ use Rattle.answering.specs.Answering.{Writes, bufferAfter, measuredOf}
 use Rattle.document.specs.Check.{Accepted, check}
 use Rattle.document.specs.Lookup.{purposeOf, userOf}
 use Rattle.document.specs.Policy.{Doc}
-use Rattle.index.specs.Index.{foundAs}
+use Rattle.index.specs.Found.{foundAs}
 use Rattle.lists.specs.Lists.{known}
 use Rattle.query.specs.Authority.{Clock, firstGrant, inRange}
 use Rattle.query.specs.Query.{closedPart, mistypedQuery, unknownColumn, unknownParty}

@@ -12,7 +12,8 @@ use Rattle.document.specs.Invariants.{Formed}
 use Rattle.document.specs.Lookup.{purposeOf}
 use Rattle.document.specs.Policy.{Doc, Node, Policy, treeOf}
 use Rattle.index.proofs.ListedLaws.{length-listed}
-use Rattle.index.specs.Index.{FoundBelow, Nodes, nodeIn}
+use Rattle.index.specs.Found.{FoundBelow}
+use Rattle.index.specs.Nodes.{Nodes, nodeIn}
 use Rattle.lists.proofs.Tests.{true-not-false}
 use Rattle.lists.specs.Lists.{known, there}
 use Rattle.purpose.specs.Compliance.{inTree}

@@ -15,7 +15,8 @@ use Rattle.document.specs.Lookup.{columnKind, columnOf, columnsAt, columnsOf, p
 use Rattle.document.specs.Open.{columnOpen, labelOpen, tableOpen}
 use Rattle.document.specs.Policy.{Column, Doc, Policy}
 use Rattle.form.specs.Form.{Scheme}
-use Rattle.index.specs.Index.{FoundBelow, Opened, foundAs}
+use Rattle.index.specs.Found.{FoundBelow, foundAs}
+use Rattle.index.specs.Labels.{Opened}
 use Rattle.lists.proofs.ListLaws.{all-map, all-parts, map-append, map-map}
 use Rattle.lists.specs.Lists.{allOf, known, there}
 use Rattle.query.proofs.BodiesRead.{first-of}

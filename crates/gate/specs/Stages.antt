@@ -11,7 +11,9 @@ use Rattle.condition.specs.Cond.{comparisonsIn}
 use Rattle.document.specs.Invariants.{Formed}
 use Rattle.document.specs.Lookup.{columnOf, columnsAt, purposeOf, tableOf}
 use Rattle.document.specs.Policy.{Doc, Policy, treeOf}
-use Rattle.index.specs.Index.{Labels, Rows, Tables}
+use Rattle.index.specs.Labels.{Labels}
+use Rattle.index.specs.Rows.{Rows}
+use Rattle.index.specs.Tables.{Tables}
 use Rattle.lists.specs.Lists.{allOf, known, there}
 use Rattle.purpose.specs.Meaning.{ClosureOf}
 use Rattle.query.specs.Asked.{Asks, FewTests, TestWithin, conditionAt, queryWith}

@@ -13,7 +13,8 @@ use Rattle.document.specs.Policy.{Attribute, clockAttributes}
 use Rattle.index.proofs.Finding.{found-first}
 use Rattle.index.proofs.ListedLaws.{findIndexFrom-shift, listed-pushed, listed-there}
 use Rattle.index.proofs.Stores.{Store, stores, stores-other, stores-same}
-use Rattle.index.specs.Index.{Attributes, attributeIn, kindOfCell, kindSaid}
+use Rattle.index.specs.Attributes.{Attributes, attributeIn}
+use Rattle.index.specs.Cells.{kindOfCell, kindSaid}
 use Rattle.index.specs.Listed.{listed}
 use Rattle.lists.specs.Lists.{findIndex, findIndexFrom}
 use Rattle.text.specs.Bytes.{ascii}

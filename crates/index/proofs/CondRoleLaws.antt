@@ -11,7 +11,7 @@ use Rattle.document.specs.Meaning.{attributeComparison}
 use Rattle.document.specs.Policy.{CondRole, Policy}
 use Rattle.index.proofs.ListedLaws.{listed-pushed}
 use Rattle.index.proofs.Stores.{Store, stores, stores-other, stores-same}
-use Rattle.index.specs.Index.{CondRoles, attributesKnown, condRoleIn, conditionAt, conditionIn}
+use Rattle.index.specs.CondRoles.{CondRoles, attributesKnown, condRoleIn, conditionAt, conditionIn}
 use Rattle.text.specs.Words.{wordAt}
 
 -- one more: its name, its role, the start and the end of its line, and the place of its condition there

@@ -7,7 +7,7 @@ use mathlib.Core.Path.{_∙_, _≡_, ap, refl, sym}
 use native.Mathlib.Nat.{zero-add}
 use Rattle.index.proofs.ListedLaws.{findIndex-map, listed-map, listed-same}
 use Rattle.index.specs.Listed.{listed}
-use Rattle.index.specs.Index.{CondRoles, condRoleIn}
+use Rattle.index.specs.CondRoles.{CondRoles, condRoleIn}
 use Rattle.document.specs.Policy.{CondRole, Policy}
 use Rattle.lists.specs.Lists.{findIndex}
 use Rattle.text.specs.Names.{Name}

@@ -8,7 +8,7 @@ use native.Mathlib.Omega.{arith}
 use Rattle.document.specs.Policy.{Grant}
 use Rattle.index.proofs.ListedLaws.{listed-pushed, listed-there}
 use Rattle.index.proofs.Stores.{Store, stores, stores-other, stores-same}
-use Rattle.index.specs.Index.{Grants, grantIn}
+use Rattle.index.specs.Grants.{Grants, grantIn}
 use Rattle.index.specs.Listed.{listed}
 
 -- no grant yet

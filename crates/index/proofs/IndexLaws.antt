@@ -17,7 +17,11 @@ use Rattle.document.specs.Policy.{Attribute, CondRole, Node, Policy, User, cloc
 use Rattle.form.specs.Form.{GivenForm}
 use Rattle.form.specs.Walks.{givensAt}
 use Rattle.index.proofs.ListedLaws.{length-listed, listed-same}
-use Rattle.index.specs.Index.{Attributes, CondRoles, Nodes, Users, attributesKnown, attributeIn, condRoleIn, conditionIn, lineIn, nodeIn, userIn}
+use Rattle.index.specs.Attributes.{Attributes, attributeIn}
+use Rattle.index.specs.Cells.{lineIn}
+use Rattle.index.specs.CondRoles.{CondRoles, attributesKnown, condRoleIn, conditionIn}
+use Rattle.index.specs.Nodes.{Nodes, nodeIn}
+use Rattle.index.specs.Users.{Users, userIn}
 use Rattle.index.specs.Listed.{listed}
 use Rattle.lists.proofs.ListLaws.{all-everywhere, all-here, all-parts, findIndex-found, findIndexFrom-append, getElem?-inside-append, there-some}
 use Rattle.lists.proofs.Tests.{and-left}

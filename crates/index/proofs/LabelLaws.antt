@@ -15,7 +15,7 @@ use Rattle.document.specs.Open.{labelOpen}
 use Rattle.document.specs.Policy.{Label, Policy, treeOf}
 use Rattle.index.proofs.Finding.{found-first}
 use Rattle.index.proofs.ListedLaws.{findIndex-map, length-listed, listed-pushed, listed-there}
-use Rattle.index.specs.Index.{Holds, Labels, Opened, SetStored, setIn}
+use Rattle.index.specs.Labels.{Holds, Labels, Opened, SetStored, setIn}
 use Rattle.index.specs.Listed.{listed}
 use Rattle.lists.proofs.ListLaws.{getElem?-grown, getElem?-map, map-append, member-append}
 use Rattle.lists.proofs.Tests.{decide}

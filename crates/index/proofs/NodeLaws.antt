@@ -15,7 +15,7 @@ use Rattle.index.proofs.HashLaws.{other-hash}
 use Rattle.index.proofs.ListedLaws.{length-listed, listed-found, listed-getD, listed-map, listed-none, listed-pushed}
 use Rattle.index.proofs.Stores.{Store, stores, stores-other, stores-same}
 use Rattle.index.specs.Hash.{hashOf, slots}
-use Rattle.index.specs.Index.{Nodes, firstIn, hashIn, nodeIn, slotIn}
+use Rattle.index.specs.Nodes.{Nodes, firstIn, hashIn, nodeIn, slotIn}
 use Rattle.index.specs.Listed.{listed}
 use Rattle.lists.specs.Lists.{findIndex}
 use Rattle.purpose.proofs.Ancestry.{descends-self, descends-step}

@@ -8,7 +8,8 @@ use mathlib.Core.Option.{some}
 use mathlib.Core.Path.{_∙_, _≡_, ap, refl, subst, sym}
 use native.Mathlib.Omega.{arith}
 use Rattle.document.specs.Policy.{Row}
-use Rattle.index.specs.Index.{Cut, FillingRow, LabelStored, Rows, ValueStored, rowIn, rowLabelIn, valueIn}
+use Rattle.index.specs.Rows.{FillingRow, LabelStored, Rows, ValueStored, rowIn, rowLabelIn, valueIn}
+use Rattle.index.specs.Tables.{Cut}
 use Rattle.index.specs.Listed.{listed}
 use Rattle.index.proofs.CellLaws.{kept-3}
 use Rattle.index.proofs.ListedLaws.{length-listed, listed-at, listed-pushed, listed-same, listed-there}

@@ -15,7 +15,9 @@ use Rattle.condition.specs.Kinds.{Kind}
 use Rattle.document.specs.Lookup.{columnOf, columnsAt, schemeAt}
 use Rattle.document.specs.Policy.{Column, Policy, Table}
 use Rattle.form.specs.Form.{Scheme, byCell, unlabelled}
-use Rattle.index.specs.Index.{ColumnStored, Cut, Filling, FoundBelow, Tables, columnIn, columnLabelIn, kindOfCell, kindSaid, schemeBy, schemeIn, schemeOfCell, tableIn}
+use Rattle.index.specs.Cells.{kindOfCell, kindSaid}
+use Rattle.index.specs.Found.{FoundBelow}
+use Rattle.index.specs.Tables.{ColumnStored, Cut, Filling, Tables, columnIn, columnLabelIn, schemeBy, schemeIn, schemeOfCell, tableIn}
 use Rattle.index.specs.Listed.{listed}
 use Rattle.index.specs.declared.found.Found.{Found}
 use Rattle.index.specs.declared.found.Found.the-variants as found

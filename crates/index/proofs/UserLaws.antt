@@ -15,7 +15,8 @@ use Rattle.form.specs.Walks.{givensAt}
 use Rattle.index.proofs.Finding.{found-first}
 use Rattle.index.proofs.ListedLaws.{listed-found, listed-none, listed-pushed}
 use Rattle.index.proofs.Stores.{Store, stores, stores-other, stores-same}
-use Rattle.index.specs.Index.{Users, lineIn, userIn}
+use Rattle.index.specs.Cells.{lineIn}
+use Rattle.index.specs.Users.{Users, userIn}
 use Rattle.index.specs.Listed.{listed}
 use Rattle.lists.proofs.Tests.{and-both}
 use Rattle.lists.specs.Lists.{anyOf, findIndex, findIndexFrom, holdsOf, there}

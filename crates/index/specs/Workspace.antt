@@ -2,7 +2,14 @@
 use Prim.Native.Nat.{ℕ}
 use mathlib.Core.List.{List}
 use Rattle.document.specs.Policy.{Doc}
-use Rattle.index.specs.Index.{Attributes, CondRoles, Grants, Labels, Nodes, Rows, Tables, Users}
+use Rattle.index.specs.Attributes.{Attributes}
+use Rattle.index.specs.CondRoles.{CondRoles}
+use Rattle.index.specs.Grants.{Grants}
+use Rattle.index.specs.Labels.{Labels}
+use Rattle.index.specs.Nodes.{Nodes}
+use Rattle.index.specs.Rows.{Rows}
+use Rattle.index.specs.Tables.{Tables}
+use Rattle.index.specs.Users.{Users}
 use Rattle.purpose.specs.Members.{limit}
 use Rattle.text.specs.Refusal.{document}
 use Rattle.index.specs.declared.counts.Counts.{Counts}

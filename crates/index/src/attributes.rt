@@ -12,7 +12,9 @@ ghost use mathlib.Core.List.{List, [], _++_, _∷_};
 ghost use mathlib.Core.Option.{some};
 ghost use mathlib.Core.Path.{_≡_};
 ghost use Rattle.document.specs.Policy.{Attribute};
-ghost use Rattle.index.specs.Index.{Attributes, FoundBelow, foundAs, kindSaid};
+ghost use Rattle.index.specs.Attributes.{Attributes};
+ghost use Rattle.index.specs.Cells.{kindSaid};
+ghost use Rattle.index.specs.Found.{FoundBelow, foundAs};
 ghost use Rattle.lists.specs.Lists.{findIndex};
 ghost use Rattle.text.specs.Words.{isCalled, wordAt, wordOf};
 

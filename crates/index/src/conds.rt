@@ -12,7 +12,8 @@ ghost use mathlib.Core.Path.{_≡_};
 ghost use Rattle.condition.specs.Cond.{mapCond};
 ghost use Rattle.document.specs.Meaning.{attributeComparison};
 ghost use Rattle.document.specs.Policy.{CondRole, Policy};
-ghost use Rattle.index.specs.Index.{CondRoles, FoundBelow, attributesKnown, conditionAt, foundAs};
+ghost use Rattle.index.specs.CondRoles.{CondRoles, attributesKnown, conditionAt};
+ghost use Rattle.index.specs.Found.{FoundBelow, foundAs};
 ghost use Rattle.lists.specs.Lists.{findIndex};
 ghost use Rattle.text.specs.Words.{isCalled, wordAt, wordOf};
 

@@ -8,7 +8,7 @@ ghost use lib.ListN.{getD, length};
 ghost use mathlib.Core.Bool.{false};
 ghost use mathlib.Core.List.{List};
 ghost use mathlib.Core.Path.{_≡_};
-ghost use Rattle.index.specs.Index.{FoundBelow, foundAs};
+ghost use Rattle.index.specs.Found.{FoundBelow, foundAs};
 ghost use Rattle.index.specs.Listed.{listed};
 ghost use Rattle.lists.specs.Lists.{findIndex};
 ghost use Rattle.text.specs.Names.{sameName};

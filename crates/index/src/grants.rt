@@ -8,7 +8,7 @@ ghost use mathlib.Core.List.{List, [], _++_, _∷_};
 ghost use mathlib.Core.Option.{some};
 ghost use mathlib.Core.Path.{_≡_};
 ghost use Rattle.document.specs.Policy.{Grant};
-ghost use Rattle.index.specs.Index.{Grants};
+ghost use Rattle.index.specs.Grants.{Grants};
 
 // One grant more, behind k of them; nothing is stored where there is no room.
 pub fn add_grant(ws: &mut [usize; GRANT_CELLS], k: usize, purpose: usize, cond_role: usize)

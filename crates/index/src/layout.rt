@@ -1,4 +1,4 @@
-// How large the lent arrays are: how many of each kind there may be, and how many numbers hold them (specs/Index.antt says
+// How large the lent arrays are: how many of each kind there may be, and how many numbers hold them (specs/ says, kind by kind,
 // what stands where).
 use purpose::LIMIT;
 use purpose::WORDS;

@@ -12,7 +12,8 @@ ghost use lib.ListN.{getD};
 ghost use mathlib.Core.List.{List, _++_, _∷_, []};
 ghost use mathlib.Core.Path.{_≡_};
 ghost use Rattle.document.specs.Policy.{Row};
-ghost use Rattle.index.specs.Index.{Cut, FillingRow, LabelStored, Rows, ValueStored};
+ghost use Rattle.index.specs.Rows.{FillingRow, LabelStored, Rows, ValueStored};
+ghost use Rattle.index.specs.Tables.{Cut};
 ghost use Rattle.text.specs.Numbers.{Value};
 
 // Stores the value at `pos` as value c of row r.

@@ -1,7 +1,7 @@
 // Storing a number in an array, and a type as a number.
 ghost use lib.ListN.{set};
 ghost use mathlib.Core.Path.{_≡_};
-ghost use Rattle.index.specs.Index.{kindOfCell, kindSaid};
+ghost use Rattle.index.specs.Cells.{kindOfCell, kindSaid};
 
 // The number v at a place; nothing is stored behind the array's end.
 pub(crate) fn put(ws: &mut [usize], at: usize, v: usize)

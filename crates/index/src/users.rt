@@ -15,7 +15,9 @@ ghost use mathlib.Core.Path.{_≡_};
 ghost use Rattle.document.specs.Meaning.{givenOf};
 ghost use Rattle.document.specs.Policy.{Policy, User};
 ghost use Rattle.form.specs.Walks.{givensAt};
-ghost use Rattle.index.specs.Index.{FoundBelow, Users, foundAs, lineIn};
+ghost use Rattle.index.specs.Cells.{lineIn};
+ghost use Rattle.index.specs.Found.{FoundBelow, foundAs};
+ghost use Rattle.index.specs.Users.{Users};
 ghost use Rattle.lists.specs.Lists.{anyOf, findIndex};
 ghost use Rattle.text.specs.Words.{isCalled, wordAt, wordOf};
 

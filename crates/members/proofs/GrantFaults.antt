@@ -19,7 +19,9 @@ use Rattle.stepping.specs.Judged.{Judges}
 use Rattle.stepping.specs.declared.fault.Fault.{Fault}
 use Rattle.stepping.specs.declared.fault.Fault.the-variants.{Fine, Item, Whole}
 use Rattle.form.specs.Form.{grant}
-use Rattle.index.specs.Index.{CondRoles, Nodes, foundAs}
+use Rattle.index.specs.CondRoles.{CondRoles}
+use Rattle.index.specs.Found.{foundAs}
+use Rattle.index.specs.Nodes.{Nodes}
 use Rattle.index.specs.declared.found.Found.{Found}
 use Rattle.index.specs.declared.found.Found.the-variants.{At, Nothing}
 use Rattle.lists.specs.Lists.{findIndex}

@@ -20,7 +20,7 @@ use Rattle.stepping.proofs.Judging.{judge-bound, judge-fine, judge-taken, judge
 use Rattle.form.specs.Form.{GivenForm, user}
 use Rattle.index.proofs.ListedLaws.{length-listed}
 use Rattle.index.proofs.UserLaws.{userOf-known, userOf-unknown}
-use Rattle.index.specs.Index.{Users, userIn}
+use Rattle.index.specs.Users.{Users, userIn}
 use Rattle.lists.specs.Lists.{findIndex, known, there}
 use Rattle.text.specs.Offending.{leftmost, missing, offendingIf, unless}
 use Rattle.text.specs.Refusal.{accepted, document, pointing, pointingAll, refused}

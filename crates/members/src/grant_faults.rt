@@ -12,7 +12,8 @@ ghost use lib.ListN.{length};
 ghost use mathlib.Core.Path.{_≡_};
 ghost use Rattle.stepping.specs.Judged.{Judges};
 ghost use Rattle.form.specs.Form.{grant};
-ghost use Rattle.index.specs.Index.{CondRoles, Nodes};
+ghost use Rattle.index.specs.CondRoles.{CondRoles};
+ghost use Rattle.index.specs.Nodes.{Nodes};
 ghost use Rattle.purpose.specs.Members.{limit};
 ghost use Rattle.text.specs.Words.{wordOf};
 

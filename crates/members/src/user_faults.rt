@@ -17,7 +17,9 @@ ghost use Rattle.document.specs.Invariants.{UniqueNames};
 ghost use Rattle.stepping.specs.Judged.{Judges};
 ghost use Rattle.form.specs.Form.{user};
 ghost use Rattle.form.specs.Walks.{givensAt};
-ghost use Rattle.index.specs.Index.{Attributes, Nodes, Users};
+ghost use Rattle.index.specs.Attributes.{Attributes};
+ghost use Rattle.index.specs.Nodes.{Nodes};
+ghost use Rattle.index.specs.Users.{Users};
 ghost use Rattle.text.specs.Words.{wordOf};
 
 // The fault of a user line: the name stands at u, the role at r, and the values from gs on.

@@ -11,7 +11,8 @@ ghost use Rattle.document.specs.Meaning.{add};
 ghost use Rattle.document.specs.Policy.{Doc};
 ghost use Rattle.form.specs.Form.{user};
 ghost use Rattle.form.specs.Walks.{givensAt};
-ghost use Rattle.index.specs.Index.{Nodes, Users};
+ghost use Rattle.index.specs.Nodes.{Nodes};
+ghost use Rattle.index.specs.Users.{Users};
 ghost use Rattle.stepping.specs.Stored.{LineAt, Passes};
 ghost use Rattle.text.specs.Words.{wordOf};
 

@@ -19,7 +19,8 @@ use Rattle.stepping.proofs.Outcomes.{says-bound, says-fine, says-root, says-tak
 use Rattle.stepping.specs.Judged.{Judges}
 use Rattle.form.specs.Form.{Form, purpose, role}
 use Rattle.index.proofs.IndexLaws.{nodes-length}
-use Rattle.index.specs.Index.{Nodes, foundAs}
+use Rattle.index.specs.Found.{foundAs}
+use Rattle.index.specs.Nodes.{Nodes}
 use Rattle.lists.specs.Lists.{findIndex, listed, there}
 use Rattle.purpose.specs.Members.{limit}
 use Rattle.text.proofs.OffendingLaws.{missing-here, missing-next, missing-nil}

@@ -13,7 +13,7 @@ ghost use lib.ListN.{length};
 ghost use mathlib.Core.Option.{none, some};
 ghost use Rattle.stepping.specs.Judged.{Judges};
 ghost use Rattle.form.specs.Form.{purpose, role};
-ghost use Rattle.index.specs.Index.{Nodes};
+ghost use Rattle.index.specs.Nodes.{Nodes};
 ghost use Rattle.purpose.specs.Members.{limit};
 ghost use Rattle.text.specs.Words.{wordOf};
 

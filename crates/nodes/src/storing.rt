@@ -14,7 +14,7 @@ ghost use mathlib.Core.Option.{none, some};
 ghost use Rattle.document.specs.Meaning.{add};
 ghost use Rattle.document.specs.Policy.{Doc};
 ghost use Rattle.form.specs.Form.{purpose, role};
-ghost use Rattle.index.specs.Index.{Nodes};
+ghost use Rattle.index.specs.Nodes.{Nodes};
 ghost use Rattle.purpose.specs.Members.{limit};
 ghost use Rattle.stepping.specs.Stored.{LineAt, Passes};
 ghost use Rattle.text.specs.Words.{wordOf};

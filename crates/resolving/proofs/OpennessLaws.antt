@@ -11,7 +11,8 @@ use Rattle.document.specs.Open.{columnOpen, labelOpen, tableOpen}
 use Rattle.document.specs.Policy.{Policy}
 use Rattle.index.proofs.ListedLaws.{length-listed}
 use Rattle.index.proofs.TableLaws.{column-label-read, scheme-read, width-read}
-use Rattle.index.specs.Index.{Cut, Opened, Tables, columnLabelIn, schemeBy, schemeIn}
+use Rattle.index.specs.Labels.{Opened}
+use Rattle.index.specs.Tables.{Cut, Tables, columnLabelIn, schemeBy, schemeIn}
 use Rattle.index.specs.Listed.{listed}
 use Rattle.index.specs.declared.tables.SchemeCode.{SchemeCode}
 use Rattle.lists.specs.Lists.{holdsOf, known}

@@ -8,7 +8,7 @@ use mathlib.Core.Path.{_∙_, _≡_, ap, sym}
 use Rattle.document.specs.Lookup.{columnOf, columnsAt}
 use Rattle.document.specs.Policy.{Policy}
 use Rattle.index.proofs.TableLaws.{columns-at}
-use Rattle.index.specs.Index.{Tables, columnIn}
+use Rattle.index.specs.Tables.{Tables, columnIn}
 use Rattle.index.specs.Listed.{listed}
 use Rattle.text.specs.Words.{Word}
 

@@ -7,7 +7,7 @@ ghost use Prim.Native.Nat.{_<_, _≤_, ℕ};
 ghost use lib.ListN.{length};
 ghost use Rattle.document.specs.Lookup.{columnsAt};
 ghost use Rattle.document.specs.Policy.{Policy};
-ghost use Rattle.index.specs.Index.{Tables};
+ghost use Rattle.index.specs.Tables.{Tables};
 ghost use Rattle.resolving.specs.Resolved.{Resolves};
 
 // How many words of a query can name columns: 16 that are selected, and one in each of 64 comparisons.

@@ -15,7 +15,7 @@ ghost use Rattle.condition.specs.Answers.{comparedAt, kindOf};
 ghost use Rattle.condition.specs.CondForm.{mistyped};
 ghost use Rattle.document.specs.Lookup.{columnKind, columnsAt};
 ghost use Rattle.document.specs.Policy.{Policy};
-ghost use Rattle.index.specs.Index.{Tables};
+ghost use Rattle.index.specs.Tables.{Tables};
 ghost use Rattle.resolving.specs.Resolved.{Compares, offendingIn};
 ghost use Rattle.text.specs.Offending.{leftmost};
 

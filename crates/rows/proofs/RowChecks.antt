@@ -19,7 +19,8 @@ use Rattle.form.proofs.WalkSteps.{items-more, items-stop}
 use Rattle.form.specs.Form.{Item, labelled, plain}
 use Rattle.form.specs.Walks.{firstIn, itemAt, itemEndAt, itemsAt, secondIn}
 use Rattle.index.proofs.TableLaws.{column-at, column-inside, table-inside, width-read}
-use Rattle.index.specs.Index.{Cut, Tables, columnIn, kindOfCell, kindSaid}
+use Rattle.index.specs.Cells.{kindOfCell, kindSaid}
+use Rattle.index.specs.Tables.{Cut, Tables, columnIn}
 use Rattle.text.proofs.OffendingLaws.{leftmost-fail, leftmost-on, leftmost-only, missing-nil}
 use Rattle.text.specs.Offending.{leftmost, missing, unless}
 use Rattle.text.specs.Walking.{past}

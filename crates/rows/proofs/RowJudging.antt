@@ -22,7 +22,8 @@ use Rattle.stepping.specs.Places.{Near, wordFound}
 use Rattle.rows.specs.RowWords.{valuesAt}
 use Rattle.form.specs.Form.{Item, Scheme, row}
 use Rattle.index.proofs.TableLaws.{scheme-read, width-read}
-use Rattle.index.specs.Index.{Cut, FoundBelow, Tables, columnLabelIn, foundAs, schemeBy, schemeIn}
+use Rattle.index.specs.Found.{FoundBelow, foundAs}
+use Rattle.index.specs.Tables.{Cut, Tables, columnLabelIn, schemeBy, schemeIn}
 use Rattle.index.specs.Listed.{listed}
 use Rattle.index.specs.declared.found.Found.{Found}
 use Rattle.index.specs.declared.found.Found.the-variants as found

@@ -18,7 +18,8 @@ use Rattle.form.specs.Walks.{givensAt, itemsAt, namesAt}
 use Rattle.index.proofs.ListedLaws.{length-listed}
 use Rattle.index.proofs.RowLaws.{row-empty, rows-counted}
 use Rattle.index.proofs.TableLaws.{columns-at, scheme-read, tables-counted}
-use Rattle.index.specs.Index.{FillingRow, LabelStored, Rows, Tables, columnIn, columnLabelIn, schemeBy, schemeIn}
+use Rattle.index.specs.Rows.{FillingRow, LabelStored, Rows}
+use Rattle.index.specs.Tables.{Tables, columnIn, columnLabelIn, schemeBy, schemeIn}
 use Rattle.index.specs.Listed.{listed}
 use Rattle.index.specs.declared.tables.SchemeCode.{SchemeCode}
 use Rattle.lists.proofs.ListLaws.{findIndex-found, holdsOf-some, map-map, there-some}

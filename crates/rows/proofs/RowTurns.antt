@@ -12,7 +12,7 @@ use Rattle.form.specs.Form.{GivenForm}
 use Rattle.form.specs.Walks.{firstIn, givenAt, givensAt, namesAt, pairEndAt, secondIn}
 use Rattle.index.proofs.ListedLaws.{length-listed}
 use Rattle.index.proofs.RowLaws.{row-empty}
-use Rattle.index.specs.Index.{FillingRow, LabelStored, Rows, ValueStored, rowLabelIn, valueIn}
+use Rattle.index.specs.Rows.{FillingRow, LabelStored, Rows, ValueStored, rowLabelIn, valueIn}
 use Rattle.lists.specs.Lists.{known}
 use Rattle.stepping.proofs.ColumnLaws.{pair-ends, second-is}
 use Rattle.stepping.proofs.PlaceLaws.{word-placed}

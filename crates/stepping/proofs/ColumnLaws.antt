@@ -13,7 +13,8 @@ use Rattle.form.proofs.WalkSteps.{column-labels-more, column-labels-stop, colum
 use Rattle.form.specs.Walks.{columnAt, columnLabelAt, columnLabelsAt, columnsAt, firstIn, kindAt, labelledColumnsAt, pairEndAt, secondIn, thirdIn, tripleEndAt}
 use Rattle.index.proofs.ListedLaws.{length-listed}
 use Rattle.index.proofs.TableLaws.{table-empty}
-use Rattle.index.specs.Index.{ColumnStored, Filling, Tables, columnIn, kindSaid}
+use Rattle.index.specs.Cells.{kindSaid}
+use Rattle.index.specs.Tables.{ColumnStored, Filling, Tables, columnIn}
 use Rattle.lists.specs.Lists.{known}
 use Rattle.stepping.proofs.PlaceLaws.{word-placed}
 use Rattle.stepping.specs.Stored.{ColumnsFilled, LineAt}

@@ -20,7 +20,14 @@ use Rattle.document.specs.Policy.{Doc, Grant, Policy, Row, User}
 use Rattle.form.specs.Form.{ColumnForm, Form, GivenForm, Item, Scheme, attr, condRole, grant, label, purpose, role, row, table, user}
 use Rattle.index.proofs.IndexLaws.{conds-grown, conds-same, users-length, users-none, users-same}
 use Rattle.index.proofs.ListedLaws.{length-listed}
-use Rattle.index.specs.Index.{Attributes, CondRoles, Grants, Labels, Nodes, Rows, Tables, Users, grantIn, rowIn}
+use Rattle.index.specs.Attributes.{Attributes}
+use Rattle.index.specs.CondRoles.{CondRoles}
+use Rattle.index.specs.Grants.{Grants, grantIn}
+use Rattle.index.specs.Labels.{Labels}
+use Rattle.index.specs.Nodes.{Nodes}
+use Rattle.index.specs.Rows.{Rows, rowIn}
+use Rattle.index.specs.Tables.{Tables}
+use Rattle.index.specs.Users.{Users}
 use Rattle.purpose.specs.Members.{limit}
 use Rattle.text.proofs.RefusalLaws.{refuseIf-accepted, then-accepted}
 use Rattle.text.specs.Refusal.{accepted}

@@ -21,7 +21,12 @@ use Rattle.form.specs.Walks.{givensAt}
 use Rattle.index.proofs.ListedLaws.{length-listed}
 use Rattle.index.proofs.IndexLaws.{attributes-length, conds-length, conds-same, nodes-length, users-length, users-same}
 use Rattle.index.specs.Hash.{hashOf}
-use Rattle.index.specs.Index.{Attributes, CondRoles, Grants, Nodes, Users, attributesKnown, conditionAt, conditionRead, grantIn, lineIn}
+use Rattle.index.specs.Attributes.{Attributes}
+use Rattle.index.specs.Cells.{lineIn}
+use Rattle.index.specs.CondRoles.{CondRoles, attributesKnown, conditionAt, conditionRead}
+use Rattle.index.specs.Grants.{Grants, grantIn}
+use Rattle.index.specs.Nodes.{Nodes}
+use Rattle.index.specs.Users.{Users}
 use Rattle.lists.proofs.ListLaws.{all-map, there-some}
 use Rattle.lists.proofs.Tests.{and-left, neither-left}
 use Rattle.lists.specs.Lists.{allOf, holdsOf, known, listed, there}

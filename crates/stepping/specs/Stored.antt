@@ -7,7 +7,8 @@ use Rattle.document.specs.Check.{checkForm}
 use Rattle.document.specs.Meaning.{add}
 use Rattle.document.specs.Policy.{Column, Doc, Row, Table}
 use Rattle.form.specs.Form.{Form}
-use Rattle.index.specs.Index.{Filling, FillingRow, Rows, Tables}
+use Rattle.index.specs.Rows.{FillingRow, Rows}
+use Rattle.index.specs.Tables.{Filling, Tables}
 use Rattle.text.specs.Numbers.{Value}
 use Rattle.text.specs.Refusal.{accepted}
 use Rattle.text.specs.Words.{nameBytes}

@@ -24,7 +24,9 @@ use Rattle.stepping.specs.declared.fault.Fault.the-variants.{Fine, Item, Whole}
 use Rattle.form.specs.Form.{Form, label}
 use Rattle.form.specs.Walks.{namesAt}
 use Rattle.index.proofs.ListedLaws.{length-listed}
-use Rattle.index.specs.Index.{Labels, Nodes, foundAs}
+use Rattle.index.specs.Found.{foundAs}
+use Rattle.index.specs.Labels.{Labels}
+use Rattle.index.specs.Nodes.{Nodes}
 use Rattle.index.specs.declared.found.Found.{Found}
 use Rattle.index.specs.declared.found.Found.the-variants.{At, Nothing}
 use Rattle.lists.specs.Lists.{findIndex, there}

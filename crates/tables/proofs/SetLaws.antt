@@ -13,7 +13,8 @@ use Rattle.form.proofs.WalkSteps.{names-more, names-stop}
 use Rattle.form.specs.Form.{label}
 use Rattle.form.specs.Walks.{namesAt}
 use Rattle.index.proofs.LabelLaws.{holds-insert-behind, holds-none, labels-long}
-use Rattle.index.specs.Index.{FoundBelow, Holds, Labels, foundAs}
+use Rattle.index.specs.Found.{FoundBelow, foundAs}
+use Rattle.index.specs.Labels.{Holds, Labels}
 use Rattle.index.specs.declared.found.Found.{Found}
 use Rattle.index.specs.declared.found.Found.the-variants as found
 use Rattle.lists.specs.Lists.{known}

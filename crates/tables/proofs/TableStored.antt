@@ -13,7 +13,7 @@ use Rattle.document.specs.Policy.{Column, Doc, Table}
 use Rattle.form.specs.Form.{ColumnForm, byTable, mapScheme}
 use Rattle.form.specs.Walks.{columnLabelsAt, columnsAt, labelledColumnsAt}
 use Rattle.index.proofs.TableLaws.{tables-counted}
-use Rattle.index.specs.Index.{Filling, Tables, schemeBy}
+use Rattle.index.specs.Tables.{Filling, Tables, schemeBy}
 use Rattle.index.specs.TableWords.{columnWords, labelsColumns, schemeWords, tableLine}
 use Rattle.index.specs.declared.tables.SchemeCode.{SchemeCode}
 use Rattle.index.specs.declared.tables.SchemeCode.the-variants as code

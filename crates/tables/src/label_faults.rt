@@ -13,7 +13,8 @@ ghost use mathlib.Core.List.{List};
 ghost use Rattle.stepping.specs.Judged.{Judges};
 ghost use Rattle.form.specs.Form.{label};
 ghost use Rattle.form.specs.Walks.{namesAt};
-ghost use Rattle.index.specs.Index.{Labels, Nodes};
+ghost use Rattle.index.specs.Labels.{Labels};
+ghost use Rattle.index.specs.Nodes.{Nodes};
 ghost use Rattle.purpose.specs.Members.{limit};
 ghost use Rattle.text.specs.Words.{wordOf};
 

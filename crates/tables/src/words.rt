@@ -11,7 +11,7 @@ ghost use mathlib.Core.Path.{_≡_};
 ghost use Rattle.document.specs.Policy.{Node};
 ghost use Rattle.stepping.specs.Places.{Near, wordFound};
 ghost use Rattle.form.specs.Walks.{namesAt};
-ghost use Rattle.index.specs.Index.{Nodes};
+ghost use Rattle.index.specs.Nodes.{Nodes};
 ghost use Rattle.lists.specs.Lists.{anyOf, findIndex, there};
 ghost use Rattle.purpose.specs.Members.{limit};
 ghost use Rattle.text.specs.Offending.{missing, repeated};

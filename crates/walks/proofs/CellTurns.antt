@@ -18,7 +18,9 @@ use Rattle.form.specs.Form.{GivenForm, labelled}
 use Rattle.form.specs.FormReader.{item, labelledItem, plainItem}
 use Rattle.form.specs.Walks.{firstIn, givenAt, givensAt, itemEndAt, itemsAt, pairEndAt, secondIn}
 use Rattle.index.proofs.TableLaws.{column-inside}
-use Rattle.index.specs.Index.{LabelStored, Tables, ValueStored, kindOfCell, kindSaid}
+use Rattle.index.specs.Cells.{kindOfCell, kindSaid}
+use Rattle.index.specs.Rows.{LabelStored, ValueStored}
+use Rattle.index.specs.Tables.{Tables}
 use Rattle.lists.specs.Lists.{known, there}
 use Rattle.walks.proofs.Typed.{ItemsPassed, all-passed, items-turn, none-passed, typed-at, typed-value}
 use Rattle.walks.specs.Walked.{CellsTaken, LabelTaken, LabelWalked, typedEnd}

@@ -27,7 +27,10 @@ use Rattle.form.specs.FormReader.{item}
 use Rattle.form.specs.Walks.{itemsAt}
 use Rattle.index.proofs.RowLaws.{rows-counted}
 use Rattle.index.proofs.TableLaws.{scheme-read}
-use Rattle.index.specs.Index.{FoundBelow, Rows, Tables, columnLabelIn, foundAs, kindSaid, schemeBy, schemeIn}
+use Rattle.index.specs.Cells.{kindSaid}
+use Rattle.index.specs.Found.{FoundBelow, foundAs}
+use Rattle.index.specs.Rows.{Rows}
+use Rattle.index.specs.Tables.{Tables, columnLabelIn, schemeBy, schemeIn}
 use Rattle.index.specs.Listed.{listed}
 use Rattle.index.specs.declared.found.Found.{Found}
 use Rattle.index.specs.declared.found.Found.the-variants as found

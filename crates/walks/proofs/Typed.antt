@@ -21,7 +21,8 @@ use Rattle.form.specs.FormReader.{item, labelledItem, plainItem}
 use Rattle.form.specs.Walks.{itemEndAt, itemsAt}
 use Rattle.index.proofs.ListedLaws.{length-listed}
 use Rattle.index.proofs.TableLaws.{columns-at}
-use Rattle.index.specs.Index.{Cut, Tables, columnIn, kindOfCell, kindSaid}
+use Rattle.index.specs.Cells.{kindOfCell, kindSaid}
+use Rattle.index.specs.Tables.{Cut, Tables, columnIn}
 use Rattle.lists.proofs.Tests.{never, or-left, or-right, true-not-false}
 use Rattle.lists.specs.Lists.{there}
 use Rattle.walks.specs.Walked.{ItemsWalked, typedEnd}

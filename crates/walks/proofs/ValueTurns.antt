@@ -12,7 +12,9 @@ use Rattle.document.specs.Policy.{Column, Policy}
 use Rattle.form.proofs.WalkSteps.{names-more}
 use Rattle.form.specs.Walks.{namesAt}
 use Rattle.index.proofs.TableLaws.{column-inside}
-use Rattle.index.specs.Index.{FillingRow, Tables, ValueStored, kindOfCell, kindSaid}
+use Rattle.index.specs.Cells.{kindOfCell, kindSaid}
+use Rattle.index.specs.Rows.{FillingRow, ValueStored}
+use Rattle.index.specs.Tables.{Tables}
 use Rattle.walks.proofs.Typed.{ItemsPassed, all-passed, items-turn, none-passed, typed-at, typed-bare, typed-plain}
 use Rattle.walks.specs.Walked.{ValuesTaken, typedEnd}
 use Rattle.stepping.proofs.PlaceLaws.{word-placed}

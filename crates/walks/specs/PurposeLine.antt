@@ -12,7 +12,7 @@ use Rattle.document.specs.Policy.{Doc, Node}
 use Rattle.form.specs.Form.{Form, purpose}
 use Rattle.form.specs.FormReader.{formOf}
 use Rattle.index.specs.Hash.{hashOf}
-use Rattle.index.specs.Index.{Nodes}
+use Rattle.index.specs.Nodes.{Nodes}
 use Rattle.lists.specs.Lists.{findIndex}
 use Rattle.purpose.specs.Members.{limit}
 use Rattle.stepping.specs.Stored.{Passes}

@@ -13,7 +13,8 @@ use Rattle.document.specs.TypeFaults.{mistypedValue}
 use Rattle.rows.specs.RowWords.{shapedValues, valuesAt}
 use Rattle.form.specs.FormReader.{item}
 use Rattle.form.specs.Walks.{givensAt, itemsAt, namesAt}
-use Rattle.index.specs.Index.{LabelStored, Rows, kindSaid}
+use Rattle.index.specs.Cells.{kindSaid}
+use Rattle.index.specs.Rows.{LabelStored, Rows}
 use Rattle.lists.specs.Lists.{holdsOf, known, there}
 use Rattle.stepping.specs.Stored.{RowFilled}
 use Rattle.text.specs.Brackets.{many}

@@ -19,7 +19,9 @@ ghost use mathlib.Core.List.{List, []};
 ghost use mathlib.Core.Path.{_≡_};
 ghost use Rattle.document.specs.Lookup.{columnsAt};
 ghost use Rattle.document.specs.Policy.{Policy};
-ghost use Rattle.index.specs.Index.{FillingRow, Labels, Tables};
+ghost use Rattle.index.specs.Labels.{Labels};
+ghost use Rattle.index.specs.Rows.{FillingRow};
+ghost use Rattle.index.specs.Tables.{Tables};
 ghost use Rattle.walks.specs.Walked.{CellsWalked, KeepsRows, LabelWalked, ValuesWalked, typedEnd};
 ghost use Rattle.stepping.specs.Stored.{LineAt};
 

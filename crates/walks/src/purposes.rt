@@ -16,7 +16,7 @@ ghost use mathlib.Core.Bool.{true};
 ghost use mathlib.Core.Path.{_≡_};
 ghost use Rattle.walks.specs.PurposeLine.{BelowAt, ReadsBelow, TakesPurpose, beginsPurpose};
 ghost use Rattle.document.specs.Policy.{Doc};
-ghost use Rattle.index.specs.Index.{Nodes};
+ghost use Rattle.index.specs.Nodes.{Nodes};
 ghost use Rattle.purpose.specs.Members.{limit};
 ghost use Rattle.stepping.specs.Stored.{LineAt};
 ghost use Rattle.text.specs.Names.{isName};

@@ -8,7 +8,7 @@ use native.Mathlib.Omega.{arith}
 use Rattle.answering.proofs.OpenCells.{any-found, any-more, any-none}
 use Rattle.answering.specs.Judging.{openIn}
 use Rattle.document.specs.Policy.{Policy}
-use Rattle.index.specs.Index.{Opened}
+use Rattle.index.specs.Labels.{Opened}
 use Rattle.lists.specs.Lists.{anyOf}
 use Rattle.answering.proofs.judging.any_closed.Statement.{statement}
 use Rattle.answering.proofs.judging.any_closed.Tie as tie

@@ -6,7 +6,7 @@ use Rattle.answering.proofs.TruthLaws.{remembered-by, remembered-none}
 use Rattle.answering.specs.Judging.{AllReady, JudgedTo, Remembered, SchemeOf}
 use Rattle.answering.specs.Prepared.{Prepared}
 use Rattle.document.specs.Policy.{Doc}
-use Rattle.index.specs.Index.{rowIn}
+use Rattle.index.specs.Rows.{rowIn}
 use Rattle.query.specs.Query.{Query}
 use borrow.Author.Needs.{needs}
 use lib.ListN.{length, length-set}

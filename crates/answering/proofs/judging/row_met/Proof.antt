@@ -2,7 +2,7 @@
 use Rattle.answering.proofs.FateLaws.{met-judged, met-none}
 use Rattle.answering.proofs.TruthLaws.{remembered-judged, remembered-kept}
 use Rattle.answer.specs.Answer.{matches}
-use Rattle.index.specs.Index.{rowIn}
+use Rattle.index.specs.Rows.{rowIn}
 use mathlib.Core.Bool.{false}
 use Rattle.answering.proofs.judging.row_met.Statement.{statement}
 use Rattle.answering.proofs.judging.row_met.Tie as tie

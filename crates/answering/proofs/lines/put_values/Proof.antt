@@ -8,7 +8,7 @@ use native.Mathlib.Omega.{arith}
 use Rattle.answering.proofs.LineLaws.{spaced-more, spaced-none}
 use Rattle.writing.proofs.Writing as w
 use Rattle.answering.specs.Lines.{spaced}
-use Rattle.index.specs.Index.{valueIn}
+use Rattle.index.specs.Rows.{valueIn}
 use Rattle.index.specs.Listed.{listed}
 use Rattle.answering.proofs.lines.put_values.Statement.{statement}
 use Rattle.answering.proofs.lines.put_values.Tie as tie

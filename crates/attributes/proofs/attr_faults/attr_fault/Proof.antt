@@ -1,7 +1,7 @@
 -- `attributes::attr_faults::attr_fault` meets its contract: each answer by its law. Assumes nothing.
 use native.Mathlib.Omega.{arith}
 use Rattle.attributes.proofs.AttrFaults.{attr-fine, attr-full, attr-late, attr-taken, attr-unknown}
-use Rattle.index.specs.Index.{kindSaid}
+use Rattle.index.specs.Cells.{kindSaid}
 use borrow.Author.Needs.{needs}
 use Rattle.attributes.proofs.attr_faults.attr_fault.Statement.{statement}
 use Rattle.attributes.proofs.attr_faults.attr_fault.Tie as tie

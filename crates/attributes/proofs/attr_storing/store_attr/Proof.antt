@@ -4,7 +4,7 @@ use Rattle.lists.specs.Lists.{known}
 use Rattle.document.specs.Lookup.{roleOf}
 use Rattle.text.specs.Words.{wordOf}
 use mathlib.Core.Path.{_∙_, ap, refl, sym}
-use Rattle.index.specs.Index.{kindSaid}
+use Rattle.index.specs.Cells.{kindSaid}
 use Rattle.stepping.proofs.NamedLaws.{attr-stored}
 use borrow.Author.Needs.{needs}
 use Rattle.attributes.proofs.attr_storing.store_attr.Statement.{statement}

@@ -16,7 +16,10 @@ use Rattle.attributes.proofs.CondLineLaws.{cond-form, cond-late, cond-m
 use Rattle.stepping.proofs.Judging.{judge-bound, judge-fine, judge-taken, judge-type, judge-unknown}
 use Rattle.stepping.specs.Places.{Near, wordFound}
 use Rattle.index.proofs.IndexLaws.{conds-length}
-use Rattle.index.specs.Index.{Attributes, CondRoles, Nodes, foundAs}
+use Rattle.index.specs.Attributes.{Attributes}
+use Rattle.index.specs.CondRoles.{CondRoles}
+use Rattle.index.specs.Found.{foundAs}
+use Rattle.index.specs.Nodes.{Nodes}
 use Rattle.text.specs.Reader.{Left, from}
 use Rattle.text.specs.Words.{wordOf}
 use Rattle.index.specs.declared.found.Found.{Found}

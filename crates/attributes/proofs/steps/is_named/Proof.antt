@@ -2,7 +2,7 @@
 use borrow.Author.Needs.{needs}
 use mathlib.Core.Path.{ap, sym}
 use Rattle.condition.specs.Answers.{kindOf}
-use Rattle.index.specs.Index.{kindSaid}
+use Rattle.index.specs.Cells.{kindSaid}
 use Rattle.attributes.proofs.steps.is_named.Statement.{statement}
 use Rattle.attributes.proofs.steps.is_named.Tie as tie
 

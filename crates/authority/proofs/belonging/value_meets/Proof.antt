@@ -5,7 +5,7 @@ use native.Mathlib.Omega.{arith}
 use Rattle.authority.proofs.HeldLaws.{attribute-below, user-none, user-some}
 use Rattle.condition.specs.Answers.{opOf}
 use Rattle.condition.specs.Comparison.{valuesMeet}
-use Rattle.index.specs.Index.{kindSaid}
+use Rattle.index.specs.Cells.{kindSaid}
 use Rattle.lists.specs.Lists.{holdsOf}
 use Rattle.query.specs.Authority.{userValue}
 use Rattle.text.specs.Words.{wordAt}

@@ -5,7 +5,8 @@ use mathlib.Core.Path.{_∙_, ap}
 use native.Mathlib.Omega.{arith}
 use Rattle.document.specs.Policy.{Attribute}
 use Rattle.index.proofs.AttributeLaws.{attribute-clock, attribute-there, kind-read}
-use Rattle.index.specs.Index.{attributeIn, kindSaid}
+use Rattle.index.specs.Attributes.{attributeIn}
+use Rattle.index.specs.Cells.{kindSaid}
 use borrow.Author.Needs.{needs}
 use Rattle.index.proofs.attributes.attribute_kind.Statement.{statement}
 use Rattle.index.proofs.attributes.attribute_kind.Tie as tie

@@ -3,7 +3,7 @@ use mathlib.Core.Path.{ap, sym}
 use native.Mathlib.Omega.{arith}
 use Rattle.document.specs.Policy.{Attribute}
 use Rattle.index.proofs.AttributeLaws.{attribute-clock, attribute-there}
-use Rattle.index.specs.Index.{attributeIn}
+use Rattle.index.specs.Attributes.{attributeIn}
 use borrow.Author.Needs.{needs}
 use Rattle.index.proofs.attributes.attribute_role.Statement.{statement}
 use Rattle.index.proofs.attributes.attribute_role.Tie as tie

@@ -6,7 +6,8 @@ use mathlib.Core.Path.{_∙_, _≡_, ap, subst, sym}
 use native.Mathlib.Omega.{arith}
 use Rattle.document.specs.Policy.{Attribute}
 use Rattle.index.proofs.AttributeLaws.{found-day, found-hour, found-later, found-year}
-use Rattle.index.specs.Index.{Attributes, FoundBelow, foundAs}
+use Rattle.index.specs.Attributes.{Attributes}
+use Rattle.index.specs.Found.{FoundBelow, foundAs}
 use Rattle.index.specs.declared.found.Found.{Found}
 use Rattle.lists.specs.Lists.{findIndex}
 use Rattle.text.specs.Words.{isCalled, wordOf}

@@ -8,7 +8,7 @@ use native.Mathlib.Omega.{arith}
 use Rattle.condition.specs.Kinds.{Kind}
 use Rattle.index.proofs.AttributeLaws.{attributeStores, attributes-pushed}
 use Rattle.index.proofs.Stores.{stores}
-use Rattle.index.specs.Index.{Attributes}
+use Rattle.index.specs.Attributes.{Attributes}
 use Rattle.text.specs.Words.{wordAt}
 use borrow.Author.Needs.{needs}
 use Rattle.index.proofs.attributes.store_attribute.Statement.{statement}

@@ -2,7 +2,7 @@
 use borrow.Author.Needs.{needs}
 use native.Mathlib.Omega.{arith}
 use Rattle.index.proofs.LabelLaws.{label-found}
-use Rattle.index.specs.Index.{foundAs}
+use Rattle.index.specs.Found.{foundAs}
 use Rattle.text.specs.Words.{wordOf}
 use Rattle.index.proofs.labels.find_label_to.Statement.{statement}
 use Rattle.index.proofs.labels.find_label_to.Tie as tie

@@ -1,7 +1,7 @@
 -- `index::labels::load_set` meets its contract. Assumes nothing.
 use borrow.Author.Needs.{needs}
 use native.Mathlib.Omega.{arith}
-use Rattle.index.specs.Index.{setIn}
+use Rattle.index.specs.Labels.{setIn}
 use Rattle.index.proofs.labels.load_set.Statement.{statement}
 use Rattle.index.proofs.labels.load_set.Tie as tie
 

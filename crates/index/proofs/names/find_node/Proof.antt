@@ -11,7 +11,7 @@ use native.Mathlib.Omega.{arith}
 use Rattle.document.specs.Policy.{Node}
 use Rattle.index.proofs.NodeLaws.{first-below, name-before, name-found, name-missed, other-name}
 use Rattle.index.specs.Hash.{hashOf}
-use Rattle.index.specs.Index.{Nodes}
+use Rattle.index.specs.Nodes.{Nodes}
 use Rattle.text.specs.Words.{isCalled, wordAt, wordOf}
 use Rattle.index.proofs.names.find_node.Statement.{statement}
 use Rattle.index.proofs.names.find_node.Tie as tie

@@ -7,7 +7,7 @@ use mathlib.Core.Path.{_∙_, _≡_, ap, refl, subst, sym}
 use native.Mathlib.Omega.{arith}
 use Rattle.document.specs.Policy.{Node, treeOf}
 use Rattle.index.proofs.NodeLaws.{tree-length, tree-parent, way-ends, way-here, way-up}
-use Rattle.index.specs.Index.{Nodes}
+use Rattle.index.specs.Nodes.{Nodes}
 use Rattle.purpose.proofs.Ancestry.{descends-outside}
 use Rattle.purpose.specs.Compliance.{descends, parent}
 use Rattle.index.proofs.names.role_below.Statement.{statement}

@@ -1,6 +1,6 @@
 -- `index::store::kind_cell` meets its contract. Assumes nothing.
 use mathlib.Core.Path.{ap, sym}
-use Rattle.index.specs.Index.{kindOfCell, kindSaid}
+use Rattle.index.specs.Cells.{kindOfCell, kindSaid}
 use Rattle.index.proofs.store.kind_cell.Statement.{statement}
 use Rattle.index.proofs.store.kind_cell.Tie as tie
 

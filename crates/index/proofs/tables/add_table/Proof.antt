@@ -4,7 +4,7 @@ use lib.Seq.{lt-length-set}
 use mathlib.Core.Path.{_≡_}
 use lib.ListN.{length, set}
 use native.Mathlib.Omega.{arith}
-use Rattle.index.specs.Index.{schemeBy}
+use Rattle.index.specs.Tables.{schemeBy}
 use Rattle.index.proofs.TableLaws.{table-added}
 use borrow.Author.Needs.{needs}
 use Rattle.index.proofs.tables.add_table.Statement.{statement}

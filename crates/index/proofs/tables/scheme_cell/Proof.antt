@@ -1,6 +1,6 @@
 -- `index::tables::scheme_cell` meets its contract. Assumes nothing.
 use mathlib.Core.Path.{ap, sym}
-use Rattle.index.specs.Index.{schemeBy, schemeOfCell}
+use Rattle.index.specs.Tables.{schemeBy, schemeOfCell}
 use borrow.Author.Needs.{needs}
 use Rattle.index.proofs.tables.scheme_cell.Statement.{statement}
 use Rattle.index.proofs.tables.scheme_cell.Tie as tie

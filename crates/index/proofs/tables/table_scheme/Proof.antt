@@ -1,6 +1,6 @@
 -- `index::tables::table_scheme` meets its contract. Assumes nothing.
 use native.Mathlib.Omega.{arith}
-use Rattle.index.specs.Index.{schemeBy, schemeOfCell}
+use Rattle.index.specs.Tables.{schemeBy, schemeOfCell}
 use Rattle.index.proofs.TableLaws.{scheme-number, scheme-over}
 use borrow.Author.Needs.{needs}
 use Rattle.index.proofs.tables.table_scheme.Statement.{statement}

@@ -3,7 +3,7 @@ use borrow.Author.Needs.{needs}
 use mathlib.Core.Path.{_∙_, ap, sym}
 use native.Mathlib.Omega.{arith}
 use Rattle.index.proofs.UserLaws.{user-called}
-use Rattle.index.specs.Index.{foundAs}
+use Rattle.index.specs.Found.{foundAs}
 use Rattle.lists.specs.Lists.{there}
 use Rattle.text.specs.Words.{wordOf}
 use Rattle.index.proofs.users.user_named.Statement.{statement}

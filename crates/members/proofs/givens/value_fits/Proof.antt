@@ -2,7 +2,8 @@
 use Rattle.condition.specs.Kinds.{hasKind, names, numbers}
 use Rattle.document.specs.Lookup.{attributeOf}
 use Rattle.members.proofs.GivenLaws.{kind-at, kind-none}
-use Rattle.index.specs.Index.{foundAs, kindSaid}
+use Rattle.index.specs.Cells.{kindSaid}
+use Rattle.index.specs.Found.{foundAs}
 use Rattle.text.specs.Words.{wordAt, wordOf}
 use mathlib.Core.Path.{_∙_, ap, sym}
 use borrow.Author.Needs.{needs}

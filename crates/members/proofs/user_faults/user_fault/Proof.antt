@@ -7,7 +7,7 @@ use Rattle.document.specs.Lookup.{roleOf}
 use Rattle.members.proofs.UserFaults.{user-attribute, user-fine, user-no-role, user-over, user-twice, user-type, user-values, users-length}
 use Rattle.stepping.specs.Places.{Near, wordFound}
 use Rattle.form.specs.Walks.{givensAt}
-use Rattle.index.specs.Index.{foundAs}
+use Rattle.index.specs.Found.{foundAs}
 use Rattle.lists.specs.Lists.{there}
 use Rattle.text.specs.Words.{wordOf}
 use Rattle.members.proofs.user_faults.user_fault.Statement.{statement}

@@ -3,7 +3,7 @@
 use mathlib.Core.Path.{_∙_, ap, sym}
 use Rattle.document.specs.Lookup.{roleOf}
 use Rattle.index.proofs.UserLaws.{userOf-known, userOf-unknown}
-use Rattle.index.specs.Index.{foundAs}
+use Rattle.index.specs.Found.{foundAs}
 use Rattle.text.specs.Words.{wordOf}
 use borrow.Author.Needs.{needs}
 use Rattle.resolving.proofs.parties.acting_user.Statement.{statement}

@@ -3,7 +3,7 @@
 use borrow.Author.Tests.{not-false, not-true}
 use mathlib.Core.Path.{_∙_, ap, sym}
 use Rattle.document.specs.Lookup.{purposeOf, roleOf}
-use Rattle.index.specs.Index.{foundAs}
+use Rattle.index.specs.Found.{foundAs}
 use Rattle.resolving.proofs.PartyLaws.{all-known, purpose-unknown, role-unknown, user-unknown}
 use borrow.Author.Needs.{needs}
 use Rattle.resolving.proofs.parties.unknown_party.Statement.{statement}

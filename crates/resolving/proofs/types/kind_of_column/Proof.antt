@@ -2,7 +2,7 @@
 use mathlib.Core.Option.{some}
 use mathlib.Core.Path.{_∙_, ap}
 use Rattle.index.proofs.TableLaws.{column-kind-read}
-use Rattle.index.specs.Index.{kindSaid}
+use Rattle.index.specs.Cells.{kindSaid}
 use borrow.Author.Needs.{needs}
 use Rattle.resolving.proofs.types.kind_of_column.Statement.{statement}
 use Rattle.resolving.proofs.types.kind_of_column.Tie as tie

@@ -5,7 +5,7 @@ use mathlib.Core.Bool.{false, true}
 use mathlib.Core.Path.{_∙_, ap, sym}
 use Rattle.document.specs.Lookup.{labelOf}
 use Rattle.form.specs.Walks.{firstIn, secondIn}
-use Rattle.index.specs.Index.{foundAs}
+use Rattle.index.specs.Found.{foundAs}
 use Rattle.lists.specs.Lists.{there}
 use Rattle.text.specs.Walking.{nextWord}
 use Rattle.text.specs.Words.{wordOf}

@@ -4,7 +4,7 @@ use borrow.Author.Tests.{not-false, not-true}
 use mathlib.Core.Path.{_∙_, ap, sym}
 use Rattle.document.specs.Lookup.{tableOf}
 use Rattle.form.specs.Walks.{itemsAt}
-use Rattle.index.specs.Index.{foundAs}
+use Rattle.index.specs.Found.{foundAs}
 use Rattle.text.specs.Words.{wordOf}
 use Rattle.rows.proofs.RowJudging.{found-fine, found-misfit, found-mistyped, found-unknown, near-at, row-no-table, row-over}
 use borrow.Author.Needs.{needs}

@@ -1,7 +1,7 @@
 -- `rows::faults::typed` meets its contract. Assumes nothing.
 use mathlib.Core.Path.{_∙_, ap, sym}
 use Rattle.condition.specs.Kinds.{hasKind}
-use Rattle.index.specs.Index.{kindSaid}
+use Rattle.index.specs.Cells.{kindSaid}
 use Rattle.text.specs.Words.{wordAt}
 use borrow.Author.Needs.{needs}
 use Rattle.rows.proofs.faults.typed.Statement.{statement}

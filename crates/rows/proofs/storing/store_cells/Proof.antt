@@ -12,7 +12,7 @@ use Rattle.document.specs.Lookup.{labelOf}
 use Rattle.document.specs.Policy.{Policy}
 use Rattle.form.proofs.WalkSteps.{givens-stop, pair-after}
 use Rattle.form.specs.Walks.{givensAt}
-use Rattle.index.specs.Index.{Labels}
+use Rattle.index.specs.Labels.{Labels}
 use Rattle.lists.specs.Lists.{known}
 use Rattle.stepping.proofs.ColumnLaws.{pair-ends}
 use Rattle.rows.proofs.RowTurns.{Rowed, cell-turn, rowed-all, rowed-none}

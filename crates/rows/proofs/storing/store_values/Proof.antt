@@ -10,7 +10,7 @@ use Rattle.text.proofs.Spaces.{space-here}
 use Rattle.stepping.specs.Stored.{LineAt}
 use Rattle.form.proofs.WalkSteps.{names-stop, word-after}
 use Rattle.form.specs.Walks.{namesAt}
-use Rattle.index.specs.Index.{FillingRow}
+use Rattle.index.specs.Rows.{FillingRow}
 use Rattle.rows.proofs.RowTurns.{Rowed, rowed-all, rowed-marked, value-turn}
 use Rattle.text.specs.Walking.{wordEndAt}
 use Rattle.rows.proofs.storing.store_values.Statement.{statement}

@@ -14,7 +14,8 @@ use Rattle.tables.proofs.TableLineLaws.{columnNames, columns-words, fin
 use Rattle.stepping.specs.Places.{Near, wordFound}
 use Rattle.tables.specs.TableLine.{columnsBy}
 use Rattle.index.proofs.TableLaws.{tables-counted}
-use Rattle.index.specs.Index.{Tables, foundAs}
+use Rattle.index.specs.Found.{foundAs}
+use Rattle.index.specs.Tables.{Tables}
 use Rattle.index.specs.TableWords.{columnWords, tableLine}
 use Rattle.text.specs.Offending.{repeated}
 use Rattle.text.specs.Words.{wordOf}

@@ -11,7 +11,7 @@ use Rattle.document.specs.Meaning.{columnMeant}
 use Rattle.document.specs.Policy.{Policy}
 use Rattle.form.proofs.WalkSteps.{column-labels-stop, columns-stop, labelled-columns-stop, pair-after, triple-after}
 use Rattle.form.specs.Walks.{columnLabelsAt, columnsAt, labelledColumnsAt}
-use Rattle.index.specs.Index.{Labels}
+use Rattle.index.specs.Labels.{Labels}
 use Rattle.lists.specs.Lists.{known}
 use Rattle.stepping.proofs.ColumnLaws.{Columned, columned-all, columned-none, labelled-turn, pair-ends, plain-turn, triple-ends}
 use Rattle.stepping.specs.Stored.{LineAt}

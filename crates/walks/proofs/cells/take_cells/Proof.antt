@@ -8,7 +8,8 @@ use mathlib.Core.Path.{_∙_, _≡_, sym}
 use native.Mathlib.Omega.{arith}
 use Rattle.document.specs.Lookup.{columnsAt}
 use Rattle.document.specs.Policy.{Policy}
-use Rattle.index.specs.Index.{Labels, Tables}
+use Rattle.index.specs.Labels.{Labels}
+use Rattle.index.specs.Tables.{Tables}
 use Rattle.walks.proofs.CellTurns.{CellsPassed, all-cells-passed, cells-turn, label-at, no-cells-passed}
 use Rattle.walks.specs.Walked.{KeepsRows}
 use Rattle.stepping.specs.Stored.{LineAt}

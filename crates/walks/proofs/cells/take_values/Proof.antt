@@ -8,7 +8,8 @@ use mathlib.Core.Path.{_∙_, _≡_, sym}
 use native.Mathlib.Omega.{arith}
 use Rattle.document.specs.Lookup.{columnsAt}
 use Rattle.document.specs.Policy.{Policy}
-use Rattle.index.specs.Index.{FillingRow, Tables}
+use Rattle.index.specs.Rows.{FillingRow}
+use Rattle.index.specs.Tables.{Tables}
 use Rattle.walks.proofs.ValueTurns.{ValuesPassed, all-values-passed, no-values-passed, values-turn}
 use Rattle.walks.specs.Walked.{KeepsRows}
 use Rattle.stepping.specs.Stored.{LineAt}

@@ -1,0 +1,52 @@
+-- How the workspace holds conditional roles: names from 0, roles from 64, the start and the end of the line from 128
+-- and 192, the place of the condition in it from 256.
+use Prim.Native.Nat.{_+_, _-_, _<_, _≤_, ℕ}
+use lib.ListN.{getD}
+use mathlib.Core.Bool.{Bool, true}
+use mathlib.Core.List.{List, []}
+use mathlib.Core.Option.{Option, none, some}
+use mathlib.Core.Path.{_≡_}
+use Rattle.condition.specs.Cond.{Cond, comparisons, mapCond, test}
+use Rattle.condition.specs.CondForm.{Compared, conditionInForm}
+use Rattle.condition.specs.Kinds.{eq}
+use Rattle.document.specs.Lookup.{attributeOf}
+use Rattle.document.specs.Meaning.{attributeComparison}
+use Rattle.document.specs.Policy.{CondRole, Policy}
+use Rattle.index.specs.Listed.{listed}
+use Rattle.lists.specs.Lists.{allOf, there}
+use Rattle.text.specs.Reader.{Left, from}
+use Rattle.text.specs.Words.{plainWord, wordAt}
+use Rattle.index.specs.Cells.{lineIn}
+
+-- a condition, where none was read: any will do
+unfoldable pub noCondition : Cond Compared
+noCondition = test (record { op = eq; operator = plainWord []; of = plainWord []; value = plainWord [] })
+
+-- the condition that was read
+unfoldable pub conditionRead : Option (Cond Compared × Left) → Cond Compared
+conditionRead none = noCondition
+conditionRead (some r) = r .0
+
+-- the condition that stands at a place of the line from a to e of the text, as read
+unfoldable pub conditionAt : List ℕ → ℕ → ℕ → ℕ → Cond Compared
+conditionAt text a e place = conditionRead (conditionInForm (from (lineIn text a e) place))
+
+-- that of the conditional role of number i
+unfoldable pub conditionIn : List ℕ → List ℕ → ℕ → Cond Compared
+conditionIn text ws i = conditionAt text (getD ws (128 + i) 0) (getD ws (192 + i) 0) (getD ws (256 + i) 0)
+
+-- the policy knows the attributes that the condition compares
+unfoldable pub attributesKnown : Policy → Cond Compared → Bool
+attributesKnown d c = allOf (λ x. there (attributeOf d (x .of))) (comparisons c)
+
+unfoldable pub condRoleIn : Policy → List ℕ → List ℕ → ℕ → CondRole
+condRoleIn d text ws i = record {
+  name = wordAt text (getD ws i 0);
+  role = getD ws (64 + i) 0;
+  condition = mapCond (attributeComparison d) (conditionIn text ws i);
+}
+
+pub record CondRoles (d : Policy) (text ws : List ℕ) (k : ℕ) (cs : List CondRole) : Type 0 where
+  pub few : k ≤ 64
+  pub are : listed (condRoleIn d text ws) k ≡ cs
+  pub known : (i : ℕ) → i < k → attributesKnown d (conditionIn text ws i) ≡ true

@@ -1,0 +1,65 @@
+-- How the workspace holds tables: names from 0, schemes from 8, the tables' labels from 16, the numbers of columns from
+-- 24; 16 places for each table: the columns' names from 32, types from 160, labels from 288.
+use Prim.Native.Nat.{_*_, _+_, _-_, _<_, _≤_, suc, zero, ℕ}
+use lib.ListN.{getD}
+use mathlib.Core.Bool.{Bool}
+use mathlib.Core.List.{List, [], _++_, _∷_}
+use mathlib.Core.Path.{_≡_}
+use Rattle.document.specs.Policy.{Column, Table}
+use Rattle.form.specs.Form.{Scheme, byCell, byColumn, byRow, byTable, unlabelled}
+use Rattle.index.specs.Listed.{listed}
+use Rattle.text.specs.Words.{wordAt}
+use Rattle.index.specs.declared.tables.SchemeCode.{SchemeCode}
+use Rattle.index.specs.declared.tables.SchemeCode.the-variants as code
+use Rattle.index.specs.Cells.{kindOfCell, kindSaid}
+
+unfoldable pub columnIn : List ℕ → List ℕ → ℕ → ℕ → Column
+columnIn text ws t c = record { name = wordAt text (getD ws (32 + 16 * t + c) 0); kind = kindOfCell (getD ws (160 + 16 * t + c) 0) }
+
+-- the label of column c of table t
+abbrev pub columnLabelIn : List ℕ → ℕ → ℕ → ℕ
+columnLabelIn ws t c = getD ws (288 + 16 * t + c) 0
+
+-- the scheme by its number, the label of the table, and those of the columns
+unfoldable pub schemeOfCell : ℕ → ℕ → List ℕ → Scheme ℕ
+schemeOfCell zero l ls = unlabelled
+schemeOfCell (suc zero) l ls = byTable l
+schemeOfCell (suc (suc zero)) l ls = byColumn ls
+schemeOfCell (suc (suc (suc zero))) l ls = byRow
+schemeOfCell (suc (suc (suc (suc n)))) l ls = byCell
+
+-- the scheme by the code's name for it, with the same labels
+unfoldable pub schemeBy : SchemeCode → ℕ → List ℕ → Scheme ℕ
+schemeBy code.Unlabelled l ls = unlabelled
+schemeBy code.ByTable l ls = byTable l
+schemeBy code.ByColumn l ls = byColumn ls
+schemeBy code.ByRow l ls = byRow
+schemeBy code.ByCell l ls = byCell
+
+unfoldable pub schemeIn : List ℕ → ℕ → Scheme ℕ
+schemeIn ws t = schemeOfCell (getD ws (8 + t) 0) (getD ws (16 + t) 0) (listed (columnLabelIn ws t) (getD ws (24 + t) 0))
+
+unfoldable pub tableIn : List ℕ → List ℕ → ℕ → Table
+tableIn text ws t = record { name = wordAt text (getD ws t 0); scheme = schemeIn ws t; columns = listed (columnIn text ws t) (getD ws (24 + t) 0) }
+
+pub record Tables (text ws : List ℕ) (k : ℕ) (ts : List Table) : Type 0 where
+  pub few : k ≤ 8
+  pub narrow : (t : ℕ) → t < k → getD ws (24 + t) 0 ≤ 16
+  pub are : listed (tableIn text ws) k ≡ ts
+
+-- the first c columns of table t and their labels, whatever its number of columns says: a table that is being written
+pub record Filling (text ws : List ℕ) (t c : ℕ) (cs : List Column) (ls : List ℕ) : Type 0 where
+  pub few : c ≤ 16
+  pub columns : listed (columnIn text ws t) c ≡ cs
+  pub labels : listed (columnLabelIn ws t) c ≡ ls
+
+-- column c of table t is stored: the tables before it stay, and the table has one column more
+pub record ColumnStored (before after : List ℕ) (t c pos : ℕ) (named : Bool) (label : ℕ) : Type 0 where
+  pub kept : (text : List ℕ) (k : ℕ) (ts : List Table) → k ≤ t → Tables text before k ts → Tables text after k ts
+  pub grown : (text : List ℕ) (cs : List Column) (ls : List ℕ) → t < 8 → c < 16 → Filling text before t c cs ls →
+      Filling text after t (c + 1) (cs ++ (record { name = wordAt text pos; kind = kindSaid named } ∷ [])) (ls ++ (label ∷ []))
+
+-- a number of places, as the code reads it: at most 16, and what is stored where that is no more
+pub record Cut (i room stored r : ℕ) : Type 0 where
+  pub few : r ≤ 16
+  pub is : i < room → stored ≤ 16 → r ≡ stored

@@ -1,0 +1,23 @@
+-- How the workspace holds users: names from 0, roles from 256, the start and the end of the line from 512 and 768, the
+-- place of the values in it from 1,024. What the values mean is said by the attributes of the policy d.
+use Prim.Native.Nat.{_+_, _≤_, ℕ}
+use lib.ListN.{getD}
+use mathlib.Core.List.{List, map}
+use mathlib.Core.Path.{_≡_}
+use Rattle.document.specs.Meaning.{givenOf}
+use Rattle.document.specs.Policy.{Policy, User}
+use Rattle.form.specs.Walks.{givensAt}
+use Rattle.index.specs.Listed.{listed}
+use Rattle.text.specs.Words.{wordAt}
+use Rattle.index.specs.Cells.{lineIn}
+
+unfoldable pub userIn : Policy → List ℕ → List ℕ → ℕ → User
+userIn d text ws i = record {
+  name = wordAt text (getD ws i 0);
+  role = getD ws (256 + i) 0;
+  values = map (givenOf d) (givensAt (lineIn text (getD ws (512 + i) 0) (getD ws (768 + i) 0)) (getD ws (1024 + i) 0));
+}
+
+pub record Users (d : Policy) (text ws : List ℕ) (k : ℕ) (us : List User) : Type 0 where
+  pub few : k ≤ 256
+  pub are : listed (userIn d text ws) k ≡ us
