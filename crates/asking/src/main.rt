@@ -2,11 +2,11 @@
 // query a line; the last line may lack its line feed. Prints each answer, or `(refused NUMBER query START LENGTH)`; for a refused
 // policy one such line with `document`, and stops. It stops too, and standard error says why, where something can't be read or
 // written: no query gets another's answer.
-use checker::documents::Checked;
-use checker::documents::check;
 use clock_line::read_clock;
 use gate::asking::Answered;
 use gate::asking::ask;
+use gate::documents::Checked;
+use gate::documents::check;
 use libc::STDIN_FILENO;
 use programs::input::Loaded;
 use programs::input::read_some;

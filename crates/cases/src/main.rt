@@ -1,8 +1,8 @@
 // The cases of the request that are not marked with a star: each is run and printed, and the output is held to the file stdout.
-use checker::documents::Checked;
-use checker::documents::check;
 use gate::asking::Answered;
 use gate::asking::ask;
+use gate::documents::Checked;
+use gate::documents::check;
 use libc::STDOUT_FILENO;
 use query::clock::Clock;
 use text::refusals::Refusal;

@@ -1,3 +1,2 @@
 -- What the check of a document gives. Assumes nothing.
 pub mod Loading
-pub mod Outcome

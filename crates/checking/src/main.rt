@@ -1,7 +1,7 @@
 // Checks the document in policy.txt, taken as empty where there is none, and writes what the check says: `(accepted LINES RESERVE)`,
 // or `(refused NUMBER document START LENGTH)`. Where the file can't be read, or nothing can be written, standard error says why.
-use checker::documents::Checked;
-use checker::documents::check;
+use gate::documents::Checked;
+use gate::documents::check;
 use programs::input::Loaded;
 use programs::lines;
 use programs::lines::accepted_line;

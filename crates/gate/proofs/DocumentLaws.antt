@@ -4,9 +4,9 @@ use mathlib.Core.List.{List}
 use mathlib.Core.Path.{subst, sym}
 use Rattle.answer.proofs.ReserveLaw.{reserve-60021}
 use Rattle.answer.specs.Reserve.{IsReserve}
-use Rattle.checker.specs.Outcome.{Checks, Reserved}
-use Rattle.checker.specs.declared.documents.Checked.{Checked}
-use Rattle.checker.specs.declared.documents.Checked.the-variants as checked
+use Rattle.gate.specs.Outcome.{Checks, Reserved}
+use Rattle.gate.specs.declared.documents.Checked.{Checked}
+use Rattle.gate.specs.declared.documents.Checked.the-variants as checked
 use Rattle.gate.specs.Reserved.{ChecksDocument, HasReserve}
 
 has-reserve : (doc : List ℕ) (r : Checked) → Reserved r → HasReserve doc r

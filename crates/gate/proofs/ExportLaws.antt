@@ -7,9 +7,9 @@ use native.Mathlib.Omega.{arith}
 use Rattle.answer.specs.Ask.{Outcome, ask, measure}
 use Rattle.answer.specs.Ask as meant
 use Rattle.answer.specs.Reserve.{IsReserve}
-use Rattle.checker.specs.Outcome.{Reserved, checkedAs, linesOnly}
-use Rattle.checker.specs.declared.documents.Checked.{Checked}
-use Rattle.checker.specs.declared.documents.Checked.the-variants as checked
+use Rattle.gate.specs.Outcome.{Reserved, checkedAs, linesOnly}
+use Rattle.gate.specs.declared.documents.Checked.{Checked}
+use Rattle.gate.specs.declared.documents.Checked.the-variants as checked
 use Rattle.document.specs.Check.{Accepted, check}
 use Rattle.gate.specs.Exports.{ExportsAsk, ExportsCheck, ExportsImport, ExportsMeasure, ExportsMeasureImport, Refuses, StoresLength, askFigures, checkFigures, codeOf, measureFigures}
 use Rattle.gate.specs.Outside.{Asks, Figures, Measures, answeredAs, figuresOf, inFigures, measuredAs}

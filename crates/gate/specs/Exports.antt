@@ -5,7 +5,7 @@ use mathlib.Core.List.{List, [], _∷_}
 use mathlib.Core.Path.{_≡_}
 use Rattle.answer.specs.Ask.{Answered, after, ask, measure}
 use Rattle.answer.specs.Reserve.{IsReserve}
-use Rattle.checker.specs.Outcome.{linesOnly}
+use Rattle.gate.specs.Outcome.{linesOnly}
 use Rattle.document.specs.Check.{Accepted, check}
 use Rattle.import.specs.Importing.{bufferAfter, importing, lengthOnly, measureImport}
 use Rattle.query.specs.Authority.{Clock}

@@ -2,9 +2,9 @@
 use Prim.Native.Nat.{ℕ}
 use mathlib.Core.List.{List}
 use Rattle.answer.specs.Reserve.{IsReserve}
-use Rattle.checker.specs.Outcome.{Checks}
-use Rattle.checker.specs.declared.documents.Checked.{Checked}
-use Rattle.checker.specs.declared.documents.Checked.the-variants as checked
+use Rattle.gate.specs.Outcome.{Checks}
+use Rattle.gate.specs.declared.documents.Checked.{Checked}
+use Rattle.gate.specs.declared.documents.Checked.the-variants as checked
 
 -- the second number that an accepted document hands back is a reserve of it
 unfoldable pub HasReserve : List ℕ → Checked → Type 0

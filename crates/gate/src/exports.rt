@@ -1,10 +1,10 @@
 // The gate for hosts in C or Rust: a code, which is 0 or a refusal's number, and five figures.
 use crate::asking::Answered;
 use crate::asking::ask;
+use crate::documents::Checked;
 use crate::documents::check;
 use crate::measuring::Measured;
 use crate::measuring::measure;
-use checker::documents::Checked;
 use import::importing::Imported;
 use import::importing::import_rows;
 use import::importing::measure_rows;

@@ -5,8 +5,8 @@ use mathlib.Core.Path.{_≡_}
 use Rattle.document.specs.Check.{Accepted, check}
 use Rattle.text.specs.Reasons.{refusalOf}
 use Rattle.text.specs.Refusal.{Result, accepted, refused}
-use Rattle.checker.specs.declared.documents.Checked.{Checked}
-use Rattle.checker.specs.declared.documents.Checked.the-variants as checked
+use Rattle.gate.specs.declared.documents.Checked.{Checked}
+use Rattle.gate.specs.declared.documents.Checked.the-variants as checked
 
 -- the outcome that the answer stands for: a refusal, or the number of lines
 unfoldable pub checkedAs : Checked → Result ℕ
