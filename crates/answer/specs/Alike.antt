@@ -1,4 +1,4 @@
--- When two documents are alike for a query (01, "The no-difference claim"). Which cells may differ is said by the policy
+-- Meaning: when two documents are alike for a query (01, "The no-difference claim"). Which cells may differ is said by the policy
 -- and the labels of the rows, which alike documents share.
 use Prim.Native.Nat.{suc, ℕ}
 use lib.Dec.{eqb}

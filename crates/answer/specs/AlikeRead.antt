@@ -1,4 +1,4 @@
--- Lines that differ in free values only, said of the lines at each position, by their parts and as they are read: documents
+-- Meaning: lines that differ in free values only, said of the lines at each position, by their parts and as they are read: documents
 -- of such lines are alike (proofs/AlikeComplete).
 use Prim.Native.Nat.{ℕ}
 use lib.ListN.{getElem?, length}

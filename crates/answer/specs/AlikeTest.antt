@@ -1,4 +1,4 @@
--- Whether two documents are alike for a query, as a test that computes. That it holds exactly when they are `Alike` is proved
+-- Meaning: whether two documents are alike for a query, as a test that computes. That it holds exactly when they are `Alike` is proved
 -- (proofs/AlikeDecided), and so it can be tried on examples, both ways (proofs/AlikeWitnesses).
 use Prim.Native.Nat.{suc, ℕ}
 use lib.Dec.{eqb}

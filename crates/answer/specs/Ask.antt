@@ -1,4 +1,4 @@
--- Asking (01, "Asking"): the outcome of a query over a document, and the lent buffer afterwards.
+-- Meaning: asking (01, "Asking"): the outcome of a query over a document, and the lent buffer afterwards.
 use Prim.Native.Nat.{ℕ}
 use lib.Dec.{ltb}
 use lib.ListN.{drop, length, take}

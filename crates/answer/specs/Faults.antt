@@ -1,4 +1,4 @@
--- Which refusal is given (01, "Asking"): the conditions of 10 to 18 as a list, of which the earliest that holds counts.
+-- Meaning: which refusal is given (01, "Asking"): the conditions of 10 to 18 as a list, of which the earliest that holds counts.
 use Prim.Native.Nat.{ℕ}
 use lib.Dec.{ltb}
 use lib.ListN.{length}

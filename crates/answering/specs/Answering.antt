@@ -1,4 +1,4 @@
--- What answering gives: the answer's length and counts; and the lent buffer afterwards.
+-- Contract: what answering gives: the answer's length and counts; and the lent buffer afterwards.
 use lib.Dec.{ltb}
 use lib.ListN.{drop, length}
 use mathlib.Core.Bool.{cond}

@@ -1,4 +1,4 @@
--- What becomes of a row, what the arrays say of its cells, and the comparisons as they are read before the rows.
+-- Contract: what becomes of a row, what the arrays say of its cells, and the comparisons as they are read before the rows.
 use Prim.Native.Nat.{_*_, _+_, _<_, _≤_, suc, zero, ℕ}
 use lib.Dec.{eqb}
 use lib.ListN.{getD, getElem?, length, take}

@@ -1,4 +1,4 @@
--- The lines that an answer consists of, from the marks of its rows.
+-- Contract: the lines that an answer consists of, from the marks of its rows.
 use Prim.Native.Nat.{ℕ}
 use lib.ListN.{getD}
 use mathlib.Core.Bool.{Bool, cond, false}

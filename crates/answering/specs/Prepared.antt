@@ -1,4 +1,4 @@
--- A query prepared for the rows: what the lent arrays say of it.
+-- Contract: A query prepared for the rows: what the lent arrays say of it.
 use Prim.Native.Nat.{_+_, _<_, _≤_, ℕ}
 use lib.Dec.{eqb}
 use lib.ListN.{drop, getD, getElem?, length, take}

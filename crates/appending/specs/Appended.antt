@@ -1,4 +1,4 @@
--- The row lines of a file's records behind a document (02, Q-1: "desks want them as row lines"): when both together are
+-- Meaning: the row lines of a file's records behind a document (02, Q-1: "desks want them as row lines"): when both together are
 -- accepted, and what they mean.
 use Prim.Native.Nat.{_+_, _≤_, ℕ}
 use lib.Dec.{eqb}

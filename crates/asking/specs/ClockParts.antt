@@ -1,4 +1,4 @@
--- What the answers of the functions stand for that read parts of a clock line; these are not called from outside. A number above
+-- Contract: what the answers of the functions stand for that read parts of a clock line; these are not called from outside. A number above
 -- 2^63 is not kept, and so each answer says of what it has not read only that no clock in range has it.
 use Prim.Native.Nat.{_^_, ℕ}
 use lib.Dec.{leb}

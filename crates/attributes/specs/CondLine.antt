@@ -1,4 +1,4 @@
--- A line of a conditional role, whose condition stands at a place of it: what its fault finder gives.
+-- Contract: A line of a conditional role, whose condition stands at a place of it: what its fault finder gives.
 use Prim.Native.Nat.{ℕ}
 use mathlib.Core.List.{List}
 use mathlib.Core.Option.{none, some}

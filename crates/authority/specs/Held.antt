@@ -1,4 +1,4 @@
--- Which conditions of conditional roles hold for a user.
+-- Contract: which conditions of conditional roles hold for a user.
 use Prim.Native.Nat.{ℕ}
 use lib.ListN.{getD, getElem?}
 use mathlib.Core.Bool.{Bool, false, true}

@@ -1,4 +1,4 @@
--- The tree of purposes, as it stands in the array.
+-- Contract: the tree of purposes, as it stands in the array.
 use Prim.Native.Nat.{_+_, suc, zero, ℕ}
 use lib.ListN.{getD}
 use mathlib.Core.List.{List}

@@ -1,4 +1,4 @@
--- A user's values by the numbers of the attributes: where each stands in the user's line.
+-- Contract: A user's values by the numbers of the attributes: where each stands in the user's line.
 use Prim.Native.Nat.{_+_, _<_, suc, zero, ℕ}
 use lib.Dec.{eqb}
 use lib.ListN.{getD, set}

@@ -1,4 +1,4 @@
--- What the check of a document into lent arrays answers: the refusal, or how many of each kind the arrays hold then.
+-- Contract: what the check of a document into lent arrays answers: the refusal, or how many of each kind the arrays hold then.
 use Prim.Native.Nat.{_≤_, ℕ}
 use lib.ListN.{length}
 use mathlib.Core.List.{List}

@@ -1,4 +1,4 @@
--- What the code's answers stand for.
+-- Contract: what the code's answers stand for.
 use Prim.Native.Nat.{_+_, _<_, _≤_, suc, ℕ}
 use lib.Dec.{eqb}
 use lib.ListN.{getD, length, take}

@@ -1,4 +1,4 @@
--- 3, a bound exceeded; 6, a second root purpose; 9, an attr line after a user line (01, "Checking a document").
+-- Meaning: 3, a bound exceeded; 6, a second root purpose; 9, an attr line after a user line (01, "Checking a document").
 use Prim.Native.Nat.{_+_}
 use lib.Dec.{leb, ltb}
 use lib.ListN.{length}

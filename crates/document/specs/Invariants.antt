@@ -1,4 +1,4 @@
--- What every accepted document has, and every document on the way to it: what contracts between our crates assume of a document. That
+-- Meaning: what every accepted document has, and every document on the way to it: what contracts between our crates assume of a document. That
 -- the check gives it is proved: document/proofs/Formed `formed`, UniqueNames `unique-names`.
 use Prim.Native.Nat.{_≤_, ℕ}
 use lib.Dec.{eqb}

@@ -1,4 +1,4 @@
--- Names that a policy knows, by number, and what they name. Every comparison of names is `isCalled`.
+-- Meaning: names that a policy knows, by number, and what they name. Every comparison of names is `isCalled`.
 use Prim.Native.Nat.{ℕ}
 use lib.Dec.{eqb}
 use lib.ListN.{getElem?}

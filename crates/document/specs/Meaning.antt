@@ -1,4 +1,4 @@
--- What a line adds to the document (01, "Document forms"); every name in the line is known.
+-- Meaning: what a line adds to the document (01, "Document forms"); every name in the line is known.
 use Prim.Native.Nat.{ℕ}
 use lib.ListN.{length}
 use mathlib.Core.List.{List, [], _++_, _∷_, map}

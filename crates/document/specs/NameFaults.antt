@@ -1,4 +1,4 @@
--- 4, name taken; 5, name unknown (01, "Checking a document").
+-- Meaning: 4, name taken; 5, name unknown (01, "Checking a document").
 use Prim.Native.Nat.{ℕ}
 use mathlib.Core.Bool.{Bool, _||_, cond}
 use mathlib.Core.List.{List, [], _++_, _∷_, map}

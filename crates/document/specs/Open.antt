@@ -1,4 +1,4 @@
--- What is open to a purpose, by the scheme of a table (01, "Queries": query modification). `isOpen` is the test of a label,
+-- Meaning: what is open to a purpose, by the scheme of a table (01, "Queries": query modification). `isOpen` is the test of a label,
 -- given by its number; a label that is not there is closed.
 use Prim.Native.Nat.{ℕ}
 use lib.ListN.{getElem?}

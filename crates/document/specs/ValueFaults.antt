@@ -1,4 +1,4 @@
--- 7, a row or user without the right count or set of values, or row items not shaped for the table's scheme (01, "Checking
+-- Meaning: 7, a row or user without the right count or set of values, or row items not shaped for the table's scheme (01, "Checking
 -- a document").
 use Prim.Native.Nat.{ℕ}
 use lib.Dec.{eqb}

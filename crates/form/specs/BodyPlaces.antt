@@ -1,4 +1,4 @@
--- What the answers of the functions stand for that read parts of a line; these are not called from outside. Each contract says
+-- Contract: what the answers of the functions stand for that read parts of a line; these are not called from outside. Each contract says
 -- that the reader gives what the code's answer stands for, and that every position lies in the line.
 use Prim.Native.Nat.{_≤_, ℕ}
 use lib.Dec.{eqb}

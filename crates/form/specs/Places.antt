@@ -1,4 +1,4 @@
--- What the code's answer for a line stands for: the positions of the line's words and lists, decoded back into its form. The
+-- Contract: what the code's answer for a line stands for: the positions of the line's words and lists, decoded back into its form. The
 -- contract of read_line says that this is the form that the line is, and that every position lies in the line.
 use Prim.Native.Nat.{_≤_, ℕ}
 use lib.ListN.{length}

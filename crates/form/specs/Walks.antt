@@ -1,4 +1,4 @@
--- Lists of a line by the positions where they stand: what code walks through after the line was read.
+-- Contract: lists of a line by the positions where they stand: what code walks through after the line was read.
 use Prim.Native.Nat.{_+_, suc, zero, ℕ}
 use lib.Dec.{eqb}
 use lib.ListN.{getD, length}

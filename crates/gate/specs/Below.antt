@@ -1,4 +1,4 @@
--- What asking one select for two purposes gives: where the second is below the first, its rows contain the first's (02, Q-6).
+-- Contract: what asking one select for two purposes gives: where the second is below the first, its rows contain the first's (02, Q-6).
 use Prim.Native.Nat.{_≤_, ℕ}
 use lib.ListN.{length}
 use mathlib.Core.List.{List}

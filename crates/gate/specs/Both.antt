@@ -1,4 +1,4 @@
--- What asking two documents gives: where they are alike for the query, one answer (01, "The no-difference claim").
+-- Meaning: what asking two documents gives: where they are alike for the query, one answer (01, "The no-difference claim").
 use Prim.Native.Nat.{ℕ}
 use mathlib.Core.List.{List}
 use mathlib.Core.Path.{_≡_}

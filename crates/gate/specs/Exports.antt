@@ -1,4 +1,4 @@
--- What the exported functions hand to a host (01, "Asking"; 02, Q-1 and Q-4): a code, and five figures.
+-- Meaning: what the exported functions hand to a host (01, "Asking"; 02, Q-1 and Q-4): a code, and five figures.
 use Prim.Native.Nat.{ℕ}
 use lib.ListN.{getD, length}
 use mathlib.Core.List.{List, [], _∷_}

@@ -1,4 +1,4 @@
--- What the checker answers for a document (01, "Checking a document"): the outcome of the check, and the reserve.
+-- Meaning: what the checker answers for a document (01, "Checking a document"): the outcome of the check, and the reserve.
 use Prim.Native.Nat.{ℕ}
 use mathlib.Core.List.{List}
 use mathlib.Core.Path.{_≡_}

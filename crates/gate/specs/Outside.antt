@@ -1,4 +1,4 @@
--- What the gate's outside functions answer (01, "Asking"): the figures of an outcome, and the lent buffer afterwards.
+-- Meaning: what the gate's outside functions answer (01, "Asking"): the figures of an outcome, and the lent buffer afterwards.
 use Prim.Native.Nat.{ℕ}
 use lib.Dec.{ltb}
 use lib.ListN.{length}

@@ -1,4 +1,4 @@
--- What the gate answers for a document (01, "Checking a document"): the outcome of the check, and a reserve.
+-- Meaning: what the gate answers for a document (01, "Checking a document"): the outcome of the check, and a reserve.
 use Prim.Native.Nat.{ℕ}
 use mathlib.Core.List.{List}
 use Rattle.answer.specs.Reserve.{IsReserve}

@@ -1,4 +1,4 @@
--- What the gate's functions know of the document and of the query, from one to the next; these are not called from outside.
+-- Contract: what the gate's functions know of the document and of the query, from one to the next; these are not called from outside.
 use Prim.Native.Nat.{_<_, _≤_, ℕ}
 use lib.ListN.{length, take}
 use mathlib.Core.Bool.{Bool, true}

@@ -1,4 +1,4 @@
--- The tails of asking: what is left of it from one of the refusals 10 to 17 on, the lent buffer's length aside.
+-- Contract: the tails of asking: what is left of it from one of the refusals 10 to 17 on, the lent buffer's length aside.
 use Prim.Native.Nat.{ℕ}
 use mathlib.Core.Bool.{not}
 use mathlib.Core.List.{List}

@@ -1,4 +1,4 @@
--- Fields of a comma-separated file (02, Q-1; RFC 4180). Readers are those of bracket texts.
+-- Meaning: fields of a comma-separated file (02, Q-1; RFC 4180). Readers are those of bracket texts.
 use Prim.Native.Nat.{suc, ℕ}
 use lib.Dec.{eqb}
 use lib.ListN.{length}

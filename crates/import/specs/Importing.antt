@@ -1,4 +1,4 @@
--- Importing a comma-separated file as row lines (02, Q-1): 19, 20 and 21 in that order, the lines, and the lent buffer afterwards.
+-- Meaning: importing a comma-separated file as row lines (02, Q-1): 19, 20 and 21 in that order, the lines, and the lent buffer afterwards.
 use Prim.Native.Nat.{ℕ}
 use lib.Dec.{ltb}
 use lib.ListN.{drop, length}

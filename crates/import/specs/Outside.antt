@@ -1,4 +1,4 @@
--- What the outside functions hand back (02, Q-1): each of their enums, as a function of what the definitions give, and the buffer.
+-- Meaning: what the outside functions hand back (02, Q-1): each of their enums, as a function of what the definitions give, and the buffer.
 use Prim.Native.Nat.{ℕ}
 use lib.Dec.{leb}
 use lib.ListN.{length}

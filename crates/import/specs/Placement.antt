@@ -1,4 +1,4 @@
--- What the functions say that write row lines: they go by the file's positions, and are right where the file was read there and its fields are names and numbers.
+-- Contract: what the functions say that write row lines: they go by the file's positions, and are right where the file was read there and its fields are names and numbers.
 use Prim.Native.Nat.{_+_, _-_, _<_, _≤_, ℕ}
 use lib.ListN.{drop, length}
 use mathlib.Core.Bool.{true}

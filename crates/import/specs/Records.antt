@@ -1,4 +1,4 @@
--- Records of a comma-separated file (02, Q-1; RFC 4180): fields with commas between them, and a line ending or the file's end.
+-- Meaning: records of a comma-separated file (02, Q-1; RFC 4180): fields with commas between them, and a line ending or the file's end.
 use Prim.Native.Nat.{suc, zero, ℕ}
 use lib.Dec.{eqb}
 use lib.ListN.{length}

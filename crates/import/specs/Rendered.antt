@@ -1,4 +1,4 @@
--- Comma-separated files as RFC 4180 lets them be written: what the theorems of proofs/Rendered and proofs/WrittenSo speak of.
+-- Meaning: comma-separated files as RFC 4180 lets them be written: what the theorems of proofs/Rendered and proofs/WrittenSo speak of.
 use Prim.Native.Nat.{ℕ}
 use lib.Dec.{eqb}
 use lib.ListN.{length}

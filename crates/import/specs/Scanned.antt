@@ -1,4 +1,4 @@
--- What the answers of the scanning code stand for: each of its enums, as a function of what the definitions give.
+-- Contract: what the answers of the scanning code stand for: each of its enums, as a function of what the definitions give.
 use Prim.Native.Nat.{_+_, suc, ℕ}
 use lib.Dec.{eqb}
 use lib.ListN.{length}

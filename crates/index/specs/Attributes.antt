@@ -1,4 +1,4 @@
--- How the workspace holds attributes but the clock's: names from 0, roles from 32, types from 64.
+-- Contract: how the workspace holds attributes but the clock's: names from 0, roles from 32, types from 64.
 use Prim.Native.Nat.{_+_, _≤_, ℕ}
 use lib.ListN.{getD}
 use mathlib.Core.List.{List, _++_}

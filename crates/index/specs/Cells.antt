@@ -1,4 +1,4 @@
--- Lines and types as the workspace holds them.
+-- Contract: lines and types as the workspace holds them.
 use Prim.Native.Nat.{_-_, suc, zero, ℕ}
 use lib.ListN.{drop, take}
 use mathlib.Core.Bool.{Bool, false, true}

@@ -1,4 +1,4 @@
--- What the code finds by a name: a number, or nothing.
+-- Contract: what the code finds by a name: a number, or nothing.
 use Prim.Native.Nat.{_-_, _<_, ℕ}
 use mathlib.Core.Option.{Option, none, some}
 use Rattle.condition.specs.Kinds.{names}

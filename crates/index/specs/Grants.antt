@@ -1,4 +1,4 @@
--- How the workspace holds grants: purposes from 0, conditional roles from 128.
+-- Contract: how the workspace holds grants: purposes from 0, conditional roles from 128.
 use Prim.Native.Nat.{_+_, _≤_, ℕ}
 use lib.ListN.{getD}
 use mathlib.Core.List.{List}

@@ -1,4 +1,4 @@
--- A name's hash, by which purposes and roles are looked up. What is found does not depend on it: only how many names are compared.
+-- Contract: A name's hash, by which purposes and roles are looked up. What is found does not depend on it: only how many names are compared.
 use Prim.Native.Nat.{_%_, _*_, _+_, ℕ}
 use lib.ListN.{length}
 use mathlib.Core.List.{List, [], _∷_}

@@ -1,4 +1,4 @@
--- How the workspace holds labels: names from 0; in an array of words the allowed sets from 0 and the denied ones behind
+-- Contract: how the workspace holds labels: names from 0; in an array of words the allowed sets from 0 and the denied ones behind
 -- 64 of them.
 use Prim.Native.Nat.{_*_, _+_, _-_, _<_, _≤_, ℕ}
 use lib.ListN.{drop, getD, getElem?, take}

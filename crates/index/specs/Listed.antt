@@ -1,4 +1,4 @@
--- Lists by what stands at each number.
+-- Contract: lists by what stands at each number.
 use Prim.Native.Nat.{suc, zero, ℕ}
 use mathlib.Core.List.{List, [], _++_, _∷_}
 

@@ -1,4 +1,4 @@
--- How the workspace holds purposes and roles: names from 0, parents from `room`, the names' hashes from twice `room`;
+-- Contract: how the workspace holds purposes and roles: names from 0, parents from `room`, the names' hashes from twice `room`;
 -- behind them a slot for each hash, with the number of the first name that has it. A slot of a hash that no name has
 -- may hold anything.
 use Prim.Native.Nat.{_*_, _+_, _-_, _<_, _≤_, ℕ}

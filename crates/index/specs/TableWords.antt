@@ -1,4 +1,4 @@
--- A table line by the code's name for its scheme and the places of its words.
+-- Contract: A table line by the code's name for its scheme and the places of its words.
 use Prim.Native.Nat.{ℕ}
 use mathlib.Core.Bool.{Bool, false, true}
 use mathlib.Core.List.{List}

@@ -1,4 +1,4 @@
--- How the workspace holds users: names from 0, roles from 256, the start and the end of the line from 512 and 768, the
+-- Contract: how the workspace holds users: names from 0, roles from 256, the start and the end of the line from 512 and 768, the
 -- place of the values in it from 1,024. What the values mean is said by the attributes of the policy d.
 use Prim.Native.Nat.{_+_, _≤_, ℕ}
 use lib.ListN.{getD}

@@ -1,4 +1,4 @@
--- How the workspace holds the document so far.
+-- Contract: how the workspace holds the document so far.
 use Prim.Native.Nat.{ℕ}
 use mathlib.Core.List.{List}
 use Rattle.document.specs.Policy.{Doc}

@@ -1,4 +1,4 @@
--- Lists of which no two elements are the same, by a test that need not be equality. Assumes nothing.
+-- Meaning: lists of which no two elements are the same, by a test that need not be equality. Assumes nothing.
 use Prim.Native.Nat.{ℕ}
 use lib.ListN.{getElem?}
 use mathlib.Core.Bool.{Bool, true}

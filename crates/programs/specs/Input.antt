@@ -1,4 +1,4 @@
--- What reading to the end of an input promises: what it says of the buffer. Of the bytes that are read no contract can speak.
+-- Contract: what reading to the end of an input promises: what it says of the buffer. Of the bytes that are read no contract can speak.
 use Prim.Native.Nat.{ℕ}
 use mathlib.Core.List.{List}
 use Rattle.io.specs.Counts.{Counts}

@@ -1,4 +1,4 @@
--- The line that programs print beside a refusal's (answer/specs/Session).
+-- Contract: the line that programs print beside a refusal's (answer/specs/Session).
 use Prim.Native.Nat.{ℕ}
 use mathlib.Core.List.{List, _++_, _∷_}
 use Rattle.text.specs.Bytes.{ascii}

@@ -1,4 +1,4 @@
--- What the code's answers stand for: the clock that it was given, and the query that a text is, by the places of the query's
+-- Contract: what the code's answers stand for: the clock that it was given, and the query that a text is, by the places of the query's
 -- words. The contract of read_query says that this is the query of QueryForm, and that every place lies in the text.
 use Prim.Native.Nat.{_≤_, ℕ}
 use lib.ListN.{length}

@@ -1,4 +1,4 @@
--- What the answers of the functions stand for that read parts of a query; these are not called from outside. Each contract says
+-- Contract: what the answers of the functions stand for that read parts of a query; these are not called from outside. Each contract says
 -- that the reader gives what the code's answer stands for, and that every place lies in the text.
 use Prim.Native.Nat.{ℕ}
 use lib.Dec.{leb}

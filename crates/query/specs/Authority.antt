@@ -1,4 +1,4 @@
--- Clock and authority (01, "Clock and authority"; 001, definition 8).
+-- Meaning: clock and authority (01, "Clock and authority"; 001, definition 8).
 use Prim.Native.Nat.{_%_, ℕ}
 use lib.Dec.{eqb, leb}
 use lib.ListN.{getElem?}

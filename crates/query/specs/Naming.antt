@@ -1,4 +1,4 @@
--- What the code stores of the words that name columns: their places, from left to right.
+-- Contract: what the code stores of the words that name columns: their places, from left to right.
 use Prim.Native.Nat.{_+_, _≤_, ℕ}
 use lib.ListN.{length, take}
 use mathlib.Core.List.{List, _++_, map}

@@ -1,4 +1,4 @@
--- Queries resolved against a policy, and the faults 12 and 15 to 17 (01, "Queries" and "Asking").
+-- Meaning: queries resolved against a policy, and the faults 12 and 15 to 17 (01, "Queries" and "Asking").
 use Prim.Native.Nat.{ℕ}
 use mathlib.Core.Bool.{Bool}
 use mathlib.Core.List.{List, [], _++_, _∷_, map}

@@ -1,4 +1,4 @@
--- What the code's answers stand for that resolve the names of a query.
+-- Contract: what the code's answers stand for that resolve the names of a query.
 use Prim.Native.Nat.{ℕ}
 use lib.ListN.{take}
 use mathlib.Core.Bool.{true}

@@ -1,4 +1,4 @@
--- The words of a row's items by the positions where they stand.
+-- Contract: the words of a row's items by the positions where they stand.
 use Prim.Native.Nat.{ℕ}
 use mathlib.Core.Bool.{Bool, false, true}
 use mathlib.Core.List.{List}

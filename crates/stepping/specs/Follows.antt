@@ -1,4 +1,4 @@
--- What the answer to one line stands for.
+-- Contract: what the answer to one line stands for.
 use Prim.Native.Nat.{ℕ}
 use mathlib.Core.Bool.{Bool, false, true}
 use mathlib.Core.List.{List}

@@ -1,4 +1,4 @@
--- What the code's answer to a line stands for: the outcome of its check (01, "Checking a document").
+-- Contract: what the code's answer to a line stands for: the outcome of its check (01, "Checking a document").
 use Prim.Native.Nat.{_<_, _≤_, ℕ}
 use lib.ListN.{length}
 use mathlib.Core.List.{List}

@@ -1,4 +1,4 @@
--- Places of a line as the code answers them.
+-- Contract: places of a line as the code answers them.
 use Prim.Native.Nat.{_≤_, ℕ}
 use lib.ListN.{length}
 use mathlib.Core.List.{List}

@@ -1,4 +1,4 @@
--- What storing an accepted line in the workspace takes: where the line stands in the text, and that its check finds nothing wrong.
+-- Contract: what storing an accepted line in the workspace takes: where the line stands in the text, and that its check finds nothing wrong.
 use Prim.Native.Nat.{_+_, _≤_, ℕ}
 use lib.ListN.{drop, length}
 use mathlib.Core.List.{List, [], _++_}

@@ -1,4 +1,4 @@
--- The scheme that a table line names, as the workspace has it.
+-- Contract: the scheme that a table line names, as the workspace has it.
 use Prim.Native.Nat.{ℕ}
 use Rattle.form.specs.declared.lines.Scheme.{Scheme}
 use Rattle.form.specs.declared.lines.Scheme.the-variants as scheme

@@ -1,4 +1,4 @@
--- A table line by the places of its words: its scheme and its columns, and what its fault finder gives.
+-- Contract: A table line by the places of its words: its scheme and its columns, and what its fault finder gives.
 use Prim.Native.Nat.{_≤_, ℕ}
 use lib.ListN.{length}
 use mathlib.Core.Bool.{Bool, false, true}

@@ -1,4 +1,4 @@
--- What the code's answers stand for: each of its enums, as a function of what the reader or the definition gives. A contract says
+-- Contract: what the code's answers stand for: each of its enums, as a function of what the reader or the definition gives. A contract says
 -- `r ≡ wordEnd (name (from s at))`: the code's answer r is what the reader of names gives at the position `at` of the text s.
 use Prim.Native.Nat.{_^_, ℕ}
 use lib.Dec.{eqb, leb}

@@ -1,4 +1,4 @@
--- Names (01, "Bracket texts"): which bytes are one, and when two are the same.
+-- Meaning: names (01, "Bracket texts"): which bytes are one, and when two are the same.
 use Prim.Native.Nat.{ℕ}
 use lib.Dec.{eqb, leb}
 use lib.ListN.{length}

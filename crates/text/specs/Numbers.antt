@@ -1,4 +1,4 @@
--- Numbers (01, "Bracket texts"): decimal, from -2^63 to 2^63-1, no leading zeros, no `-0`. A number is held as its rank, its
+-- Meaning: numbers (01, "Bracket texts"): decimal, from -2^63 to 2^63-1, no leading zeros, no `-0`. A number is held as its rank, its
 -- distance from the least one: ranks stand in the order of the numbers, and none is negative.
 use Prim.Native.Nat.{_%_, _*_, _+_, _-_, _/_, _^_, suc, zero, ℕ}
 use lib.Dec.{eqb, leb, ltb}

@@ -1,4 +1,4 @@
--- Readers: what each reads at the front of what is left of a text, and what is left then. They are put together with `do`.
+-- Meaning: readers: what each reads at the front of what is left of a text, and what is left then. They are put together with `do`.
 use Prim.Native.Nat.{_+_, ℕ}
 use lib.Dec.{eqb}
 use lib.ListN.{drop}

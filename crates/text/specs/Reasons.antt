@@ -1,4 +1,4 @@
--- What the code's refusals stand for (01, "Checking a document" and "Asking"; 02, Q-1): the number of each case.
+-- Meaning: what the code's refusals stand for (01, "Checking a document" and "Asking"; 02, Q-1): the number of each case.
 use Prim.Native.Nat.{ℕ}
 use Rattle.text.specs.Refusal as meant
 use Rattle.text.specs.declared.refusals.Reason.{Reason}

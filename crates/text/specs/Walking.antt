@@ -1,4 +1,4 @@
--- Going on through a text from a position: the steps by which code walks through lists that were read before. Each is total:
+-- Contract: going on through a text from a position: the steps by which code walks through lists that were read before. Each is total:
 -- where the byte that it steps over is not there, it stays.
 use Prim.Native.Nat.{_+_, ℕ}
 use lib.Dec.{eqb, ltb}

@@ -1,4 +1,4 @@
--- A purpose line below another that is taken in one walk: it is that form, the check finds nothing wrong, and the purpose stands in the
+-- Contract: A purpose line below another that is taken in one walk: it is that form, the check finds nothing wrong, and the purpose stands in the
 -- workspace.
 use Prim.Native.Nat.{_+_, _≤_, ℕ}
 use lib.Dec.{eqb}

@@ -1,4 +1,4 @@
--- A row line that is taken in one walk: it is a row form, the check finds nothing wrong, and the row stands in the workspace.
+-- Contract: A row line that is taken in one walk: it is a row form, the check finds nothing wrong, and the row stands in the workspace.
 use Prim.Native.Nat.{_+_, ℕ}
 use lib.Dec.{eqb}
 use lib.ListN.{getD, length}

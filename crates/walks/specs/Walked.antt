@@ -1,4 +1,4 @@
--- What one walk over the items of a row line finds and stores; for the functions that are not called from outside.
+-- Contract: what one walk over the items of a row line finds and stores; for the functions that are not called from outside.
 use Prim.Native.Nat.{_+_, ℕ}
 use lib.Dec.{eqb}
 use lib.ListN.{drop, getD, length}

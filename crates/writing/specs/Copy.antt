@@ -1,4 +1,4 @@
--- Copying a word of a text into a lent buffer.
+-- Contract: copying a word of a text into a lent buffer.
 use Prim.Native.Nat.{_+_, ℕ}
 use lib.ListN.{length}
 use mathlib.Core.List.{List}

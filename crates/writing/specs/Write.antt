@@ -1,4 +1,4 @@
--- Writing into a lent buffer: bytes past its end are counted and not stored.
+-- Contract: writing into a lent buffer: bytes past its end are counted and not stored.
 use Prim.Native.Nat.{_+_, _<_, _^_, ℕ}
 use lib.ListN.{length}
 use lib.Seq.{sets}
