@@ -17,7 +17,7 @@
  *
  * What the calls give is proved for every input, as crates/gate/specs/Exports.antt says it (ExportsCheck, ExportsAsk,
  * ExportsMeasure, ExportsImport, ExportsMeasureImport). That the caller keeps to the list above is not: a call that breaks it is
- * undefined. Nothing outside the library is called but memset.
+ * undefined. Nothing outside the library is called but memset and memcpy.
  */
 #ifndef GATE_H
 #define GATE_H

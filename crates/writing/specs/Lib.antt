@@ -1,3 +1,2 @@
 -- What writing into a lent buffer gives. Assumes nothing.
 pub mod Write
-pub mod Copy

@@ -5,17 +5,10 @@ use text::bytes::is_name_byte;
 ghost use mathlib.Core.List.{[], _∷_};
 ghost use Rattle.text.specs.Numbers.{decimal};
 ghost use Rattle.text.specs.Words.{wordAt};
-ghost use Rattle.writing.specs.Copy.{CopiesWord};
 ghost use Rattle.writing.specs.Write.{Wrote};
 
 // The largest place that counting comes to, so that no place wraps: no buffer reaches it.
 const MOST: usize = 9223372036854775807;
-
-// Where the next byte goes, and where to read on.
-pub struct Copied {
-    pub to: usize,
-    pub from: usize,
-}
 
 // Writes one byte.
 pub fn put_byte(out: &mut [u8], at: usize, b: u8) -> usize
@@ -44,9 +37,9 @@ pub fn put_bytes(out: &mut [u8], at: usize, s: &[u8]) -> usize
     to
 }
 
-// Writes the word that stands at a place of a text. Gives where it ends there, too, so that a reader need not walk it again.
-pub fn copy_word(out: &mut [u8], at: usize, text: &[u8], start: usize) -> Copied
-    ensures { λ r. ⌜ CopiesWord (now (out .entry)) at (now (text .entry)) start (now (out .exit)) r ⌝ }
+// Writes the word that stands at a place of a text.
+pub fn put_word(out: &mut [u8], at: usize, text: &[u8], start: usize) -> usize
+    ensures { λ r. ⌜ Wrote (now (out .entry)) at (wordAt (now (text .entry)) start) (now (out .exit)) r ⌝ }
 {
     let mut to = at;
     let mut i = start;
@@ -54,15 +47,7 @@ pub fn copy_word(out: &mut [u8], at: usize, text: &[u8], start: usize) -> Copied
         to = put_byte(out, to, byte_at(text, i));
         i += 1;
     }
-    Copied { to, from: i }
-}
-
-// Writes the word that stands at a place of a text.
-pub fn put_word(out: &mut [u8], at: usize, text: &[u8], start: usize) -> usize
-    ensures { λ r. ⌜ Wrote (now (out .entry)) at (wordAt (now (text .entry)) start) (now (out .exit)) r ⌝ }
-{
-    let c = copy_word(out, at, text, start);
-    c.to
+    to
 }
 
 // Writes n in decimal.

@@ -1,5 +1,5 @@
--- `writing::bytes::copy_word` meets its contract. The loop's invariant: to write the word from the loop's place on comes to
--- the same as to write the whole word at the start, and its end is that of the whole word. Assumes nothing.
+-- `writing::bytes::put_word` meets its contract. The loop's invariant: to write the word from the loop's place on comes to
+-- the same as to write the whole word at the start. Assumes nothing.
 use Prim.Native.Nat.{_+_, _-_, _<_}
 use Rattle.writing.proofs.Writing as w
 use Rattle.text.proofs.Lefts.{test-of}
@@ -10,19 +10,19 @@ use borrow.Author.Needs.{needs}
 use lib.ListN.{getD, length}
 use mathlib.Core.Bool.{false, true}
 use mathlib.Core.List.{[], _++_, _∷_}
-use mathlib.Core.Path.{_≡_, ap, refl}
+use mathlib.Core.Path.{_≡_}
 use native.Mathlib.Omega.{arith}
-use Rattle.writing.proofs.bytes.copy_word.Statement.{statement}
-use Rattle.writing.proofs.bytes.copy_word.Tie as tie
+use Rattle.writing.proofs.bytes.put_word.Statement.{statement}
+use Rattle.writing.proofs.bytes.put_word.Tie as tie
 
 abbrev Inv-loop : tie.InvT-loop
-Inv-loop out₀ at text start to₀ i₀ out to i = w.Ahead out₀ at (wordAt text start) out to (wordAt text i) × (i + length (wordAt text i) ≡ start + length (wordAt text start))
+Inv-loop out₀ at text start to₀ i₀ out to i = w.Ahead out₀ at (wordAt text start) out to (wordAt text i)
 
 abbrev μ-loop : tie.MeasureT-loop
 μ-loop out₀ at text start to₀ i₀ out to i = length text - i
 
 loop-holds : tie.Need-loop-holds Inv-loop μ-loop
-loop-holds c = (w.start _ _ _, refl)
+loop-holds c = w.start _ _ _
 
 byte-at-requires : tie.Need-byte-at-requires Inv-loop μ-loop
 byte-at-requires c κs = search needs
@@ -52,22 +52,19 @@ loop-again c =
     let i = c .before .before .before .before .before .before .before .before .loop .i in
     let h : isNameByte (getD s i 0) ≡ true = test-of isNameByte (c .before .before .before .before .before .before .before .byte-at .ensures) (c .before .before .before .before .before .before .is-name-byte .ensures) (c .before .before .before .before .before .if1 .taken) in
     let q : wordAt s i ≡ (c .before .before .before .byte-at2 .result ∷ []) ++ wordAt s (i + 1) = rw (c .before .before .before .byte-at2 .ensures) (word-more s i h) in
-    let v = c .before .before .before .before .before .before .before .before .loop .inv in
-    (w.step (_ ∷ []) (wordAt s (i + 1)) (v .0) q (c .before .before .put-byte .ensures), omega (arith, v .1, ap length q))
+    w.step (_ ∷ []) (wordAt s (i + 1)) (c .before .before .before .before .before .before .before .before .loop .inv) q (c .before .before .put-byte .ensures)
 
 same-length : tie.Need-same-length Inv-loop μ-loop
-same-length c = c .before .before .before .loop .inv .0 .kept
+same-length c = c .before .before .before .loop .inv .kept
 
 returns : tie.Need-returns Inv-loop μ-loop
 returns c =
     let s = c .before .before .before .before .before .before .args .text .now in
     let h : isNameByte (getD s (c .before .before .before .loop .i) 0) ≡ false = test-of isNameByte (c .before .before .byte-at .ensures) (c .before .is-name-byte .ensures) (c .if1 .left) in
-    let i = c .before .before .before .loop .i in
-    let e = word-stop s i h in
-    record { wrote = w.done (c .before .before .before .loop .inv .0) e; behind = omega (arith, c .before .before .before .loop .inv .1, ap length e) }
+    w.done (c .before .before .before .loop .inv) (word-stop s (c .before .before .before .loop .i) h)
 
-pub copy-word-spec : {M : Type 1} → statement M
-copy-word-spec =
+pub put-word-spec : {M : Type 1} → statement M
+put-word-spec =
     tie.close
     (tie.spec
     Inv-loop
