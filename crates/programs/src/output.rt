@@ -2,13 +2,17 @@
 use crate::retry::is_made_again;
 use libc::STDERR_FILENO;
 use libc::STDOUT_FILENO;
+ghost use lib.Dec.{ltb};
 ghost use lib.ListN.{length};
+ghost use mathlib.Core.Bool.{cond};
+ghost use mathlib.Core.Path.{_≡_};
 ghost use Rattle.io.specs.Counts.{Counts};
 ghost use Rattle.libc.specs.Io.{Moved};
 
 // n, or the number of bytes where that is less.
 pub fn within(n: usize, bytes: &[u8]) -> usize
     ensures { λ r. ⌜ Counts r (now (bytes .entry)) ⌝ }
+    ensures { λ r. ⌜ r ≡ cond (ltb n (length (now (bytes .entry)))) n (length (now (bytes .entry))) ⌝ }
 {
     if n < bytes.len() {
         return n;
