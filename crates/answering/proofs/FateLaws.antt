@@ -26,7 +26,7 @@ use Rattle.index.specs.Labels.{Opened}
 use Rattle.index.specs.Rows.{Rows, rowIn}
 use Rattle.index.specs.Tables.{columnLabelIn, schemeBy}
 use Rattle.index.specs.Listed.{listed}
-use Rattle.index.specs.declared.tables.SchemeCode.{SchemeCode}
+use Rattle.form.specs.declared.lines.Scheme as coded
 use Rattle.lists.proofs.ListLaws.{count-keep}
 use Rattle.lists.specs.Lists.{countOf, keep}
 use Rattle.query.specs.Query.{Query, named}
@@ -48,14 +48,14 @@ module _ (text ts ws : List ℕ) (t count : ℕ) (os : List Bool) (s : List ℕ)
   unfolding rowIn
   table-here x is = λ i. eqb (is row-small i) (sym (pr .table) i)
 
-  scheme-here : (code : SchemeCode) → SchemeOf ts t code → schemeBy code (getD ts (16 + t) 0) (listed (columnLabelIn ts t) (getD ts (24 + t) 0)) ≡ schemeAt (d .policy) (q .table)
+  scheme-here : (code : coded.Scheme) → SchemeOf ts t code → schemeBy code (getD ts (16 + t) 0) (listed (columnLabelIn ts t) (getD ts (24 + t) 0)) ≡ schemeAt (d .policy) (q .table)
   scheme-here code is =
       sym (is (table-inside text ts (pr .tableCount) t (d .policy) (pr .tables) (pr .inside)))
       ∙ sym (scheme-at text ts (pr .tableCount) t (d .policy) (pr .tables) (pr .inside))
       ∙ ap (schemeAt (d .policy)) (sym (pr .table))
 
   -- whether it is withheld, as the code finds it
-  withheld-here : (code : SchemeCode) → SchemeOf ts t code → (x : Bool)
+  withheld-here : (code : coded.Scheme) → SchemeOf ts t code → (x : Bool)
       → ((e : Policy) (p l : ℕ) (ls : List ℕ) → Opened e p os → r < 1024 → getD ws (2048 + r) 0 ≤ 16 → x ≡ rowWithheld (labelOpen e p) (schemeBy code l ls) (take (chosen + m) cs) (labelsIn ws r))
       → x ≡ isWithheldRow d q (rowIn text ws r)
   unfolding isWithheldRow rowIn
@@ -69,7 +69,7 @@ module _ (text ts ws : List ℕ) (t count : ℕ) (os : List Bool) (s : List ℕ)
     unfolding fateOf
     fate-elsewhere e = ap (λ (b : Bool). fateBy b (isWithheldRow d q (rowIn text ws r)) (matches (q .condition) (rowIn text ws r .values))) (sym (ne-eqb x t e) ∙ table-here x is)
 
-    module _ (here : x ≡ t) (code : SchemeCode) (says : SchemeOf ts t code) (y : Bool)
+    module _ (here : x ≡ t) (code : coded.Scheme) (says : SchemeOf ts t code) (y : Bool)
         (held : (e : Policy) (p l : ℕ) (ls : List ℕ) → Opened e p os → r < 1024 → getD ws (2048 + r) 0 ≤ 16 → y ≡ rowWithheld (labelOpen e p) (schemeBy code l ls) (take (chosen + m) cs) (labelsIn ws r)) where
       in-table : true ≡ eqb (rowIn text ws r .table) (q .table)
       in-table = sym (eq-eqb x t here) ∙ table-here x is

@@ -17,11 +17,11 @@ use Rattle.index.specs.Listed.{listed}
 use Rattle.text.proofs.Lefts.{drop-here}
 use Rattle.text.specs.Bytes.{ascii, isNameByte}
 use Rattle.text.specs.Numbers.{Value}
-use Rattle.text.specs.Words.{nameBytes, wordAt}
+use Rattle.text.specs.Words.{nameBytes, writtenAt}
 use Rattle.writing.proofs.Writing.{both, wrote-nothing}
 use Rattle.writing.specs.Write.{Wrote}
 
--- ---- words
+-- ---- values as they are written
 
 run-short : (bs : List ℕ) → length (nameBytes bs) ≤ length bs
 unfolding nameBytes
@@ -32,20 +32,21 @@ run-short (b ∷ bs) = go (isNameByte b) refl (run-short bs)
     go true k ih = rw (k, nameBytes) (omega arith)
     go false k ih = rw (k, nameBytes) (omega arith)
 
--- a word is no longer than the text
-word-short : (s : List ℕ) (at : ℕ) → length (wordAt s at) ≤ length s
-word-short s at = omega (arith, run-short (drop at s), length-drop at s)
+-- a value is no longer than the text
+value-short : (s : List ℕ) (at : ℕ) → length (writtenAt s at) ≤ length s
+unfolding writtenAt
+value-short s at = omega (arith, run-short (drop at s), length-drop at s)
 
--- at the end stands the empty word
-pub word-end : (s : List ℕ) → wordAt s (length s) ≡ []
-unfolding nameBytes
-word-end s = let l : length s ≤ length s = omega arith in rw (drop-of-length-le s l)
+-- at the end stands the empty value
+value-end : (s : List ℕ) → writtenAt s (length s) ≡ []
+unfolding nameBytes writtenAt
+value-end s = let l : length s ≤ length s = omega arith in rw (drop-of-length-le s l)
 
 -- ---- the values of a row
 
--- the value of a column is a word of the text
-pub value-place : (text ws : List ℕ) (r width c p : ℕ) → c < width → p ≡ getD ws (3072 + 16 * r + c) 0 → wordAt text p ≡ getD (listed (valueIn text ws r) width) c []
-value-place text ws r width c p l e = ap (wordAt text) e ∙ sym (listed-getD (valueIn text ws r) width c [] l)
+-- the value of a column stands in the text
+pub value-place : (text ws : List ℕ) (r width c p : ℕ) → c < width → p ≡ getD ws (3072 + 16 * r + c) 0 → writtenAt text p ≡ getD (listed (valueIn text ws r) width) c []
+value-place text ws r width c p l e = ap (writtenAt text) e ∙ sym (listed-getD (valueIn text ws r) width c [] l)
 
 -- past the last column stands none
 no-value : (text ws : List ℕ) (r width c : ℕ) → width ≤ c → getD (listed (valueIn text ws r) width) c [] ≡ []
@@ -54,8 +55,8 @@ no-value text ws r width c l =
     List·getD-eq-default (listed (valueIn text ws r) width) [] h
 
 -- past the last column it is the empty one
-pub value-past : (text ws : List ℕ) (r width c : ℕ) → width ≤ c → wordAt text (length text) ≡ getD (listed (valueIn text ws r) width) c []
-value-past text ws r width c l = word-end text ∙ sym (no-value text ws r width c l)
+pub value-past : (text ws : List ℕ) (r width c : ℕ) → width ≤ c → writtenAt text (length text) ≡ getD (listed (valueIn text ws r) width) c []
+value-past text ws r width c l = value-end text ∙ sym (no-value text ws r width c l)
 
 module _ (text ws : List ℕ) (r : ℕ) where
   -- a value is no longer than the text
@@ -63,7 +64,7 @@ module _ (text ws : List ℕ) (r : ℕ) where
   values-fit k c = go (ltb c k) refl
     where
       go : (b : Bool) → ltb c k ≡ b → length (getD (listed (valueIn text ws r) k) c []) ≤ length text
-      go true e = omega (arith, ap length (listed-getD (valueIn text ws r) k c [] (ltb-true c k e)), word-short text (getD ws (3072 + 16 * r + c) 0))
+      go true e = omega (arith, ap length (listed-getD (valueIn text ws r) k c [] (ltb-true c k e)), value-short text (getD ws (3072 + 16 * r + c) 0))
       go false e = omega (arith, ap length (no-value text ws r k c (ltb-false c k e)))
 
 module _ (vs : List Value) where
@@ -94,7 +95,7 @@ module _ (text ws : List ℕ) (r width : ℕ) (cs : List ℕ) (small : length te
 
 module _ (text ws cs : List ℕ) (r : ℕ) {marked : Bool} where
   -- the line of a marked row
-  pub line-written : {d e : List ℕ} {at next width : ℕ} → r < 1024 → marked ≡ true → Cut r 1024 (getD ws (1024 + r) 0) width
+  pub line-written : {d e : List ℕ} {at next width : ℕ} → r < 1024 → marked ≡ true → Cut 16 r 1024 (getD ws (1024 + r) 0) width
       → Wrote d at (rowLine cs (listed (valueIn text ws r) width)) e next → getD ws (1024 + r) 0 ≤ 16 → Wrote d at (lineMarked text ws cs r marked) e next
   unfolding lineMarked rowIn
   line-written {d} {e} {at} {next} inside is cut w n =

@@ -14,10 +14,10 @@ use Rattle.document.specs.Open.{labelOpen, rowWithheld}
 use Rattle.document.specs.Policy.{Policy}
 use Rattle.index.proofs.ListedLaws.{length-listed, listed-at}
 use Rattle.index.specs.Labels.{Opened}
-use Rattle.index.specs.Rows.{rowLabelIn}
+use Rattle.index.specs.Rows.{labelRoom, rowLabelIn}
 use Rattle.index.specs.Tables.{Cut, schemeBy}
-use Rattle.index.specs.declared.tables.SchemeCode.the-variants as code
-use Rattle.index.specs.declared.tables.SchemeCode.{SchemeCode}
+use Rattle.form.specs.declared.lines.Scheme.the-variants as code
+use Rattle.form.specs.declared.lines.Scheme as coded
 use Rattle.lists.proofs.Tests.{or-left, or-right}
 use Rattle.lists.specs.Lists.{anyOf, holdsOf}
 
@@ -27,7 +27,7 @@ nothing-past [] i l = refl
 nothing-past (x ∷ xs) zero l = absurd (omega (arith, l))
 nothing-past (x ∷ xs) (suc i) l = nothing-past xs i (omega (arith, l))
 
-module _ (d : Policy) (p : ℕ) (os : List Bool) (opened : Opened d p os) (ws : List ℕ) (r c n : ℕ) (cut : Cut r 1024 (getD ws (2048 + r) 0) n) where
+module _ (d : Policy) (p : ℕ) (os : List Bool) (opened : Opened d p os) (ws : List ℕ) (r c n : ℕ) (cut : Cut labelRoom r 1024 (getD ws (2048 + r) 0) n) where
   -- a label that the row has
   pub open-there : c < n → (l : ℕ) → (r < 1024 → c < 16 → l ≡ getD ws (19456 + 16 * r + c) 0) → (x : Bool) → x ≡ getD os l false → r < 1024 → getD ws (2048 + r) 0 ≤ 16 → x ≡ openIn d p ws r c
   unfolding openIn
@@ -78,16 +78,16 @@ any-found f (c ∷ cs) (suc i) (suc n) l b h = or-right (f c) (anyOf f (take n c
 -- ---- the row is withheld, by scheme
 
 module _ (d : Policy) (p l : ℕ) (ls ws cs : List ℕ) (r n : ℕ) where
-  pub withheld-none : (s : SchemeCode) → (s ≡ code.Unlabelled) ⊎ ((s ≡ code.ByTable) ⊎ (s ≡ code.ByColumn)) → false ≡ rowWithheld (labelOpen d p) (schemeBy s l ls) (take n cs) (labelsIn ws r)
+  pub withheld-none : (s : coded.Scheme) → (s ≡ code.Unlabelled) ⊎ ((s ≡ code.ByTable) ⊎ (s ≡ code.ByColumn)) → false ≡ rowWithheld (labelOpen d p) (schemeBy s l ls) (take n cs) (labelsIn ws r)
   unfolding rowWithheld schemeBy
   withheld-none s (inl e) = rw e
   withheld-none s (inr (inl e)) = rw e
   withheld-none s (inr (inr e)) = rw e
 
-  pub withheld-row : (s : SchemeCode) → s ≡ code.ByRow → (x : Bool) → x ≡ openIn d p ws r 0 → not x ≡ rowWithheld (labelOpen d p) (schemeBy s l ls) (take n cs) (labelsIn ws r)
+  pub withheld-row : (s : coded.Scheme) → s ≡ code.ByRow → (x : Bool) → x ≡ openIn d p ws r 0 → not x ≡ rowWithheld (labelOpen d p) (schemeBy s l ls) (take n cs) (labelsIn ws r)
   unfolding rowWithheld schemeBy openIn
   withheld-row s e x h = rw e (ap not h)
 
-  pub withheld-cell : (s : SchemeCode) → s ≡ code.ByCell → (x : Bool) → x ≡ anyOf (λ c. not (openIn d p ws r c)) (take n cs) → x ≡ rowWithheld (labelOpen d p) (schemeBy s l ls) (take n cs) (labelsIn ws r)
+  pub withheld-cell : (s : coded.Scheme) → s ≡ code.ByCell → (x : Bool) → x ≡ anyOf (λ c. not (openIn d p ws r c)) (take n cs) → x ≡ rowWithheld (labelOpen d p) (schemeBy s l ls) (take n cs) (labelsIn ws r)
   unfolding rowWithheld schemeBy openIn
   withheld-cell s e x h = rw e h

@@ -16,14 +16,14 @@ use Rattle.answering.specs.declared.tally.Tally.{Tally}
 use Rattle.condition.specs.Answers.{comparisonsAt, heldRead, operatorOf}
 use Rattle.condition.specs.Comparison.{valuesMeet}
 use Rattle.condition.specs.CondForm.{Compared, conditionInForm}
-use Rattle.condition.specs.Kinds.{Op, eq, ge, gt, le, lt, ne}
+use Rattle.condition.specs.Kinds.{Kind, Op, eq, ge, gt, le, lt, names, ne, numbers}
 use Rattle.document.specs.Open.{labelOpen}
 use Rattle.document.specs.Policy.{Doc, Policy, Row}
-use Rattle.index.specs.Cells.{kindOfCell, kindSaid}
+use Rattle.index.specs.Cells.{kindOfCell}
 use Rattle.index.specs.Rows.{rowIn, rowLabelIn}
 use Rattle.index.specs.Tables.{columnLabelIn, schemeBy, schemeIn}
 use Rattle.index.specs.Listed.{listed}
-use Rattle.index.specs.declared.tables.SchemeCode.{SchemeCode}
+use Rattle.form.specs.declared.lines.Scheme as coded
 use Rattle.lists.specs.Lists.{countOf, known}
 use Rattle.query.specs.Query.{Query}
 use Rattle.query.specs.declared.reading.Test.the-variants as tests
@@ -32,6 +32,11 @@ use Rattle.text.specs.Numbers.{rank}
 use Rattle.text.specs.Reader.{from}
 use Rattle.text.specs.Walking.{nextWord}
 use Rattle.text.specs.Words.{wordAt}
+
+-- a type by whether it is that of names
+unfoldable pub kindSaid : Bool → Kind
+kindSaid true = names
+kindSaid false = numbers
 
 -- the labels of row r
 abbrev pub labelsIn : List ℕ → ℕ → List ℕ
@@ -42,7 +47,7 @@ unfoldable pub openIn : Policy → ℕ → List ℕ → ℕ → ℕ → Bool
 openIn d p ws r c = labelOpen d p (getElem? (labelsIn ws r) c)
 
 -- the code's name for the scheme of table t
-abbrev pub SchemeOf : List ℕ → ℕ → SchemeCode → Type 0
+abbrev pub SchemeOf : List ℕ → ℕ → coded.Scheme → Type 0
 SchemeOf ts t s = t < 8 → schemeIn ts t ≡ schemeBy s (getD ts (16 + t) 0) (listed (columnLabelIn ts t) (getD ts (24 + t) 0))
 
 -- the comparison of column c of table t whose operator stands at a place of the query's text s holds of row r

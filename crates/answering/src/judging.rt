@@ -11,7 +11,7 @@ use index::rows::row_label;
 use index::rows::row_labels;
 use index::rows::row_table;
 use index::rows::row_values;
-use index::tables::SchemeCode;
+use form::lines::Scheme;
 use index::tables::table_scheme;
 use query::reading::Test;
 ghost use Prim.Native.Nat.{_+_, _<_, _≤_, ℕ};
@@ -89,7 +89,7 @@ fn any_closed(
 
 // Whether row r is withheld in a table of this scheme, where the first n columns are named.
 fn is_withheld(
-    scheme: SchemeCode,
+    scheme: Scheme,
     rows: &[usize; ROW_CELLS],
     opened: &[bool; LABELS],
     r: usize,
@@ -100,11 +100,11 @@ fn is_withheld(
     ensures { λ x. ⌜ ((d : Policy) (p l : ℕ) (ls : List ℕ) → Opened d p (now (opened .entry)) → r < 1024 → getD (now (rows .entry)) (2048 + r) 0 ≤ 16 → x ≡ rowWithheld (labelOpen d p) (schemeBy scheme l ls) (take n (now (columns .entry))) (labelsIn (now (rows .entry)) r)) ⌝ }
 {
     match scheme {
-        SchemeCode::Unlabelled => false,
-        SchemeCode::ByTable => false,
-        SchemeCode::ByColumn => false,
-        SchemeCode::ByRow => !cell_open(rows, opened, r, 0),
-        SchemeCode::ByCell => any_closed(rows, opened, r, columns, n),
+        Scheme::Unlabelled => false,
+        Scheme::ByTable => false,
+        Scheme::ByColumn => false,
+        Scheme::ByRow => !cell_open(rows, opened, r, 0),
+        Scheme::ByCell => any_closed(rows, opened, r, columns, n),
     }
 }
 
@@ -247,7 +247,7 @@ fn fate_here(held: bool, met: bool) -> Fate
 fn fate_of(
     text: &[u8],
     t: usize,
-    scheme: SchemeCode,
+    scheme: Scheme,
     rows: &[usize; ROW_CELLS],
     r: usize,
     opened: &[bool; LABELS],
@@ -350,7 +350,7 @@ fn count_row(x: Tally, f: Fate) -> Tally
 fn judge_each(
     text: &[u8],
     t: usize,
-    scheme: SchemeCode,
+    scheme: Scheme,
     rows: &[usize; ROW_CELLS],
     count: usize,
     opened: &[bool; LABELS],

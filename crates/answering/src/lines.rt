@@ -7,7 +7,7 @@ use writing::bytes::put_byte;
 use writing::bytes::put_bytes;
 use writing::bytes::put_decimal;
 use writing::bytes::put_number;
-use writing::bytes::put_word;
+use writing::bytes::put_written;
 ghost use Prim.Native.Nat.{_+_, _<_, _≤_};
 ghost use lib.ListN.{getD, length, take};
 ghost use mathlib.Core.List.{List};
@@ -37,7 +37,7 @@ fn put_values(
     while i < columns.len() {
         let place = value_place(text, rows, r, width, columns[i]);
         let next = put_byte(out, to, b' ');
-        to = put_word(out, next, text, place);
+        to = put_written(out, next, text, place);
         i += 1;
     }
     to

@@ -1,4 +1,5 @@
 // Attr lines: what is wrong with one.
+use condition::kinds::Kind;
 use index::attributes::find_attribute;
 use index::found::Found;
 use index::layout::ATTRIBUTE_CELLS;
@@ -10,15 +11,14 @@ use text::refusals::Reason;
 ghost use Prim.Native.Nat.{_≤_};
 ghost use lib.ListN.{length};
 ghost use mathlib.Core.Path.{_≡_};
+ghost use Rattle.condition.specs.Answers.{kindOf};
 ghost use Rattle.stepping.specs.Judged.{Judges};
 ghost use Rattle.form.specs.Form.{attr};
 ghost use Rattle.index.specs.Attributes.{Attributes};
-ghost use Rattle.index.specs.Cells.{kindSaid};
 ghost use Rattle.index.specs.Nodes.{Nodes};
 ghost use Rattle.text.specs.Words.{wordOf};
 
-// The attribute whose name stands at a of the line, at the role whose name stands at r, behind k attributes; `named`: whether its
-// values are names.
+// The attribute whose name stands at a of the line, at the role whose name stands at r, behind k attributes.
 pub fn attr_fault(
     text: &[u8],
     roles: &[usize; ROLE_CELLS],
@@ -29,9 +29,9 @@ pub fn attr_fault(
     line: &[u8],
     r: usize,
     a: usize,
-    named: bool,
+    kind: Kind,
 ) -> Fault
-    ensures { λ f. ⌜ Judges (λ d. Nodes 64 (now (text .entry)) (now (roles .entry)) «roles_count» (d .policy .roles) × Attributes (now (text .entry)) (now (attributes .entry)) k (d .policy .attributes) × («users_count» ≡ length (d .policy .users))) ((r ≤ length (now (line .entry))) × (a ≤ length (now (line .entry)))) (now (line .entry)) (attr (wordOf (now (line .entry)) r) (wordOf (now (line .entry)) a) (kindSaid named)) k 32 f ⌝ }
+    ensures { λ f. ⌜ Judges (λ d. Nodes 64 (now (text .entry)) (now (roles .entry)) «roles_count» (d .policy .roles) × Attributes (now (text .entry)) (now (attributes .entry)) k (d .policy .attributes) × («users_count» ≡ length (d .policy .users))) ((r ≤ length (now (line .entry))) × (a ≤ length (now (line .entry)))) (now (line .entry)) (attr (wordOf (now (line .entry)) r) (wordOf (now (line .entry)) a) (kindOf kind)) k 32 f ⌝ }
 {
     if ATTRIBUTES <= k {
         return Fault::Whole(Reason::OverBound);

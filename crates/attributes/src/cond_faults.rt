@@ -104,10 +104,7 @@ fn kind_named(
     let Found::At(a) = f else {
         return Kind::Num;
     };
-    if attribute_kind(attributes, n, a) {
-        return Kind::Name;
-    }
-    Kind::Num
+    attribute_kind(attributes, n, a)
 }
 
 // The first operator or value of the comparisons that is of the wrong type.

@@ -23,20 +23,9 @@ ghost use Rattle.document.specs.Check.{checkForm, checkLine};
 ghost use Rattle.document.specs.Policy.{Doc};
 ghost use Rattle.form.specs.Form.{attr, condRole, role};
 ghost use Rattle.form.specs.FormReader.{formOf};
-ghost use Rattle.index.specs.Cells.{kindSaid};
 ghost use Rattle.stepping.specs.Stored.{LineAt};
 ghost use Rattle.text.specs.Reader.{from};
 ghost use Rattle.text.specs.Words.{wordOf};
-
-// Whether values of this type are names.
-fn is_named(k: Kind) -> bool
-    ensures { λ r. ⌜ kindSaid r ≡ kindOf k ⌝ }
-{
-    match k {
-        Kind::Num => false,
-        Kind::Name => true,
-    }
-}
 
 // An attribute, whose name stands at a, at the role whose name stands at r.
 pub fn step_attr(
@@ -53,7 +42,6 @@ pub fn step_attr(
     ensures { λ s. ⌜ ((d : Doc) (ps′ us′ cs′ gs′ ls′ ms′ ts′ ws′ : List ℕ) → LineAt (now (text .entry)) at (now (line .entry)) → ((r ≤ length (now (line .entry))) × (a ≤ length (now (line .entry)))) → Indexed (now (text .entry)) ps′ (now (roles .entry)) (now (attributes .entry)) us′ cs′ gs′ ls′ ms′ ts′ ws′ c d → Follows (Indexed (now (text .entry)) ps′ (now (roles .entry)) (now (attributes .exit)) us′ cs′ gs′ ls′ ms′ ts′ ws′) (now (line .entry)) (checkForm d (now (line .entry)) (attr (wordOf (now (line .entry)) r) (wordOf (now (line .entry)) a) (kindOf kind))) s) ⌝ }
 {
     let k = c.attributes;
-    let named = is_named(kind);
     let f = attr_fault(
         text,
         roles,
@@ -64,10 +52,10 @@ pub fn step_attr(
         line,
         r,
         a,
-        named,
+        kind,
     );
     if is_fine(f) {
-        store_attr(text, roles, c.roles, attributes, k, at, line, r, a, named);
+        store_attr(text, roles, c.roles, attributes, k, at, line, r, a, kind);
         let mut next = c;
         next.attributes = k + 1;
         return Step::Goes(next);

@@ -11,7 +11,7 @@ use Rattle.document.specs.Policy.{Given, Policy, User}
 use Rattle.form.specs.Walks.{givensAt}
 use Rattle.index.proofs.ListedLaws.{listed-at}
 use Rattle.index.specs.Cells.{lineIn}
-use Rattle.index.specs.Users.{Users, userIn}
+use Rattle.index.specs.Users.{Users, userEndIn, userIn, userPlaceIn, userRoleIn, userStartIn}
 use Rattle.lists.specs.Lists.{findIndex}
 use Rattle.query.specs.Authority.{Clock, authorises, firstGrant}
 
@@ -27,15 +27,15 @@ module _ {d : Policy} {text ws : List ℕ} {k : ℕ} {us : List User} (h : Users
   pub user-at : getElem? us i ≡ some (userIn d text ws i)
   user-at = ap (λ xs. getElem? xs i) (sym (h .are)) ∙ listed-at (userIn d text ws) k i l
 
-  pub role-of : (r : ℕ) → (i < 256 → r ≡ getD ws (256 + i) 0) → r ≡ userIn d text ws i .role
+  pub role-of : (r : ℕ) → (i < 256 → r ≡ userRoleIn ws i) → r ≡ userIn d text ws i .role
   unfolding userIn
   role-of r e = e small
 
   -- the values are those given at the place in its line
-  pub values-of : (start end place : ℕ) (line : List ℕ) (values : List ℕ) → (i < 256 → start ≡ getD ws (512 + i) 0) → (i < 256 → end ≡ getD ws (768 + i) 0)
-      → (i < 256 → place ≡ getD ws (1024 + i) 0) → line ≡ lineIn text start end → Values line (map (givenOf d) (givensAt line place)) values
+  pub values-of : (start end place : ℕ) (line : List ℕ) (values : List ℕ) → (i < 256 → start ≡ userStartIn ws i) → (i < 256 → end ≡ userEndIn ws i)
+      → (i < 256 → place ≡ userPlaceIn ws i) → line ≡ lineIn text start end → Values line (map (givenOf d) (givensAt line place)) values
       → Values line (userIn d text ws i .values) values
   unfolding userIn
   values-of start end place line values s e p is v =
-      let here : line ≡ lineIn text (getD ws (512 + i) 0) (getD ws (768 + i) 0) = is ∙ (λ j. lineIn text (s small j) (e small j)) in
+      let here : line ≡ lineIn text (userStartIn ws i) (userEndIn ws i) = is ∙ (λ j. lineIn text (s small j) (e small j)) in
       subst (λ (gs : List Given). Values line gs values) (λ j. map (givenOf d) (givensAt (here j) (p small j))) v

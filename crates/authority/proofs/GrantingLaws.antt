@@ -10,7 +10,7 @@ use Rattle.authority.specs.Held.{Held, conditionHolds}
 use Rattle.document.specs.Policy.{CondRole, Grant, Policy, User, treeOf}
 use Rattle.index.proofs.IndexLaws.{conds-length}
 use Rattle.index.proofs.ListedLaws.{listed-at, listed-found, listed-none, listed-there}
-use Rattle.index.specs.CondRoles.{CondRoles, condRoleIn}
+use Rattle.index.specs.CondRoles.{CondRoles, condRoleIn, condRoleRoleIn}
 use Rattle.index.specs.Grants.{Grants, grantIn}
 use Rattle.index.specs.Nodes.{Nodes}
 use Rattle.lists.proofs.ListLaws.{holdsOf-some}
@@ -159,13 +159,13 @@ module _ {closure : Closure} {roles : List ℕ} {rcount : ℕ} {conds : List ℕ
       pub no-holding : (b : Bool) → HeldRead held ccount r b → b ≡ false → passes i ≡ false
       no-holding b h e = not-held (t .d) (t .clock) (t .u) (t .p) (grantIn grants i) (sym (holds-is b h) ∙ e)
 
-      module _ (target : ℕ) (is : r < 64 → target ≡ getD conds (64 + r) 0) where
+      module _ (target : ℕ) (is : r < 64 → target ≡ condRoleRoleIn conds r) where
         target-is : (x : CondRole) → getElem? (t .d .condRoles) (grantIn grants i .condRole) ≡ some x → x .role ≡ target
         unfolding condRoleIn
         target-is x e =
             let w = listed-there (condRoleIn (t .d) (t .text) conds) ccount (grantIn grants i .condRole) x (ap (λ xs. getElem? xs (grantIn grants i .condRole)) (t .conditions .are) ∙ e) in
             let small : r < 64 = omega (arith, w .0, role-is, t .conditions .few) in
-            ap (λ y. y .role) (w .1) ∙ ap (λ n. getD conds (64 + n) 0) (sym role-is) ∙ sym (is small)
+            ap (λ y. y .role) (w .1) ∙ ap (λ n. condRoleRoleIn conds n) (sym role-is) ∙ sym (is small)
 
         -- the role is not below its conditional role's
         pub no-role : descends (treeOf (t .d .roles)) role target ≡ false → passes i ≡ false

@@ -28,7 +28,7 @@ use Rattle.index.proofs.IndexLaws.{attributes-length}
 use Rattle.index.proofs.ListedLaws.{listed-at, listed-there}
 use Rattle.index.specs.Attributes.{Attributes}
 use Rattle.index.specs.Cells.{lineIn}
-use Rattle.index.specs.CondRoles.{CondRoles, attributesKnown, condRoleIn, conditionAt, conditionIn, conditionRead, noCondition}
+use Rattle.index.specs.CondRoles.{CondRoles, attributesKnown, condRoleEndIn, condRoleIn, condRolePlaceIn, condRoleStartIn, conditionAt, conditionIn, conditionRead, noCondition}
 use Rattle.lists.proofs.ListLaws.{all-here, findIndex-found, holdsOf-some, map-map, there-some}
 use Rattle.lists.proofs.Tests.{and-left, and-right, decide}
 use Rattle.lists.specs.Lists.{allOf, findIndex, holdsOf, known, there}
@@ -259,12 +259,12 @@ module _ (d : Policy) (k : Clock) (u : User) (s : List ℕ) (at : ℕ) where
 -- ---- a conditional role
 
 -- the condition read in its line is that of the conditional role
-pub role-read : (text ws : List ℕ) (i a e p : ℕ) (line : List ℕ) → a ≡ getD ws (128 + i) 0 → e ≡ getD ws (192 + i) 0 → p ≡ getD ws (256 + i) 0 → line ≡ lineIn text a e
+pub role-read : (text ws : List ℕ) (i a e p : ℕ) (line : List ℕ) → a ≡ condRoleStartIn ws i → e ≡ condRoleEndIn ws i → p ≡ condRolePlaceIn ws i → line ≡ lineIn text a e
     → conditionRead (conditionInForm (from line p)) ≡ conditionIn text ws i
 unfolding conditionIn conditionAt
 role-read text ws i a e p line ea ee ep el =
     ap (λ l. conditionRead (conditionInForm (from l p))) (el ∙ (λ j. lineIn text (ea j) (ee j)))
-    ∙ ap (λ n. conditionRead (conditionInForm (from (lineIn text (getD ws (128 + i) 0) (getD ws (192 + i) 0)) n))) ep
+    ∙ ap (λ n. conditionRead (conditionInForm (from (lineIn text (condRoleStartIn ws i) (condRoleEndIn ws i)) n))) ep
 
 module _ (d : Policy) (c : Clock) (u : User) (text ws : List ℕ) (i : ℕ) where
   -- its condition has as many comparisons as the one read

@@ -8,7 +8,6 @@ use condition::comparisons::values_meet;
 use condition::conditions::Read;
 use condition::conditions::holds_condition;
 use condition::conditions::read_places;
-use condition::kinds::Kind;
 use condition::kinds::Op;
 use condition::kinds::op_at;
 use index::attributes::attribute_kind;
@@ -84,10 +83,8 @@ fn value_meets(
         if p == 0 {
             return false;
         }
-        if attribute_kind(attributes, acount, n) {
-            return values_meet(Kind::Name, op, user, p - 1, line, v);
-        }
-        return values_meet(Kind::Num, op, user, p - 1, line, v);
+        let kind = attribute_kind(attributes, acount, n);
+        return values_meet(kind, op, user, p - 1, line, v);
     }
     false
 }

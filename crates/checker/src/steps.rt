@@ -78,7 +78,7 @@ fn step_form(
             allowed,
             denied,
         ),
-        Line::Table(t, k, cs) => step_table(text, at, line, labels, tables, c, t, k, cs),
+        Line::Table(t, k, l, cs) => step_table(text, at, line, labels, tables, c, t, k, l, cs),
         Line::Row(t, items) => step_row(text, at, line, labels, tables, rows, c, t, items),
     }
 }

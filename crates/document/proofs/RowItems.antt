@@ -10,27 +10,29 @@ use Rattle.document.specs.NameFaults.{leadingName}
 use Rattle.document.specs.ValueFaults.{plainValues, valuesBehindLabel}
 use Rattle.form.proofs.WalkSteps.{items-more, items-stop}
 use Rattle.form.specs.Form.{labelled, plain}
-use Rattle.form.specs.Walks.{firstIn, itemAt, itemEndAt, itemsAt, pairEndAt, secondIn}
+use Rattle.form.specs.Walks.{cellEndAt, cellLabelIn, firstIn, itemAt, itemEndAt, itemsAt}
+use Rattle.text.proofs.WalkingLaws.{written-end}
+use Rattle.text.proofs.WordLaws.{written-word}
 use Rattle.text.specs.Names.{isName}
-use Rattle.text.specs.Walking.{wordEndAt}
-use Rattle.text.specs.Words.{wordAt, wordOf}
+use Rattle.text.specs.Walking.{wordEndAt, writtenEndAt}
+use Rattle.text.specs.Words.{wordAt, wordOf, writtenOf}
 
 -- ---- one item
 
 module _ (s : List ℕ) (at : ℕ) where
-  pub item-bracket : eqb (getD s at 0) 40 ≡ true → itemAt s at ≡ labelled (wordOf s (firstIn s at)) (wordOf s (secondIn s at))
+  pub item-bracket : eqb (getD s at 0) 40 ≡ true → itemAt s at ≡ labelled (writtenOf s (firstIn s at)) (wordOf s (cellLabelIn s at))
   unfolding itemAt
   item-bracket e = rw e
 
-  pub item-plain : eqb (getD s at 0) 40 ≡ false → itemAt s at ≡ plain (wordOf s at)
+  pub item-plain : eqb (getD s at 0) 40 ≡ false → itemAt s at ≡ plain (writtenOf s at)
   unfolding itemAt
   item-plain e = rw e
 
-  pub item-bracket-end : eqb (getD s at 0) 40 ≡ true → itemEndAt s at ≡ pairEndAt s at
+  pub item-bracket-end : eqb (getD s at 0) 40 ≡ true → itemEndAt s at ≡ cellEndAt s at
   unfolding itemEndAt
   item-bracket-end e = rw e
 
-  pub item-plain-end : eqb (getD s at 0) 40 ≡ false → itemEndAt s at ≡ wordEndAt s at
+  pub item-plain-end : eqb (getD s at 0) 40 ≡ false → itemEndAt s at ≡ writtenEndAt s at
   unfolding itemEndAt
   item-plain-end e = rw e
 
@@ -55,7 +57,10 @@ module _ (s : List ℕ) (at : ℕ) where
 
   module _ (e : getD s at 0 ≡ 32) (o : eqb (getD s (at + 1) 0) 40 ≡ false) where
     plain-first : itemsAt s at ≡ plain (wordOf s (at + 1)) ∷ itemsAt s (wordEndAt s (at + 1))
-    plain-first = items-more s at e ∙ (λ j. item-plain s (at + 1) o j ∷ itemsAt s (item-plain-end s (at + 1) o j))
+    plain-first =
+        items-more s at e
+        ∙ (λ j. item-plain s (at + 1) o j ∷ itemsAt s (item-plain-end s (at + 1) o j))
+        ∙ (λ j. plain (record { at = at + 1; bytes = written-word s (at + 1) j }) ∷ itemsAt s (written-end s (at + 1) j))
 
     module _ (b : Bool) (n : isName (wordAt s (at + 1)) ≡ b) where
       pub led-values : valuesBehindLabel (itemsAt s at) ≡ cond b (plainValues (itemsAt s (wordEndAt s (at + 1)))) none

@@ -1,9 +1,9 @@
 -- Tables by the places of their columns: one column or more is a list that is not empty, and a table has the scheme that its
 -- keyword says. Assumes nothing.
-use Prim.Native.Nat.{ℕ}
+use Prim.Native.Nat.{_≤_, ℕ}
 use borrow.Author.Tests.{eq-eqb, eqb-false, eqb-true}
 use lib.Dec.{eqb}
-use lib.ListN.{getD}
+use lib.ListN.{getD, length}
 use mathlib.Core.Bool.{Bool, false, true}
 use mathlib.Core.List.{List, _∷_, map}
 use mathlib.Core.Option.{Option, none, some}
@@ -15,7 +15,7 @@ use Rattle.form.proofs.WalkLaws.{columns-walk, labelled-columns-walk}
 use Rattle.form.specs.BodyPlaces.{ColumnsWithin, ReadsColumns, columnsTo, tableTo, underScheme}
 use Rattle.form.specs.Form.{ColumnForm, Form, byColumn, table}
 use Rattle.form.specs.FormReader.{column, labelledColumn, labelledColumns, plainColumns, schemes}
-use Rattle.form.specs.Places.{SchemeWithin, schemeAt, tableColumnsAt}
+use Rattle.form.specs.TableWords.{columnWords, schemeWords}
 use Rattle.form.specs.Walks.{columnsAt}
 use Rattle.text.proofs.EndLaws.{end-none, end-read}
 use Rattle.text.proofs.Forward.{Forward, forward-many}
@@ -59,12 +59,12 @@ module _ {A B : Type 0} (R : Reader A) (f : List A → B) (s : List ℕ) (at : �
 
 -- ---- columns, one at least
 
-module _ (s : List ℕ) (at e : ℕ) (k : coded.Scheme) {A : Type 0} (R : Reader A) (p : Forward R) (make : Word → List A → Form) where
+module _ (s : List ℕ) (at e : ℕ) (k : coded.Scheme) (l : ℕ) {A : Type 0} (R : Reader A) (p : Forward R) (make : Word → List A → Form) where
   -- the code's answer for a table of columns that R reads: the keyword is followed by one column or more, and what is made of
   -- the columns that stand there is the table
-  columns-read : (r : End) {q : Columns} → q ≡ underScheme s k e r → r ≡ wordEnd (many R (from s e))
-      → ((t : Word) (xs : List A) (g : ℕ) → many R (from s e) ≡ some (xs, from s g) → make t xs ≡ table t (schemeAt s k e) (tableColumnsAt s k e))
-      → SchemeWithin s k
+  columns-read : (r : End) {q : Columns} → q ≡ underScheme s k l e r → r ≡ wordEnd (many R (from s e))
+      → ((t : Word) (xs : List A) (g : ℕ) → many R (from s e) ≡ some (xs, from s g) → make t xs ≡ table t (schemeWords s k l e) (columnWords s k e))
+      → l ≤ length s
       → ((t : Word) → keyword (schemes t) (from s at) ≡ oneOrMore R (make t) s e)
       → ReadsColumns s at q
   unfolding underScheme columnsTo tableTo ColumnsWithin
@@ -74,7 +74,7 @@ module _ (s : List ℕ) (at e : ℕ) (k : coded.Scheme) {A : Type 0} (R : Reader
       go true z (At g) y =
           let b : getD s e 0 ≡ 32 = eqb-true _ _ z in
           let x = end-read (many R) s e (forward-many R p) g (sym c ∙ y) in
-          let answered : q ≡ columns.At k e g = h ∙ rw (z, y) in
+          let answered : q ≡ columns.At k l e g = h ∙ rw (z, y) in
           rw answered (record { is = λ t. called t ∙ one-or-more R (make t) s e p b ∙ rw (x .1, made t (x .0) g (x .1)); within = (w, omega (arith, space-before s e b)) })
       go true z Nothing y =
           let wrong : q ≡ columns.Refused = h ∙ rw (z, y) in
@@ -85,20 +85,20 @@ module _ (s : List ℕ) (at e : ℕ) (k : coded.Scheme) {A : Type 0} (R : Reader
 
 module _ (s : List ℕ) (at e : ℕ) where
   -- plain columns, for every scheme but by column
-  pub plain-table : (k : coded.Scheme) (r : End) {q : Columns} → q ≡ underScheme s k e r → r ≡ wordEnd (many column (from s e))
-      → tableColumnsAt s k e ≡ columnsAt s e → SchemeWithin s k
-      → ((t : Word) → keyword (schemes t) (from s at) ≡ plainColumns t (schemeAt s k e) (from s e))
+  pub plain-table : (k : coded.Scheme) (l : ℕ) (r : End) {q : Columns} → q ≡ underScheme s k l e r → r ≡ wordEnd (many column (from s e))
+      → columnWords s k e ≡ columnsAt s e → l ≤ length s
+      → ((t : Word) → keyword (schemes t) (from s at) ≡ plainColumns t (schemeWords s k l e) (from s e))
       → ReadsColumns s at q
   unfolding plainColumns
-  plain-table k r h c cs w called =
-      columns-read s at e k column forward-column (λ t xs. table t (schemeAt s k e) xs) r h c
-      (λ t xs g is. ap (λ (ys : List ColumnForm). table t (schemeAt s k e) ys) (columns-walk s e xs (from s g) is ∙ sym cs)) w called
+  plain-table k l r h c cs w called =
+      columns-read s at e k l column forward-column (λ t xs. table t (schemeWords s k l e) xs) r h c
+      (λ t xs g is. ap (λ (ys : List ColumnForm). table t (schemeWords s k l e) ys) (columns-walk s e xs (from s g) is ∙ sym cs)) w called
 
   -- columns with a label at each
-  pub labelled-table : (r : End) {q : Columns} → q ≡ underScheme s scheme.ByColumn e r → r ≡ wordEnd (many labelledColumn (from s e))
+  pub labelled-table : (r : End) {q : Columns} → q ≡ underScheme s scheme.ByColumn 0 e r → r ≡ wordEnd (many labelledColumn (from s e))
       → ((t : Word) → keyword (schemes t) (from s at) ≡ labelledColumns t (from s e))
       → ReadsColumns s at q
-  unfolding labelledColumns schemeAt tableColumnsAt SchemeWithin
+  unfolding labelledColumns schemeWords columnWords
   labelled-table r h c called =
-      columns-read s at e scheme.ByColumn labelledColumn forward-labelledColumn (λ t xs. table t (byColumn (map (λ x. x .1) xs)) (map (λ x. x .0) xs)) r h c
-      (λ t xs g is. let w = labelled-columns-walk s e xs (from s g) is in rw (w .0, w .1)) tt called
+      columns-read s at e scheme.ByColumn 0 labelledColumn forward-labelledColumn (λ t xs. table t (byColumn (map (λ x. x .1) xs)) (map (λ x. x .0) xs)) r h c
+      (λ t xs g is. let w = labelled-columns-walk s e xs (from s g) is in rw (w .0, w .1)) (omega arith) called

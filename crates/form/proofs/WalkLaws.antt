@@ -11,17 +11,17 @@ use mathlib.Core.Path.{_∙_, _≡_, ap, refl, sym}
 use native.Mathlib.Omega.{arith}
 use Rattle.condition.specs.Kinds.{Kind, names, numbers}
 use Rattle.form.specs.Form.{ColumnForm, GivenForm, Item, labelled, plain}
-use Rattle.form.specs.FormReader.{column, columnBody, givenForm, item, kinds, labelledColumn, labelledItem, plainItem}
-use Rattle.form.specs.Walks.{columnAt, columnLabelAt, columnLabelsAt, columnsAt, firstIn, givenAt, givensAt, itemAt, itemEndAt, itemsAt, kindAt, labelledColumnsAt, listAt, listUpTo, namesAt, pairEndAt, secondIn, thirdIn, tripleEndAt}
+use Rattle.form.specs.FormReader.{cellValue, column, columnBody, givenForm, item, kinds, labelledColumn, labelledItem, plainItem}
+use Rattle.form.specs.Walks.{cellEndAt, cellLabelIn, columnAt, columnLabelAt, columnLabelsAt, columnsAt, firstIn, givenAt, givensAt, itemAt, itemEndAt, itemsAt, kindAt, labelledColumnsAt, listAt, listUpTo, namesAt, pairEndAt, secondIn, thirdIn, tripleEndAt}
 use Rattle.text.proofs.ReaderLaws.{not-read}
-use Rattle.text.proofs.WalkingLaws.{Finds, finds-bind, finds-bracketed, finds-give, finds-if, finds-next, finds-run, finds-word, next-forward, next-within, past-forward, past-here, past-within, word-forward, word-within}
+use Rattle.text.proofs.WalkingLaws.{Finds, finds-bind, finds-bracketed, finds-give, finds-if, finds-next, finds-run, finds-word, next-forward, next-within, past-forward, past-here, past-within, word-forward, word-within, written-end}
 use Rattle.text.specs.Brackets.{among, keyword, many, upTo}
 use Rattle.text.specs.Bytes.{ascii}
 use Rattle.text.specs.Names.{isName, sameName}
 use Rattle.text.specs.Numbers.{isValue}
 use Rattle.text.specs.Reader.{Left, Reader, _>>=_, from, give, refuse}
-use Rattle.text.specs.Walking.{nextWord, past, wordEndAt}
-use Rattle.text.specs.Words.{Word, isCalled, name, value, wordOf}
+use Rattle.text.specs.Walking.{nextWord, past, wordEndAt, writtenEndAt}
+use Rattle.text.specs.Words.{Word, isCalled, name, value, wordOf, writtenAt, writtenOf}
 
 -- ---- one item more, or none
 
@@ -143,21 +143,42 @@ module _ (s : List ℕ) (at : ℕ) where
   unfolding tripleEndAt thirdIn
   triple-within h = past-within 41 s (wordEndAt s (nextWord s (secondIn s at))) (word-within s (nextWord s (secondIn s at)) (next-within s (secondIn s at) (second-within h)))
 
+  -- a value being a word, the label of `(v L)` is its second word, and the bracket ends behind that
+  pub cell-label : cellLabelIn s at ≡ secondIn s at
+  unfolding cellLabelIn secondIn nextWord
+  cell-label = ap (past 32 s) (written-end s (firstIn s at))
+
+  pub cell-end : cellEndAt s at ≡ pairEndAt s at
+  unfolding cellEndAt pairEndAt
+  cell-end = ap (λ p. past 41 s (wordEndAt s p)) cell-label
+
+  pub cell-onward : at ≤ cellEndAt s at
+  cell-onward = omega (arith, cell-end, pair-onward)
+
+  pub cell-within : at ≤ length s → cellEndAt s at ≤ length s
+  cell-within h = omega (arith, cell-end, pair-within h)
+
+  pub value-onward : at ≤ writtenEndAt s at
+  value-onward = omega (arith, written-end s at, word-forward s at)
+
+  pub value-within : at ≤ length s → writtenEndAt s at ≤ length s
+  value-within h = omega (arith, written-end s at, word-within s at h)
+
   pub item-onward : at ≤ itemEndAt s at
   unfolding itemEndAt
   item-onward = go (eqb (getD s at 0) 40)
     where
-      go : (t : Bool) → at ≤ cond t (pairEndAt s at) (wordEndAt s at)
-      go true = pair-onward
-      go false = word-forward s at
+      go : (t : Bool) → at ≤ cond t (cellEndAt s at) (writtenEndAt s at)
+      go true = cell-onward
+      go false = value-onward
 
   pub item-within : at ≤ length s → itemEndAt s at ≤ length s
   unfolding itemEndAt
   item-within h = go (eqb (getD s at 0) 40)
     where
-      go : (t : Bool) → cond t (pairEndAt s at) (wordEndAt s at) ≤ length s
-      go true = pair-within h
-      go false = word-within s at h
+      go : (t : Bool) → cond t (cellEndAt s at) (writtenEndAt s at) ≤ length s
+      go true = cell-within h
+      go false = value-within h
 
 -- ---- what each reader of an item reads
 
@@ -166,6 +187,10 @@ finds-name s = finds-word s isName
 
 finds-value : (s : List ℕ) → Finds s value (wordOf s) (wordEndAt s)
 finds-value s = finds-word s isValue
+
+finds-cellValue : (s : List ℕ) → Finds s cellValue (writtenOf s) (writtenEndAt s)
+unfolding writtenAt writtenEndAt wordEndAt
+finds-cellValue s = finds-value s
 
 pub finds-kind : (s : List ℕ) → Finds s (keyword kinds) (kindAt s) (wordEndAt s)
 unfolding keyword kinds among isCalled kindAt
@@ -193,12 +218,12 @@ unfolding labelledColumn columnAt columnLabelAt tripleEndAt firstIn secondIn thi
 finds-labelledColumn s = finds-bracketed (finds-bind (finds-columnBody s) _ (λ c. finds-bind (finds-next (finds-name s)) _ (λ l. finds-give s (c, l))))
 
 pub finds-item : (s : List ℕ) → Finds s item (itemAt s) (itemEndAt s)
-unfolding item labelledItem plainItem itemAt itemEndAt pairEndAt firstIn secondIn nextWord
+unfolding item labelledItem plainItem itemAt itemEndAt cellEndAt cellLabelIn firstIn
 finds-item s =
     finds-if
-    (finds-bracketed (finds-bind (finds-value s) _ (λ v. finds-bind (finds-next (finds-name s)) _ (λ l. finds-give s (labelled v l)))))
+    (finds-bracketed (finds-bind (finds-cellValue s) _ (λ v. finds-bind (finds-next (finds-name s)) _ (λ l. finds-give s (labelled v l)))))
     40
-    (finds-bind (finds-value s) _ (λ v. finds-give s (plain v)))
+    (finds-bind (finds-cellValue s) _ (λ v. finds-give s (plain v)))
 
 -- ---- the lists
 

@@ -5,11 +5,11 @@ use lib.ListN.{getD, length}
 use mathlib.Core.List.{List, [], _∷_}
 use mathlib.Core.Path.{_≡_}
 use native.Mathlib.Omega.{arith}
-use Rattle.form.proofs.WalkLaws.{item-onward, item-within, pair-onward, pair-within, triple-onward, triple-within, walk-more, walk-stop}
-use Rattle.form.specs.Walks.{columnAt, columnLabelAt, columnLabelsAt, columnsAt, givenAt, givensAt, itemAt, itemEndAt, itemsAt, labelledColumnsAt, namesAt, pairEndAt, tripleEndAt}
+use Rattle.form.proofs.WalkLaws.{cell-onward, cell-within, item-onward, item-within, pair-onward, pair-within, triple-onward, triple-within, value-onward, value-within, walk-more, walk-stop}
+use Rattle.form.specs.Walks.{cellAt, cellEndAt, cellsAt, columnAt, columnLabelAt, columnLabelsAt, columnsAt, givenAt, givensAt, itemAt, itemEndAt, itemsAt, labelledColumnsAt, namesAt, pairEndAt, plainAt, tripleEndAt}
 use Rattle.text.proofs.WalkingLaws.{word-forward, word-within}
-use Rattle.text.specs.Walking.{wordEndAt}
-use Rattle.text.specs.Words.{wordOf}
+use Rattle.text.specs.Walking.{wordEndAt, writtenEndAt}
+use Rattle.text.specs.Words.{wordOf, writtenOf}
 
 -- ---- a turn goes on, and stays within the text: for each kind of end
 
@@ -31,6 +31,18 @@ module _ (s : List ℕ) (at : ℕ) where
 
   pub triple-inside : at < length s → tripleEndAt s (at + 1) ≤ length s
   triple-inside h = triple-within s (at + 1) (omega arith)
+
+  pub value-after : at < writtenEndAt s (at + 1)
+  value-after = omega (arith, value-onward s (at + 1))
+
+  pub value-inside : at < length s → writtenEndAt s (at + 1) ≤ length s
+  value-inside h = value-within s (at + 1) (omega arith)
+
+  pub cell-after : at < cellEndAt s (at + 1)
+  cell-after = omega (arith, cell-onward s (at + 1))
+
+  pub cell-inside : at < length s → cellEndAt s (at + 1) ≤ length s
+  cell-inside h = cell-within s (at + 1) (omega arith)
 
   pub item-after : at < itemEndAt s (at + 1)
   item-after = omega (arith, item-onward s (at + 1))
@@ -88,3 +100,19 @@ module _ (s : List ℕ) (at : ℕ) where
   pub items-stop : (getD s at 0 ≡ 32 → ⊥) → itemsAt s at ≡ []
   unfolding itemsAt
   items-stop h = walk-stop itemAt itemEndAt s (item-onward s) at h
+
+  pub plain-more : getD s at 0 ≡ 32 → plainAt s at ≡ writtenOf s (at + 1) ∷ plainAt s (writtenEndAt s (at + 1))
+  unfolding plainAt
+  plain-more h = walk-more writtenOf writtenEndAt s (value-onward s) at h
+
+  pub plain-stop : (getD s at 0 ≡ 32 → ⊥) → plainAt s at ≡ []
+  unfolding plainAt
+  plain-stop h = walk-stop writtenOf writtenEndAt s (value-onward s) at h
+
+  pub cells-more : getD s at 0 ≡ 32 → cellsAt s at ≡ cellAt s (at + 1) ∷ cellsAt s (cellEndAt s (at + 1))
+  unfolding cellsAt
+  cells-more h = walk-more cellAt cellEndAt s (cell-onward s) at h
+
+  pub cells-stop : (getD s at 0 ≡ 32 → ⊥) → cellsAt s at ≡ []
+  unfolding cellsAt
+  cells-stop h = walk-stop cellAt cellEndAt s (cell-onward s) at h

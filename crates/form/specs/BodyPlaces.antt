@@ -9,7 +9,8 @@ use mathlib.Core.Option.{Option, Option·map, none, some}
 use mathlib.Core.Path.{_≡_}
 use Rattle.form.specs.Form.{Form, table}
 use Rattle.form.specs.FormReader.{schemes}
-use Rattle.form.specs.Places.{SchemeWithin, Within, lineAt, schemeAt, tableColumnsAt}
+use Rattle.form.specs.Places.{Within, lineAt}
+use Rattle.form.specs.TableWords.{columnWords, schemeWords}
 use Rattle.form.specs.Walks.{namesAt}
 use Rattle.text.specs.Brackets.{keyword}
 use Rattle.text.specs.Reader.{Left, from}
@@ -54,24 +55,24 @@ pub record ReadsSet (s : List ℕ) (o : Option (List Word × Left)) (r : Set) : 
   pub is : o ≡ setAt s r
   pub within : SetWithin s r
 
--- columns of a scheme from a position to an end
-unfoldable pub columnsTo : coded.Scheme → ℕ → End → Columns
-columnsTo k at Nothing = columns.Refused
-columnsTo k at (At e) = columns.At k at e
+-- columns of a scheme, the table's label at l, from a position to an end
+unfoldable pub columnsTo : coded.Scheme → ℕ → ℕ → End → Columns
+columnsTo k l at Nothing = columns.Refused
+columnsTo k l at (At e) = columns.At k l at e
 
 -- the same, one column at least: a space stands before the first
-unfoldable pub underScheme : List ℕ → coded.Scheme → ℕ → End → Columns
-underScheme s k at r = cond (eqb (getD s at 0) 32) (columnsTo k at r) columns.Refused
+unfoldable pub underScheme : List ℕ → coded.Scheme → ℕ → ℕ → End → Columns
+underScheme s k l at r = cond (eqb (getD s at 0) 32) (columnsTo k l at r) columns.Refused
 
 -- a table with the name t, by the code's answer for its scheme and columns
 unfoldable pub tableTo : List ℕ → Word → Columns → Option (Form × Left)
 tableTo s t columns.Refused = none
-tableTo s t (columns.At k cs e) = some (table t (schemeAt s k cs) (tableColumnsAt s k cs), from s e)
+tableTo s t (columns.At k l cs e) = some (table t (schemeWords s k l cs) (columnWords s k cs), from s e)
 
 -- the places of a table's label and columns lie in the line
 unfoldable pub ColumnsWithin : List ℕ → Columns → Type 0
 ColumnsWithin s columns.Refused = Unit {0}
-ColumnsWithin s (columns.At k cs e) = SchemeWithin s k × (cs ≤ length s)
+ColumnsWithin s (columns.At k l cs e) = (l ≤ length s) × (cs ≤ length s)
 
 -- the code's answer r stands for what the reader of a scheme and columns gives, whatever the table's name
 pub record ReadsColumns (s : List ℕ) (at : ℕ) (r : Columns) : Type 0 where

@@ -7,31 +7,14 @@ use mathlib.Core.Option.{Option, Option·map, none, some}
 use mathlib.Core.Path.{_≡_}
 use Rattle.condition.specs.Answers.{kindOf}
 use Rattle.condition.specs.CondForm.{conditionInForm}
-use Rattle.form.specs.Form.{ColumnForm, Form, Scheme, attr, byCell, byColumn, byRow, byTable, condRole, grant, label, purpose, role, row, table, unlabelled, user}
+use Rattle.form.specs.Form.{Form, attr, condRole, grant, label, purpose, role, row, user}
 use Rattle.form.specs.FormReader.{formOf}
-use Rattle.form.specs.Walks.{columnLabelsAt, columnsAt, givensAt, itemsAt, labelledColumnsAt, namesAt}
+use Rattle.form.specs.TableWords.{tableLine}
+use Rattle.form.specs.Walks.{givensAt, itemsAt, namesAt}
 use Rattle.text.specs.Reader.{from}
-use Rattle.text.specs.Words.{Word, wordOf}
+use Rattle.text.specs.Words.{wordOf}
 use Rattle.form.specs.declared.lines.Line.{Line}
 use Rattle.form.specs.declared.lines.Line.the-variants as line
-use Rattle.form.specs.declared.lines.Scheme as coded
-use Rattle.form.specs.declared.lines.Scheme.the-variants as scheme
-
--- the scheme that the code's answer names, for columns from a position on
-unfoldable pub schemeAt : List ℕ → coded.Scheme → ℕ → Scheme Word
-schemeAt s scheme.Unlabelled cs = unlabelled
-schemeAt s (scheme.ByTable l) cs = byTable (wordOf s l)
-schemeAt s scheme.ByColumn cs = byColumn (columnLabelsAt s cs)
-schemeAt s scheme.ByRow cs = byRow
-schemeAt s scheme.ByCell cs = byCell
-
--- the columns of a table of this scheme from a position on
-unfoldable pub tableColumnsAt : List ℕ → coded.Scheme → ℕ → List ColumnForm
-tableColumnsAt s scheme.Unlabelled cs = columnsAt s cs
-tableColumnsAt s (scheme.ByTable l) cs = columnsAt s cs
-tableColumnsAt s scheme.ByColumn cs = labelledColumnsAt s cs
-tableColumnsAt s scheme.ByRow cs = columnsAt s cs
-tableColumnsAt s scheme.ByCell cs = columnsAt s cs
 
 -- the form that the code's answer stands for
 unfoldable pub lineAt : List ℕ → Line → Option Form
@@ -45,16 +28,8 @@ lineAt s (line.User u r gs) = some (user (wordOf s u) (wordOf s r) (givensAt s g
 lineAt s (line.CondRole c r t) = Option·map (λ x. condRole (wordOf s c) (wordOf s r) (x .0)) (conditionInForm (from s t))
 lineAt s (line.Grant p c) = some (grant (wordOf s p) (wordOf s c))
 lineAt s (line.Label l ps qs) = some (label (wordOf s l) (namesAt s ps) (namesAt s qs))
-lineAt s (line.Table t k cs) = some (table (wordOf s t) (schemeAt s k cs) (tableColumnsAt s k cs))
+lineAt s (line.Table t k l cs) = some (tableLine s t k l cs)
 lineAt s (line.Row t is) = some (row (wordOf s t) (itemsAt s is))
-
--- the label's place lies in the line
-unfoldable pub SchemeWithin : List ℕ → coded.Scheme → Type 0
-SchemeWithin s scheme.Unlabelled = Unit {0}
-SchemeWithin s (scheme.ByTable l) = l ≤ length s
-SchemeWithin s scheme.ByColumn = Unit {0}
-SchemeWithin s scheme.ByRow = Unit {0}
-SchemeWithin s scheme.ByCell = Unit {0}
 
 -- the places of the answer lie in the line
 unfoldable pub Within : List ℕ → Line → Type 0
@@ -68,7 +43,7 @@ Within s (line.User u r gs) = (u ≤ length s) × (r ≤ length s) × (gs ≤ le
 Within s (line.CondRole c r t) = (c ≤ length s) × (r ≤ length s) × (t ≤ length s)
 Within s (line.Grant p c) = (p ≤ length s) × (c ≤ length s)
 Within s (line.Label l ps qs) = (l ≤ length s) × (ps ≤ length s) × (qs ≤ length s)
-Within s (line.Table t k cs) = (t ≤ length s) × SchemeWithin s k × (cs ≤ length s)
+Within s (line.Table t k l cs) = (t ≤ length s) × (l ≤ length s) × (cs ≤ length s)
 Within s (line.Row t is) = (t ≤ length s) × (is ≤ length s)
 
 -- THE LINE: the code's answer r stands for the form that the line is, and its places lie in the line

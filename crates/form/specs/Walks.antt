@@ -8,8 +8,8 @@ use Rattle.condition.specs.Kinds.{Kind, names, numbers}
 use Rattle.form.specs.Form.{ColumnForm, GivenForm, Item, labelled, plain}
 use Rattle.text.specs.Bytes.{ascii}
 use Rattle.text.specs.Names.{sameName}
-use Rattle.text.specs.Walking.{nextWord, past, wordEndAt}
-use Rattle.text.specs.Words.{Word, wordAt, wordOf}
+use Rattle.text.specs.Walking.{nextWord, past, wordEndAt, writtenEndAt}
+use Rattle.text.specs.Words.{Word, wordAt, wordOf, writtenOf}
 
 module _ {A : Type 0} (itemAt : List ℕ → ℕ → A) (endAt : List ℕ → ℕ → ℕ) where
   -- at most n items, each behind a space, by where each stands and ends
@@ -77,13 +77,33 @@ columnLabelAt s at = wordOf s (thirdIn s at)
 unfoldable pub columnLabelsAt : List ℕ → ℕ → List Word
 columnLabelsAt s at = listAt columnLabelAt tripleEndAt s at
 
+-- where the label stands in the `(v L)` at a position: behind the value
+unfoldable pub cellLabelIn : List ℕ → ℕ → ℕ
+cellLabelIn s at = past 32 s (writtenEndAt s (firstIn s at))
+
+-- where it ends
+unfoldable pub cellEndAt : List ℕ → ℕ → ℕ
+cellEndAt s at = past 41 s (wordEndAt s (cellLabelIn s at))
+
+-- the value and the label of the `(v L)` at a position
+unfoldable pub cellAt : List ℕ → ℕ → Word × Word
+cellAt s at = (writtenOf s (firstIn s at), wordOf s (cellLabelIn s at))
+
+-- the items of a row without labels from a position on: its values
+unfoldable pub plainAt : List ℕ → ℕ → List Word
+plainAt s at = listAt writtenOf writtenEndAt s at
+
+-- the items of a row with a label at each from a position on
+unfoldable pub cellsAt : List ℕ → ℕ → List (Word × Word)
+cellsAt s at = listAt cellAt cellEndAt s at
+
 -- the item of a row at a position: `(v L)` where a bracket opens, and else `v`
 unfoldable pub itemAt : List ℕ → ℕ → Item
-itemAt s at = cond (eqb (getD s at 0) 40) (labelled (wordOf s (firstIn s at)) (wordOf s (secondIn s at))) (plain (wordOf s at))
+itemAt s at = cond (eqb (getD s at 0) 40) (labelled (writtenOf s (firstIn s at)) (wordOf s (cellLabelIn s at))) (plain (writtenOf s at))
 
 -- where it ends
 unfoldable pub itemEndAt : List ℕ → ℕ → ℕ
-itemEndAt s at = cond (eqb (getD s at 0) 40) (pairEndAt s at) (wordEndAt s at)
+itemEndAt s at = cond (eqb (getD s at 0) 40) (cellEndAt s at) (writtenEndAt s at)
 
 -- the items of a row from a position on
 unfoldable pub itemsAt : List ℕ → ℕ → List Item

@@ -22,18 +22,33 @@ ghost use Rattle.form.specs.Form.{purpose, role};
 ghost use Rattle.form.specs.FormReader.{attrForm, condRoleForm, grantForm, labelForm, lineForms, node, purposeSet, rowForm, tableForm, userForm};
 ghost use Rattle.form.specs.BodyPlaces.{ReadsBody, ReadsColumns, ReadsSet, underScheme};
 ghost use Rattle.form.specs.Places.{Reads};
+ghost use Rattle.form.specs.TableWords.{labelsColumns};
 
-// Where a table's labels stand; the label of the whole table by the place of its name.
+// Where a table's labels stand.
 pub enum Scheme {
     Unlabelled,
-    ByTable(usize),
+    ByTable,
     ByColumn,
     ByRow,
     ByCell,
 }
 
+// Whether the labels of a table of this scheme stand at its columns.
+pub fn labels_columns(s: Scheme) -> bool
+    ensures { λ r. ⌜ r ≡ labelsColumns s ⌝ }
+{
+    match s {
+        Scheme::Unlabelled => false,
+        Scheme::ByTable => false,
+        Scheme::ByColumn => true,
+        Scheme::ByRow => false,
+        Scheme::ByCell => false,
+    }
+}
+
 // A line that was read. Words are given by their places, lists by the place of the space before their first item (of the
-// closing bracket, where they are empty), a condition by the place of its bracket.
+// closing bracket, where they are empty), a condition by the place of its bracket; a table by the places of its name, of its own
+// label (0 where its scheme has none there) and of its columns.
 pub enum Line {
     Wrong,
     Purpose(usize),
@@ -45,7 +60,7 @@ pub enum Line {
     CondRole(usize, usize, usize),
     Grant(usize, usize),
     Label(usize, usize, usize),
-    Table(usize, Scheme, usize),
+    Table(usize, Scheme, usize, usize),
     Row(usize, usize),
 }
 
@@ -61,9 +76,9 @@ enum Set {
     Refused,
 }
 
-// A table's scheme, where its columns begin, and where they end.
+// A table's scheme, where its label stands, where its columns begin, and where they end.
 enum Columns {
-    At(Scheme, usize, usize),
+    At(Scheme, usize, usize, usize),
     Refused,
 }
 
@@ -223,16 +238,16 @@ fn label_body(s: &[u8], at: usize) -> Body
     Body::At(Line::Label(at + 1, p, q), g)
 }
 
-// Columns of this scheme from a position to an end, one at least: a space stands before the first.
-fn under_scheme(s: &[u8], k: Scheme, at: usize, end: End) -> Columns
-    ensures { λ r. ⌜ r ≡ underScheme (now (s .entry)) k at end ⌝ }
+// Columns of this scheme, the table's label at l, from a position to an end, one at least: a space stands before the first.
+fn under_scheme(s: &[u8], k: Scheme, l: usize, at: usize, end: End) -> Columns
+    ensures { λ r. ⌜ r ≡ underScheme (now (s .entry)) k l at end ⌝ }
 {
     let first = byte_at(s, at);
     if first != b' ' {
         return Columns::Refused;
     }
     match end {
-        End::At(e) => Columns::At(k, at, e),
+        End::At(e) => Columns::At(k, l, at, e),
         End::Nothing => Columns::Refused,
     }
 }
@@ -243,23 +258,23 @@ fn table_columns(s: &[u8], at: usize) -> Columns
 {
     let e = word_end(s, at);
     if is_word(s, at, b"none") {
-        return under_scheme(s, Scheme::Unlabelled, e, columns_end(s, e));
+        return under_scheme(s, Scheme::Unlabelled, 0, e, columns_end(s, e));
     }
     if is_word(s, at, b"table") {
         let n = spaced_name_end(s, e);
         let End::At(f) = n else {
             return Columns::Refused;
         };
-        return under_scheme(s, Scheme::ByTable(e + 1), f, columns_end(s, f));
+        return under_scheme(s, Scheme::ByTable, e + 1, f, columns_end(s, f));
     }
     if is_word(s, at, b"column") {
-        return under_scheme(s, Scheme::ByColumn, e, labelled_columns_end(s, e));
+        return under_scheme(s, Scheme::ByColumn, 0, e, labelled_columns_end(s, e));
     }
     if is_word(s, at, b"row") {
-        return under_scheme(s, Scheme::ByRow, e, columns_end(s, e));
+        return under_scheme(s, Scheme::ByRow, 0, e, columns_end(s, e));
     }
     if is_word(s, at, b"cell") {
-        return under_scheme(s, Scheme::ByCell, e, columns_end(s, e));
+        return under_scheme(s, Scheme::ByCell, 0, e, columns_end(s, e));
     }
     Columns::Refused
 }
@@ -276,10 +291,10 @@ fn table_body(s: &[u8], at: usize) -> Body
         return Body::Refused;
     }
     let t = table_columns(s, e + 1);
-    let Columns::At(k, f, g) = t else {
+    let Columns::At(k, l, f, g) = t else {
         return Body::Refused;
     };
-    Body::At(Line::Table(at + 1, k, f), g)
+    Body::At(Line::Table(at + 1, k, l, f), g)
 }
 
 // `T` and its items.

@@ -14,7 +14,7 @@ use Rattle.index.proofs.Finding.{found-first}
 use Rattle.index.proofs.ListedLaws.{findIndexFrom-shift, listed-pushed, listed-there}
 use Rattle.index.proofs.Stores.{Store, stores, stores-other, stores-same}
 use Rattle.index.specs.Attributes.{Attributes, attributeIn}
-use Rattle.index.specs.Cells.{kindOfCell, kindSaid}
+use Rattle.index.specs.Cells.{kindOfCell}
 use Rattle.index.specs.Listed.{listed}
 use Rattle.lists.specs.Lists.{findIndex, findIndexFrom}
 use Rattle.text.specs.Bytes.{ascii}
@@ -108,11 +108,3 @@ module _ (w : Word) {text ws : List ℕ} {k : ℕ} {xs : List Attribute} (h : At
   found-later e₁ e₂ e₃ r e =
       ap (Option·map (λ i. 3 + i)) (e ∙ found-first (isCalled w) (λ (x : Attribute). x .name) text ws (attributeIn text ws) k (listed (attributeIn text ws) k) (λ i. unfold attributeIn in refl) refl)
       ∙ sym (found-behind-clock e₁ e₂ e₃)
-
--- ---- types
-
--- a type's number is not 0 exactly when the type is that of names
-pub kind-read : (n : ℕ) → kindOfCell n ≡ kindSaid (not (eqb n 0))
-unfolding kindOfCell kindSaid
-kind-read zero = refl
-kind-read (suc n) = rw (ne-eqb (suc n) 0 (omega arith))

@@ -8,13 +8,13 @@ use mathlib.Core.Option.{some}
 use mathlib.Core.Path.{_∙_, _≡_, ap, refl, subst, sym}
 use native.Mathlib.Omega.{arith}
 use Rattle.document.specs.Policy.{Row}
-use Rattle.index.specs.Rows.{FillingRow, LabelStored, Rows, ValueStored, rowIn, rowLabelIn, valueIn}
+use Rattle.index.specs.Rows.{FillingRow, LabelStored, Rows, ValueStored, labelCountIn, labelRoom, rowIn, rowLabelIn, valueCountIn, valueIn, valuePlaceIn}
 use Rattle.index.specs.Tables.{Cut}
 use Rattle.index.specs.Listed.{listed}
 use Rattle.index.proofs.CellLaws.{kept-3}
 use Rattle.index.proofs.ListedLaws.{length-listed, listed-at, listed-pushed, listed-same, listed-there}
 use Rattle.text.specs.Numbers.{Value}
-use Rattle.text.specs.Words.{wordAt}
+use Rattle.text.specs.Words.{writtenAt}
 
 -- ---- what stores leave
 
@@ -34,7 +34,7 @@ module _ (text ws ws′ : List ℕ) where
       values : listed (valueIn text ws′ r) (getD ws′ (1024 + r) 0) ≡ listed (valueIn text ws r) (getD ws (1024 + r) 0)
       values =
           ap (listed (valueIn text ws′ r)) (s .width)
-          ∙ listed-same (valueIn text ws′ r) (valueIn text ws r) (getD ws (1024 + r) 0) (λ c l. ap (wordAt text) (s .value c (omega (arith, l, n))))
+          ∙ listed-same (valueIn text ws′ r) (valueIn text ws r) (getD ws (1024 + r) 0) (λ c l. ap (writtenAt text) (s .value c (omega (arith, l, n))))
 
       labels : listed (rowLabelIn ws′ r) (getD ws′ (2048 + r) 0) ≡ listed (rowLabelIn ws r) (getD ws (2048 + r) 0)
       labels =
@@ -69,9 +69,9 @@ module _ (ws : List ℕ) (r : ℕ) (long : length ws ≡ 35840) (inside : r < 10
       few = omega (arith, s);
       fewLabels = h .fewLabels;
       values =
-          listed-pushed (valueIn text ws r) (valueIn text (set ws (3072 + 16 * r + c) pos) r) c vs (wordAt text pos) (h .values)
-          (λ n b. ap (wordAt text) (getD-set-other ws (3072 + 16 * r + c) (3072 + 16 * r + n) pos 0 (λ e. omega (arith, e, b))))
-          (ap (wordAt text) (getD-set-same ws (3072 + 16 * r + c) pos 0 (omega (arith, long, inside, s))));
+          listed-pushed (valueIn text ws r) (valueIn text (set ws (3072 + 16 * r + c) pos) r) c vs (writtenAt text pos) (h .values)
+          (λ n b. ap (writtenAt text) (getD-set-other ws (3072 + 16 * r + c) (3072 + 16 * r + n) pos 0 (λ e. omega (arith, e, b))))
+          (ap (writtenAt text) (getD-set-same ws (3072 + 16 * r + c) pos 0 (omega (arith, long, inside, s))));
       labels =
           listed-same (rowLabelIn (set ws (3072 + 16 * r + c) pos) r) (rowLabelIn ws r) m
           (λ n b. getD-set-other ws (3072 + 16 * r + c) (19456 + 16 * r + n) pos 0 (λ e. omega (arith, e, inside, s)))
@@ -87,7 +87,7 @@ module _ (ws : List ℕ) (r : ℕ) (long : length ws ≡ 35840) (inside : r < 10
       fewLabels = omega (arith, s);
       values =
           listed-same (valueIn text (set ws (19456 + 16 * r + m) label) r) (valueIn text ws r) c
-          (λ n b. ap (wordAt text) (getD-set-other ws (19456 + 16 * r + m) (3072 + 16 * r + n) label 0 (λ e. omega (arith, e, inside, b, h .few))))
+          (λ n b. ap (writtenAt text) (getD-set-other ws (19456 + 16 * r + m) (3072 + 16 * r + n) label 0 (λ e. omega (arith, e, inside, b, h .few))))
           ∙ h .values;
       labels =
           listed-pushed (rowLabelIn ws r) (rowLabelIn (set ws (19456 + 16 * r + m) label) r) m ls label (h .labels)
@@ -146,7 +146,7 @@ module _ (ws : List ℕ) (k table c m : ℕ) (long : length ws ≡ 35840) (insid
   filling-same text vs ls f = record {
     few = f .few;
     fewLabels = f .fewLabels;
-    values = listed-same (valueIn text w3 k) (valueIn text ws k) c (λ n l. ap (wordAt text) (besides (3072 + 16 * k + n) (λ b p e. omega (arith, e, p, inside)))) ∙ f .values;
+    values = listed-same (valueIn text w3 k) (valueIn text ws k) c (λ n l. ap (writtenAt text) (besides (3072 + 16 * k + n) (λ b p e. omega (arith, e, p, inside)))) ∙ f .values;
     labels = listed-same (rowLabelIn w3 k) (rowLabelIn ws k) m (λ n l. besides (19456 + 16 * k + n) (λ b p e. omega (arith, e, p, inside))) ∙ f .labels;
   }
 
@@ -205,18 +205,18 @@ module _ (text ws : List ℕ) (k : ℕ) (rs : List Row) (h : Rows text ws k rs) 
   unfolding rowIn
   labels-count = ap (λ y. length (y .labels)) (row-known .1) ∙ length-listed (rowLabelIn ws r) (getD ws (2048 + r) 0)
 
-  pub values-read : (n : ℕ) → Cut r 1024 (getD ws (1024 + r) 0) n → n ≡ length (x .values)
+  pub values-read : (n : ℕ) → Cut 16 r 1024 (valueCountIn ws r) n → n ≡ length (x .values)
   values-read n w = w .is row-inside (h .narrow r (row-known .0)) ∙ sym values-count
 
-  pub labels-read : (n : ℕ) → Cut r 1024 (getD ws (2048 + r) 0) n → n ≡ length (x .labels)
+  pub labels-read : (n : ℕ) → Cut labelRoom r 1024 (labelCountIn ws r) n → n ≡ length (x .labels)
   labels-read n w = w .is row-inside (h .marked r (row-known .0)) ∙ sym labels-count
 
-  pub value-read : (c p : ℕ) → c < length (x .values) → (r < 1024 → c < 16 → p ≡ getD ws (3072 + 16 * r + c) 0) → getElem? (x .values) c ≡ some (wordAt text p)
+  pub value-read : (c p : ℕ) → c < length (x .values) → (r < 1024 → c < 16 → p ≡ valuePlaceIn ws r c) → getElem? (x .values) c ≡ some (writtenAt text p)
   unfolding rowIn
   value-read c p l is =
       ap (λ y. getElem? (y .values) c) (row-known .1)
       ∙ listed-at (valueIn text ws r) (getD ws (1024 + r) 0) c (omega (arith, l, values-count))
-      ∙ ap (λ n. some (wordAt text n)) (sym (is row-inside (omega (arith, l, values-count, h .narrow r (row-known .0)))))
+      ∙ ap (λ n. some (writtenAt text n)) (sym (is row-inside (omega (arith, l, values-count, h .narrow r (row-known .0)))))
 
   pub label-read : (c p : ℕ) → c < length (x .labels) → (r < 1024 → c < 16 → p ≡ getD ws (19456 + 16 * r + c) 0) → getElem? (x .labels) c ≡ some p
   unfolding rowIn

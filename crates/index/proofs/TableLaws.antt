@@ -2,11 +2,8 @@
 -- one. Assumes nothing.
 use Prim.Native.Nat.{_*_, _+_, _<_, _≤_, suc, zero, ℕ}
 use borrow.Author.Count.{below-more}
-use borrow.Author.Tests.{ne-eqb}
-use lib.Dec.{eqb}
 use lib.ListN.{getD, getElem?, length, length-set, set}
 use lib.Seq.{getD-set-other, getD-set-same}
-use mathlib.Core.Bool.{Bool, not}
 use mathlib.Core.List.{List, [], _++_, _∷_}
 use mathlib.Core.Option.{Option·getD, Option·map, some}
 use mathlib.Core.Path.{_∙_, _≡_, ap, refl, subst, sym}
@@ -15,26 +12,20 @@ use Rattle.condition.specs.Kinds.{Kind}
 use Rattle.document.specs.Lookup.{columnOf, columnsAt, schemeAt}
 use Rattle.document.specs.Policy.{Column, Policy, Table}
 use Rattle.form.specs.Form.{Scheme, byCell, unlabelled}
-use Rattle.index.specs.Cells.{kindOfCell, kindSaid}
+use Rattle.index.specs.Cells.{kindOfCell}
 use Rattle.index.specs.Found.{FoundBelow}
-use Rattle.index.specs.Tables.{ColumnStored, Cut, Filling, Tables, columnIn, columnLabelIn, schemeBy, schemeIn, schemeOfCell, tableIn}
+use Rattle.index.specs.Tables.{ColumnStored, Cut, Filling, Tables, columnCountIn, columnIn, columnKindIn, columnLabelIn, columnLabelsIn, schemeBy, schemeIn, schemeOfCell, tableIn, tableLabelIn}
 use Rattle.index.specs.Listed.{listed}
 use Rattle.index.specs.declared.found.Found.{Found}
 use Rattle.index.specs.declared.found.Found.the-variants as found
-use Rattle.index.specs.declared.tables.SchemeCode.{SchemeCode}
+use Rattle.form.specs.declared.lines.Scheme as coded
 use Rattle.index.proofs.CellLaws.{kept-3, kept-4}
 use Rattle.index.proofs.Finding.{found-first, found-from}
 use Rattle.index.proofs.ListedLaws.{length-listed, listed-at, listed-pushed, listed-same}
 use Rattle.lists.specs.Lists.{findIndex}
 use Rattle.text.specs.Words.{Word, isCalled, wordAt}
 
--- ---- numbers for types and schemes
-
--- any number but 0 stands for names
-pub kind-by : (n : ℕ) → kindOfCell n ≡ kindSaid (not (eqb n 0))
-unfolding kindOfCell kindSaid
-kind-by zero = refl
-kind-by (suc n) = ap (λ b. kindSaid (not b)) (sym (ne-eqb (suc n) 0 (λ e. omega (arith, e))))
+-- ---- numbers for schemes
 
 -- any number over 3 stands for labels by cell
 by-cell : (n l : ℕ) (ls : List ℕ) → (n ≡ 0 → ⊥) → (n ≡ 1 → ⊥) → (n ≡ 2 → ⊥) → (n ≡ 3 → ⊥) → schemeOfCell n l ls ≡ byCell
@@ -123,15 +114,15 @@ module _ (ws : List ℕ) (t c pos kind label : ℕ) (long : length ws ≡ 416) (
     columnLabel = λ d n. elsewhere (288 + 16 * q + d) (λ b m e. omega (arith, e, m, l, n, inside, s));
   }
 
-  pub column-stored : (named : Bool) → kindOfCell kind ≡ kindSaid named → ColumnStored ws w3 t c pos named label
-  column-stored named is = record {
+  pub column-stored : (type : Kind) → kindOfCell kind ≡ type → ColumnStored ws w3 t c pos type label
+  column-stored type is = record {
     kept = λ text k ts l h. tables-same text ws w3 k ts (λ q b. before-same q (omega (arith, b, l))) h;
     grown = λ text cs ls l m h. record {
       few = omega (arith, s);
       columns =
-          listed-pushed (columnIn text ws t) (columnIn text w3 t) c cs (record { name = wordAt text pos; kind = kindSaid named }) (h .columns)
+          listed-pushed (columnIn text ws t) (columnIn text w3 t) c cs (record { name = wordAt text pos; kind = type }) (h .columns)
           (λ n b. column-same text ws w3 t n (elsewhere (32 + 16 * t + n) (λ d p e. omega (arith, e, p, b, s))) (elsewhere (160 + 16 * t + n) (λ d p e. omega (arith, e, p, b, s))))
-          (column-is text ws w3 t c pos (kindSaid named)
+          (column-is text ws w3 t c pos type
           (getD-set-other w2 (288 + 16 * t + c) (32 + 16 * t + c) label 0 (λ e. omega (arith, e))
           ∙ getD-set-other w1 (160 + 16 * t + c) (32 + 16 * t + c) kind 0 (λ e. omega (arith, e))
           ∙ getD-set-same ws (32 + 16 * t + c) pos 0 (omega (arith, long, inside, s)))
@@ -153,8 +144,8 @@ module _ (ws : List ℕ) (t c pos kind label : ℕ) (long : length ws ≡ 416) (
       w2 = set w1 (160 + 16 * t + c) kind
 
 -- outside the array nothing is stored
-pub no-column : (ws : List ℕ) (t c pos : ℕ) (named : Bool) (label : ℕ) → (t < 8 → c < 16 → ⊥) → ColumnStored ws ws t c pos named label
-no-column ws t c pos named label out = record { kept = λ text k ts l h. h; grown = λ text cs ls l s h. absurd (out l s) }
+pub no-column : (ws : List ℕ) (t c pos : ℕ) (kind : Kind) (label : ℕ) → (t < 8 → c < 16 → ⊥) → ColumnStored ws ws t c pos kind label
+no-column ws t c pos kind label out = record { kept = λ text k ts l h. h; grown = λ text cs ls l s h. absurd (out l s) }
 
 -- ---- a table is added
 
@@ -260,7 +251,7 @@ unfolding tableIn
 table-found {text} {ws} {k} {ts} w h = found-first (isCalled w) (λ x. x .name) text ws (tableIn text ws) k ts (λ i. refl) (h .are)
 
 -- a column of a table, among as many as the code reads
-pub column-found : (text ws : List ℕ) (k t n : ℕ) (ts : List Table) (w : Word) → Tables text ws k ts → t < k → Cut t 8 (getD ws (24 + t) 0) n
+pub column-found : (text ws : List ℕ) (k t n : ℕ) (ts : List Table) (w : Word) → Tables text ws k ts → t < k → Cut 16 t 8 (getD ws (24 + t) 0) n
     → findIndex (λ p. isCalled w (wordAt text p)) (listed (λ i. getD ws (32 + 16 * t + i) 0) n) ≡ columnOf (listed (columnIn text ws t) (getD ws (24 + t) 0)) w
 unfolding columnIn columnOf
 column-found text ws k t n ts w h l cut =
@@ -295,13 +286,13 @@ module _ (text ws : List ℕ) (k t : ℕ) (d : Policy) (h : Tables text ws k (d 
   columns-count = ap length columns-at ∙ length-listed (columnIn text ws t) (getD ws (24 + t) 0)
 
   -- what the code reads of the table: each law takes what the function of that name gives
-  pub width-read : (n : ℕ) → Cut t 8 (getD ws (24 + t) 0) n → n ≡ length (columnsAt d t)
+  pub width-read : (n : ℕ) → Cut 16 t 8 (columnCountIn ws t) n → n ≡ length (columnsAt d t)
   width-read n w = w .is table-inside (h .narrow t l) ∙ sym columns-count
 
-  pub scheme-read : (s : SchemeCode) → (t < 8 → schemeIn ws t ≡ schemeBy s (getD ws (16 + t) 0) (listed (columnLabelIn ws t) (getD ws (24 + t) 0)))
-      → schemeAt d t ≡ schemeBy s (getD ws (16 + t) 0) (listed (columnLabelIn ws t) (length (columnsAt d t)))
+  pub scheme-read : (s : coded.Scheme) → (t < 8 → schemeIn ws t ≡ schemeBy s (tableLabelIn ws t) (columnLabelsIn ws t))
+      → schemeAt d t ≡ schemeBy s (tableLabelIn ws t) (listed (columnLabelIn ws t) (length (columnsAt d t)))
   scheme-read s is =
-      scheme-at ∙ is table-inside ∙ ap (λ n. schemeBy s (getD ws (16 + t) 0) (listed (columnLabelIn ws t) n)) (sym columns-count)
+      scheme-at ∙ is table-inside ∙ ap (λ n. schemeBy s (tableLabelIn ws t) (listed (columnLabelIn ws t) n)) (sym columns-count)
 
   module _ (c : ℕ) (b : c < length (columnsAt d t)) where
     pub column-inside : c < 16
@@ -310,9 +301,9 @@ module _ (text ws : List ℕ) (k t : ℕ) (d : Policy) (h : Tables text ws k (d 
     pub column-at : getElem? (columnsAt d t) c ≡ some (columnIn text ws t c)
     column-at = ap (λ xs. getElem? xs c) columns-at ∙ listed-at (columnIn text ws t) (getD ws (24 + t) 0) c (omega (arith, b, columns-count))
 
-    pub column-kind-read : (r : Bool) → (t < 8 → c < 16 → kindOfCell (getD ws (160 + 16 * t + c) 0) ≡ kindSaid r) → Option·map (λ x. x .kind) (getElem? (columnsAt d t) c) ≡ some (kindSaid r)
+    pub column-kind-read : (r : Kind) → (t < 8 → c < 16 → r ≡ columnKindIn ws t c) → Option·map (λ x. x .kind) (getElem? (columnsAt d t) c) ≡ some r
     unfolding columnIn
-    column-kind-read r is = ap (Option·map (λ x. x .kind)) column-at ∙ ap some (is table-inside column-inside)
+    column-kind-read r is = ap (Option·map (λ x. x .kind)) column-at ∙ ap some (sym (is table-inside column-inside))
 
-    pub column-label-read : (x : ℕ) → (t < 8 → c < 16 → x ≡ getD ws (288 + 16 * t + c) 0) → getElem? (listed (columnLabelIn ws t) (length (columnsAt d t))) c ≡ some x
+    pub column-label-read : (x : ℕ) → (t < 8 → c < 16 → x ≡ columnLabelIn ws t c) → getElem? (listed (columnLabelIn ws t) (length (columnsAt d t))) c ≡ some x
     column-label-read x is = listed-at (columnLabelIn ws t) (length (columnsAt d t)) c b ∙ ap some (sym (is table-inside column-inside))

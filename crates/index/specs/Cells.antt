@@ -1,7 +1,6 @@
 -- Contract: lines and types as the workspace holds them.
 use Prim.Native.Nat.{_-_, suc, zero, ℕ}
 use lib.ListN.{drop, take}
-use mathlib.Core.Bool.{Bool, false, true}
 use mathlib.Core.List.{List}
 use Rattle.condition.specs.Kinds.{Kind, names, numbers}
 
@@ -9,12 +8,7 @@ use Rattle.condition.specs.Kinds.{Kind, names, numbers}
 abbrev pub lineIn : List ℕ → ℕ → ℕ → List ℕ
 lineIn text a e = take (e - a) (drop a text)
 
--- a type as a number: 0 for numbers, any other for names
+-- the type that a number stands for: 0 for numbers, any other for names
 unfoldable pub kindOfCell : ℕ → Kind
 kindOfCell zero = numbers
 kindOfCell (suc n) = names
-
--- a type as the code says it: whether it is that of names
-unfoldable pub kindSaid : Bool → Kind
-kindSaid true = names
-kindSaid false = numbers

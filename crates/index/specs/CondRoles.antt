@@ -31,9 +31,25 @@ conditionRead (some r) = r .0
 unfoldable pub conditionAt : List ℕ → ℕ → ℕ → ℕ → Cond Compared
 conditionAt text a e place = conditionRead (conditionInForm (from (lineIn text a e) place))
 
+-- the role of conditional role i
+abbrev pub condRoleRoleIn : List ℕ → ℕ → ℕ
+condRoleRoleIn ws i = getD ws (64 + i) 0
+
+-- where its line starts in the text
+abbrev pub condRoleStartIn : List ℕ → ℕ → ℕ
+condRoleStartIn ws i = getD ws (128 + i) 0
+
+-- where its line ends
+abbrev pub condRoleEndIn : List ℕ → ℕ → ℕ
+condRoleEndIn ws i = getD ws (192 + i) 0
+
+-- where its condition stands in the line
+abbrev pub condRolePlaceIn : List ℕ → ℕ → ℕ
+condRolePlaceIn ws i = getD ws (256 + i) 0
+
 -- that of the conditional role of number i
 unfoldable pub conditionIn : List ℕ → List ℕ → ℕ → Cond Compared
-conditionIn text ws i = conditionAt text (getD ws (128 + i) 0) (getD ws (192 + i) 0) (getD ws (256 + i) 0)
+conditionIn text ws i = conditionAt text (condRoleStartIn ws i) (condRoleEndIn ws i) (condRolePlaceIn ws i)
 
 -- the policy knows the attributes that the condition compares
 unfoldable pub attributesKnown : Policy → Cond Compared → Bool
@@ -42,7 +58,7 @@ attributesKnown d c = allOf (λ x. there (attributeOf d (x .of))) (comparisons c
 unfoldable pub condRoleIn : Policy → List ℕ → List ℕ → ℕ → CondRole
 condRoleIn d text ws i = record {
   name = wordAt text (getD ws i 0);
-  role = getD ws (64 + i) 0;
+  role = condRoleRoleIn ws i;
   condition = mapCond (attributeComparison d) (conditionIn text ws i);
 }
 

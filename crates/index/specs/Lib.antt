@@ -11,5 +11,4 @@ pub mod Nodes
 pub mod Rows
 pub mod Tables
 pub mod Users
-pub mod TableWords
 pub mod Workspace

@@ -11,11 +11,27 @@ use Rattle.index.specs.Listed.{listed}
 use Rattle.text.specs.Words.{wordAt}
 use Rattle.index.specs.Cells.{lineIn}
 
+-- the role of user form i
+abbrev pub userRoleIn : List ℕ → ℕ → ℕ
+userRoleIn ws i = getD ws (256 + i) 0
+
+-- where its line starts in the text
+abbrev pub userStartIn : List ℕ → ℕ → ℕ
+userStartIn ws i = getD ws (512 + i) 0
+
+-- where its line ends
+abbrev pub userEndIn : List ℕ → ℕ → ℕ
+userEndIn ws i = getD ws (768 + i) 0
+
+-- where its values stand in the line
+abbrev pub userPlaceIn : List ℕ → ℕ → ℕ
+userPlaceIn ws i = getD ws (1024 + i) 0
+
 unfoldable pub userIn : Policy → List ℕ → List ℕ → ℕ → User
 userIn d text ws i = record {
   name = wordAt text (getD ws i 0);
-  role = getD ws (256 + i) 0;
-  values = map (givenOf d) (givensAt (lineIn text (getD ws (512 + i) 0) (getD ws (768 + i) 0)) (getD ws (1024 + i) 0));
+  role = userRoleIn ws i;
+  values = map (givenOf d) (givensAt (lineIn text (userStartIn ws i) (userEndIn ws i)) (userPlaceIn ws i));
 }
 
 pub record Users (d : Policy) (text ws : List ℕ) (k : ℕ) (us : List User) : Type 0 where

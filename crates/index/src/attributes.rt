@@ -4,16 +4,18 @@ use crate::found::Found;
 use crate::found::find_name;
 use crate::layout::ATTRIBUTE_CELLS;
 use crate::layout::ATTRIBUTES;
+use crate::store::kind_by;
 use crate::store::kind_cell;
+use condition::kinds::Kind;
 use text::words::is_word;
 ghost use Prim.Native.Nat.{_+_, _<_, ℕ};
 ghost use lib.ListN.{getElem?, length};
 ghost use mathlib.Core.List.{List, [], _++_, _∷_};
 ghost use mathlib.Core.Option.{some};
 ghost use mathlib.Core.Path.{_≡_};
+ghost use Rattle.condition.specs.Answers.{kindOf};
 ghost use Rattle.document.specs.Policy.{Attribute};
 ghost use Rattle.index.specs.Attributes.{Attributes};
-ghost use Rattle.index.specs.Cells.{kindSaid};
 ghost use Rattle.index.specs.Found.{FoundBelow, foundAs};
 ghost use Rattle.lists.specs.Lists.{findIndex};
 ghost use Rattle.text.specs.Words.{isCalled, wordAt, wordOf};
@@ -52,18 +54,18 @@ pub fn find_attribute(
     }
 }
 
-// Whether attribute n has names for its values, not numbers.
-pub fn attribute_kind(ws: &[usize; ATTRIBUTE_CELLS], k: usize, n: usize) -> bool
-    ensures { λ r. ⌜ ((text : List ℕ) (xs : List Attribute) (a : Attribute) → Attributes text (now (ws .entry)) k xs → getElem? xs n ≡ some a → a .kind ≡ kindSaid r) ⌝ }
+// The type of attribute n.
+pub fn attribute_kind(ws: &[usize; ATTRIBUTE_CELLS], k: usize, n: usize) -> Kind
+    ensures { λ r. ⌜ ((text : List ℕ) (xs : List Attribute) (a : Attribute) → Attributes text (now (ws .entry)) k xs → getElem? xs n ≡ some a → kindOf r ≡ a .kind) ⌝ }
 {
     if n < 3 {
-        return false;
+        return Kind::Num;
     }
     let j = n - 3;
     if ATTRIBUTES <= j {
-        return false;
+        return Kind::Num;
     }
-    ws[KIND_AT + j] != 0
+    kind_by(ws[KIND_AT + j])
 }
 
 // The role that attribute n is defined at: none for the clock's.
@@ -81,11 +83,11 @@ pub fn attribute_role(ws: &[usize; ATTRIBUTE_CELLS], k: usize, n: usize) -> Foun
 }
 
 // One attribute more, where there is room.
-fn store_attribute(ws: &mut [usize], k: usize, pos: usize, role: usize, named: bool)
+fn store_attribute(ws: &mut [usize], k: usize, pos: usize, role: usize, kind: Kind)
     requires { ⌜ (k < 32) × (64 + k < length (now ws)) ⌝ }
-    ensures { λ r. ⌜ ((text : List ℕ) (xs : List Attribute) → Attributes text (now (ws .entry)) k xs → Attributes text (now (ws .exit)) (k + 1) (xs ++ (record { name = wordAt text pos; role = some role; kind = kindSaid named } ∷ []))) ⌝ }
+    ensures { λ r. ⌜ ((text : List ℕ) (xs : List Attribute) → Attributes text (now (ws .entry)) k xs → Attributes text (now (ws .exit)) (k + 1) (xs ++ (record { name = wordAt text pos; role = some role; kind = kindOf kind } ∷ []))) ⌝ }
 {
-    let cell = kind_cell(named);
+    let cell = kind_cell(kind);
     ws[k] = pos;
     ws[ROLE_AT + k] = role;
     ws[KIND_AT + k] = cell;
@@ -97,11 +99,11 @@ pub fn add_attribute(
     k: usize,
     pos: usize,
     role: usize,
-    named: bool,
+    kind: Kind,
 )
-    ensures { λ r. ⌜ ((text : List ℕ) (xs : List Attribute) → Attributes text (now (ws .entry)) k xs → k < 32 → Attributes text (now (ws .exit)) (k + 1) (xs ++ (record { name = wordAt text pos; role = some role; kind = kindSaid named } ∷ []))) ⌝ }
+    ensures { λ r. ⌜ ((text : List ℕ) (xs : List Attribute) → Attributes text (now (ws .entry)) k xs → k < 32 → Attributes text (now (ws .exit)) (k + 1) (xs ++ (record { name = wordAt text pos; role = some role; kind = kindOf kind } ∷ []))) ⌝ }
 {
     if k < ATTRIBUTES {
-        store_attribute(ws, k, pos, role, named);
+        store_attribute(ws, k, pos, role, kind);
     }
 }

@@ -5,14 +5,14 @@ use crate::found::find_name;
 use crate::layout::COND_ROLE_CELLS;
 use crate::layout::COND_ROLES;
 ghost use Prim.Native.Nat.{_+_, _<_, ℕ};
-ghost use lib.ListN.{getD, length};
+ghost use lib.ListN.{length};
 ghost use mathlib.Core.Bool.{true};
 ghost use mathlib.Core.List.{List, [], _++_, _∷_};
 ghost use mathlib.Core.Path.{_≡_};
 ghost use Rattle.condition.specs.Cond.{mapCond};
 ghost use Rattle.document.specs.Meaning.{attributeComparison};
 ghost use Rattle.document.specs.Policy.{CondRole, Policy};
-ghost use Rattle.index.specs.CondRoles.{CondRoles, attributesKnown, conditionAt};
+ghost use Rattle.index.specs.CondRoles.{CondRoles, attributesKnown, condRoleEndIn, condRolePlaceIn, condRoleRoleIn, condRoleStartIn, conditionAt};
 ghost use Rattle.index.specs.Found.{FoundBelow, foundAs};
 ghost use Rattle.lists.specs.Lists.{findIndex};
 ghost use Rattle.text.specs.Words.{isCalled, wordAt, wordOf};
@@ -82,27 +82,27 @@ pub fn add_cond_role(
 
 // The role of conditional role i.
 pub fn cond_role_role(ws: &[usize; COND_ROLE_CELLS], i: usize) -> usize
-    ensures { λ x. ⌜ (i < 64 → x ≡ getD (now (ws .entry)) (64 + i) 0) ⌝ }
+    ensures { λ x. ⌜ (i < 64 → x ≡ condRoleRoleIn (now (ws .entry)) i) ⌝ }
 {
     if i < COND_ROLES { ws[ROLE_AT + i] } else { 0 }
 }
 
 // Where the line of conditional role i starts and ends.
 pub fn cond_role_start(ws: &[usize; COND_ROLE_CELLS], i: usize) -> usize
-    ensures { λ x. ⌜ (i < 64 → x ≡ getD (now (ws .entry)) (128 + i) 0) ⌝ }
+    ensures { λ x. ⌜ (i < 64 → x ≡ condRoleStartIn (now (ws .entry)) i) ⌝ }
 {
     if i < COND_ROLES { ws[START_AT + i] } else { 0 }
 }
 
 pub fn cond_role_end(ws: &[usize; COND_ROLE_CELLS], i: usize) -> usize
-    ensures { λ x. ⌜ (i < 64 → x ≡ getD (now (ws .entry)) (192 + i) 0) ⌝ }
+    ensures { λ x. ⌜ (i < 64 → x ≡ condRoleEndIn (now (ws .entry)) i) ⌝ }
 {
     if i < COND_ROLES { ws[END_AT + i] } else { 0 }
 }
 
 // Where its condition stands in the line.
 pub fn cond_role_place(ws: &[usize; COND_ROLE_CELLS], i: usize) -> usize
-    ensures { λ x. ⌜ (i < 64 → x ≡ getD (now (ws .entry)) (256 + i) 0) ⌝ }
+    ensures { λ x. ⌜ (i < 64 → x ≡ condRolePlaceIn (now (ws .entry)) i) ⌝ }
 {
     if i < COND_ROLES { ws[PLACE_AT + i] } else { 0 }
 }

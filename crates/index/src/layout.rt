@@ -53,7 +53,8 @@ pub const COLUMN_LABELS: usize = COLUMN_KINDS + COLUMNS * TABLES;
 
 pub const TABLE_CELLS: usize = COLUMN_LABELS + COLUMNS * TABLES;
 
-// Rows: their tables from 0, then their numbers of values and of labels, and `COLUMNS` places of each for a row.
+// Rows: their tables from 0, then their numbers of values and of labels, and for each row `COLUMNS` places for values and
+// `LABEL_ROOM` for labels.
 pub const ROWS: usize = 1024;
 
 pub const ROW_WIDTHS: usize = ROWS;
@@ -64,4 +65,6 @@ pub const ROW_VALUES: usize = 3 * ROWS;
 
 pub const ROW_LABELS: usize = ROW_VALUES + COLUMNS * ROWS;
 
-pub const ROW_CELLS: usize = ROW_LABELS + COLUMNS * ROWS;
+pub const LABEL_ROOM: usize = COLUMNS;
+
+pub const ROW_CELLS: usize = ROW_LABELS + LABEL_ROOM * ROWS;

@@ -1,18 +1,19 @@
 // The rows. A row that is not counted yet is written value by value and label by label, and then added.
 // A store goes through the array as a slice: of a slice the proof knows the length.
 use crate::layout::COLUMNS;
+use crate::layout::LABEL_ROOM;
 use crate::layout::ROW_CELLS;
 use crate::layout::ROW_LABELS;
 use crate::layout::ROW_MARKS;
 use crate::layout::ROW_VALUES;
 use crate::layout::ROW_WIDTHS;
 use crate::layout::ROWS;
-ghost use Prim.Native.Nat.{_*_, _+_, _<_, ℕ};
+ghost use Prim.Native.Nat.{_+_, _<_, ℕ};
 ghost use lib.ListN.{getD};
 ghost use mathlib.Core.List.{List, _++_, _∷_, []};
 ghost use mathlib.Core.Path.{_≡_};
 ghost use Rattle.document.specs.Policy.{Row};
-ghost use Rattle.index.specs.Rows.{FillingRow, LabelStored, Rows, ValueStored};
+ghost use Rattle.index.specs.Rows.{FillingRow, LabelStored, Rows, ValueStored, labelCountIn, labelRoom, rowLabelIn, valueCountIn, valuePlaceIn};
 ghost use Rattle.index.specs.Tables.{Cut};
 ghost use Rattle.text.specs.Numbers.{Value};
 
@@ -33,9 +34,9 @@ pub fn set_label(ws: &mut [usize; ROW_CELLS], r: usize, m: usize, label: usize)
     ensures { λ _. ⌜ LabelStored (now (ws .entry)) (now (ws .exit)) r m label ⌝ }
 {
     if r < ROWS {
-        if m < COLUMNS {
+        if m < LABEL_ROOM {
             let cells: &mut [usize] = ws;
-            cells[ROW_LABELS + COLUMNS * r + m] = label;
+            cells[ROW_LABELS + LABEL_ROOM * r + m] = label;
         }
     }
 }
@@ -61,7 +62,7 @@ pub fn row_table(ws: &[usize; ROW_CELLS], r: usize) -> usize
 
 // How many values row r has, and how many labels.
 pub fn row_values(ws: &[usize; ROW_CELLS], r: usize) -> usize
-    ensures { λ n. ⌜ Cut r 1024 (getD (now (ws .entry)) (1024 + r) 0) n ⌝ }
+    ensures { λ n. ⌜ Cut 16 r 1024 (valueCountIn (now (ws .entry)) r) n ⌝ }
 {
     if r < ROWS {
         let n = ws[ROW_WIDTHS + r];
@@ -73,11 +74,11 @@ pub fn row_values(ws: &[usize; ROW_CELLS], r: usize) -> usize
 }
 
 pub fn row_labels(ws: &[usize; ROW_CELLS], r: usize) -> usize
-    ensures { λ n. ⌜ Cut r 1024 (getD (now (ws .entry)) (2048 + r) 0) n ⌝ }
+    ensures { λ n. ⌜ Cut labelRoom r 1024 (labelCountIn (now (ws .entry)) r) n ⌝ }
 {
     if r < ROWS {
         let n = ws[ROW_MARKS + r];
-        if n <= COLUMNS {
+        if n <= LABEL_ROOM {
             return n;
         }
     }
@@ -86,7 +87,7 @@ pub fn row_labels(ws: &[usize; ROW_CELLS], r: usize) -> usize
 
 // The position of value c of row r.
 pub fn row_value(ws: &[usize; ROW_CELLS], r: usize, c: usize) -> usize
-    ensures { λ x. ⌜ (r < 1024 → c < 16 → x ≡ getD (now (ws .entry)) (3072 + 16 * r + c) 0) ⌝ }
+    ensures { λ x. ⌜ (r < 1024 → c < 16 → x ≡ valuePlaceIn (now (ws .entry)) r c) ⌝ }
 {
     if r < ROWS {
         if c < COLUMNS {
@@ -98,11 +99,11 @@ pub fn row_value(ws: &[usize; ROW_CELLS], r: usize, c: usize) -> usize
 
 // Label m of row r.
 pub fn row_label(ws: &[usize; ROW_CELLS], r: usize, m: usize) -> usize
-    ensures { λ x. ⌜ (r < 1024 → m < 16 → x ≡ getD (now (ws .entry)) (19456 + 16 * r + m) 0) ⌝ }
+    ensures { λ x. ⌜ (r < 1024 → m < labelRoom → x ≡ rowLabelIn (now (ws .entry)) r m) ⌝ }
 {
     if r < ROWS {
-        if m < COLUMNS {
-            return ws[ROW_LABELS + COLUMNS * r + m];
+        if m < LABEL_ROOM {
+            return ws[ROW_LABELS + LABEL_ROOM * r + m];
         }
     }
     0

@@ -1,7 +1,9 @@
-// Storing a number in an array, and a type as a number.
+// Storing a number in an array, and the numbers of types.
+use condition::kinds::Kind;
 ghost use lib.ListN.{set};
 ghost use mathlib.Core.Path.{_≡_};
-ghost use Rattle.index.specs.Cells.{kindOfCell, kindSaid};
+ghost use Rattle.condition.specs.Answers.{kindOf};
+ghost use Rattle.index.specs.Cells.{kindOfCell};
 
 // The number v at a place; nothing is stored behind the array's end.
 pub(crate) fn put(ws: &mut [usize], at: usize, v: usize)
@@ -13,8 +15,21 @@ pub(crate) fn put(ws: &mut [usize], at: usize, v: usize)
 }
 
 // The number of a type.
-pub(crate) fn kind_cell(named: bool) -> usize
-    ensures { λ r. ⌜ kindOfCell r ≡ kindSaid named ⌝ }
+pub(crate) fn kind_cell(kind: Kind) -> usize
+    ensures { λ r. ⌜ kindOfCell r ≡ kindOf kind ⌝ }
 {
-    if named { 1 } else { 0 }
+    match kind {
+        Kind::Num => 0,
+        Kind::Name => 1,
+    }
+}
+
+// The type of a number.
+pub(crate) fn kind_by(n: usize) -> Kind
+    ensures { λ r. ⌜ kindOf r ≡ kindOfCell n ⌝ }
+{
+    if n == 0 {
+        return Kind::Num;
+    }
+    Kind::Name
 }

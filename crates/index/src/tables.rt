@@ -12,74 +12,53 @@ use crate::layout::TABLE_LABELS;
 use crate::layout::TABLE_SCHEMES;
 use crate::layout::TABLE_WIDTHS;
 use crate::layout::TABLES;
+use crate::store::kind_by;
 use crate::store::kind_cell;
+use condition::kinds::Kind;
+use form::lines::Scheme;
 use text::words::word_end;
-ghost use Prim.Native.Nat.{_*_, _+_, _<_, ℕ};
-ghost use lib.ListN.{getD, length};
+ghost use Prim.Native.Nat.{_+_, _<_, ℕ};
+ghost use lib.ListN.{length};
 ghost use mathlib.Core.List.{List, _++_, _∷_, []};
 ghost use mathlib.Core.Path.{_≡_};
+ghost use Rattle.condition.specs.Answers.{kindOf};
 ghost use Rattle.document.specs.Lookup.{columnOf};
 ghost use Rattle.document.specs.Policy.{Column, Table};
-ghost use Rattle.index.specs.Cells.{kindOfCell, kindSaid};
 ghost use Rattle.index.specs.Found.{FoundBelow, foundAs};
-ghost use Rattle.index.specs.Tables.{ColumnStored, Cut, Filling, Tables, columnIn, columnLabelIn, schemeBy, schemeIn, schemeOfCell};
-ghost use Rattle.index.specs.Listed.{listed};
-ghost use Rattle.index.specs.TableWords.{labelsColumns};
+ghost use Rattle.index.specs.Tables.{ColumnStored, Cut, Filling, Tables, columnCountIn, columnKindIn, columnLabelIn, columnLabelsIn, columnsIn, schemeBy, schemeIn, schemeOfCell, tableLabelIn};
 ghost use Rattle.lists.specs.Lists.{findIndex};
 ghost use Rattle.text.specs.Words.{isCalled, wordAt, wordOf};
 
-// A table's scheme without its labels.
-pub enum SchemeCode {
-    Unlabelled,
-    ByTable,
-    ByColumn,
-    ByRow,
-    ByCell,
-}
-
 // The number of a scheme.
-fn scheme_cell(s: SchemeCode) -> usize
+fn scheme_cell(s: Scheme) -> usize
     ensures { λ r. ⌜ ((l : ℕ) (ls : List ℕ) → schemeOfCell r l ls ≡ schemeBy s l ls) ⌝ }
 {
     match s {
-        SchemeCode::Unlabelled => 0,
-        SchemeCode::ByTable => 1,
-        SchemeCode::ByColumn => 2,
-        SchemeCode::ByRow => 3,
-        SchemeCode::ByCell => 4,
+        Scheme::Unlabelled => 0,
+        Scheme::ByTable => 1,
+        Scheme::ByColumn => 2,
+        Scheme::ByRow => 3,
+        Scheme::ByCell => 4,
     }
 }
 
-// Whether the labels of a table of this scheme stand at its columns.
-pub fn labels_columns(s: SchemeCode) -> bool
-    ensures { λ r. ⌜ r ≡ labelsColumns s ⌝ }
-{
-    match s {
-        SchemeCode::Unlabelled => false,
-        SchemeCode::ByTable => false,
-        SchemeCode::ByColumn => true,
-        SchemeCode::ByRow => false,
-        SchemeCode::ByCell => false,
-    }
-}
-
-// Stores column c of table t: the position of its name, whether its type is names, and its label.
+// Stores column c of table t: the position of its name, its type, and its label.
 pub fn set_column(
     ws: &mut [usize; TABLE_CELLS],
     t: usize,
     c: usize,
     pos: usize,
-    named: bool,
+    kind: Kind,
     label: usize,
 )
-    ensures { λ _. ⌜ ColumnStored (now (ws .entry)) (now (ws .exit)) t c pos named label ⌝ }
+    ensures { λ _. ⌜ ColumnStored (now (ws .entry)) (now (ws .exit)) t c pos (kindOf kind) label ⌝ }
 {
     if t < TABLES {
         if c < COLUMNS {
-            let kind = kind_cell(named);
+            let code = kind_cell(kind);
             let cells: &mut [usize] = ws;
             cells[COLUMN_NAMES + COLUMNS * t + c] = pos;
-            cells[COLUMN_KINDS + COLUMNS * t + c] = kind;
+            cells[COLUMN_KINDS + COLUMNS * t + c] = code;
             cells[COLUMN_LABELS + COLUMNS * t + c] = label;
         }
     }
@@ -90,7 +69,7 @@ pub fn add_table(
     ws: &mut [usize; TABLE_CELLS],
     k: usize,
     pos: usize,
-    scheme: SchemeCode,
+    scheme: Scheme,
     label: usize,
     width: usize,
 )
@@ -108,7 +87,7 @@ pub fn add_table(
 
 // How many columns table t has.
 pub fn table_width(ws: &[usize; TABLE_CELLS], t: usize) -> usize
-    ensures { λ n. ⌜ Cut t 8 (getD (now (ws .entry)) (24 + t) 0) n ⌝ }
+    ensures { λ n. ⌜ Cut 16 t 8 (columnCountIn (now (ws .entry)) t) n ⌝ }
 {
     if t < TABLES {
         let n = ws[TABLE_WIDTHS + t];
@@ -120,46 +99,46 @@ pub fn table_width(ws: &[usize; TABLE_CELLS], t: usize) -> usize
 }
 
 // The scheme of table t.
-pub fn table_scheme(ws: &[usize; TABLE_CELLS], t: usize) -> SchemeCode
-    ensures { λ r. ⌜ (t < 8 → schemeIn (now (ws .entry)) t ≡ schemeBy r (getD (now (ws .entry)) (16 + t) 0) (listed (columnLabelIn (now (ws .entry)) t) (getD (now (ws .entry)) (24 + t) 0))) ⌝ }
+pub fn table_scheme(ws: &[usize; TABLE_CELLS], t: usize) -> Scheme
+    ensures { λ r. ⌜ (t < 8 → schemeIn (now (ws .entry)) t ≡ schemeBy r (tableLabelIn (now (ws .entry)) t) (columnLabelsIn (now (ws .entry)) t)) ⌝ }
 {
     if t < TABLES {
         let n = ws[TABLE_SCHEMES + t];
         match n {
-            0 => SchemeCode::Unlabelled,
-            1 => SchemeCode::ByTable,
-            2 => SchemeCode::ByColumn,
-            3 => SchemeCode::ByRow,
-            _ => SchemeCode::ByCell,
+            0 => Scheme::Unlabelled,
+            1 => Scheme::ByTable,
+            2 => Scheme::ByColumn,
+            3 => Scheme::ByRow,
+            _ => Scheme::ByCell,
         }
     } else {
-        SchemeCode::Unlabelled
+        Scheme::Unlabelled
     }
 }
 
 // The label of table t.
 pub fn table_label(ws: &[usize; TABLE_CELLS], t: usize) -> usize
-    ensures { λ x. ⌜ (t < 8 → x ≡ getD (now (ws .entry)) (16 + t) 0) ⌝ }
+    ensures { λ x. ⌜ (t < 8 → x ≡ tableLabelIn (now (ws .entry)) t) ⌝ }
 {
     if t < TABLES { ws[TABLE_LABELS + t] } else { 0 }
 }
 
-// Whether the type of column c of table t is names.
-pub fn column_kind(ws: &[usize; TABLE_CELLS], t: usize, c: usize) -> bool
-    ensures { λ r. ⌜ (t < 8 → c < 16 → kindOfCell (getD (now (ws .entry)) (160 + 16 * t + c) 0) ≡ kindSaid r) ⌝ }
+// The type of column c of table t.
+pub fn column_kind(ws: &[usize; TABLE_CELLS], t: usize, c: usize) -> Kind
+    ensures { λ r. ⌜ (t < 8 → c < 16 → kindOf r ≡ columnKindIn (now (ws .entry)) t c) ⌝ }
 {
     if t < TABLES {
         if c < COLUMNS {
             let n = ws[COLUMN_KINDS + COLUMNS * t + c];
-            return n != 0;
+            return kind_by(n);
         }
     }
-    false
+    Kind::Num
 }
 
 // The label of column c of table t.
 pub fn column_label(ws: &[usize; TABLE_CELLS], t: usize, c: usize) -> usize
-    ensures { λ x. ⌜ (t < 8 → c < 16 → x ≡ getD (now (ws .entry)) (288 + 16 * t + c) 0) ⌝ }
+    ensures { λ x. ⌜ (t < 8 → c < 16 → x ≡ columnLabelIn (now (ws .entry)) t c) ⌝ }
 {
     if t < TABLES {
         if c < COLUMNS {
@@ -195,7 +174,7 @@ pub fn find_table(text: &[u8], ws: &[usize; TABLE_CELLS], k: usize, line: &[u8],
 
 // The column of the name at i of the line, among those of table t.
 pub fn find_column(text: &[u8], ws: &[usize; TABLE_CELLS], t: usize, line: &[u8], i: usize) -> Found
-    ensures { λ r. ⌜ ((k : ℕ) (ts : List Table) → Tables (now (text .entry)) (now (ws .entry)) k ts → t < k → foundAs r ≡ columnOf (listed (columnIn (now (text .entry)) (now (ws .entry)) t) (getD (now (ws .entry)) (24 + t) 0)) (wordOf (now (line .entry)) i)) × FoundBelow r 16 ⌝ }
+    ensures { λ r. ⌜ ((k : ℕ) (ts : List Table) → Tables (now (text .entry)) (now (ws .entry)) k ts → t < k → foundAs r ≡ columnOf (columnsIn (now (text .entry)) (now (ws .entry)) t) (wordOf (now (line .entry)) i)) × FoundBelow r 16 ⌝ }
 {
     if t < TABLES {
         let n = table_width(ws, t);

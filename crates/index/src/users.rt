@@ -8,7 +8,6 @@ use crate::store::put;
 use text::words::same_name;
 ghost use Prim.Native.Nat.{_+_, _<_, ℕ};
 ghost use lib.Dec.{eqb};
-ghost use lib.ListN.{getD};
 ghost use mathlib.Core.Bool.{_&&_};
 ghost use mathlib.Core.List.{List, [], _++_, _∷_, map};
 ghost use mathlib.Core.Path.{_≡_};
@@ -17,7 +16,7 @@ ghost use Rattle.document.specs.Policy.{Policy, User};
 ghost use Rattle.form.specs.Walks.{givensAt};
 ghost use Rattle.index.specs.Cells.{lineIn};
 ghost use Rattle.index.specs.Found.{FoundBelow, foundAs};
-ghost use Rattle.index.specs.Users.{Users};
+ghost use Rattle.index.specs.Users.{Users, userEndIn, userPlaceIn, userRoleIn, userStartIn};
 ghost use Rattle.lists.specs.Lists.{anyOf, findIndex};
 ghost use Rattle.text.specs.Words.{isCalled, wordAt, wordOf};
 
@@ -85,27 +84,27 @@ pub fn add_user(
 
 // The role of user form i.
 pub fn user_role(ws: &[usize; USER_CELLS], i: usize) -> usize
-    ensures { λ x. ⌜ (i < 256 → x ≡ getD (now (ws .entry)) (256 + i) 0) ⌝ }
+    ensures { λ x. ⌜ (i < 256 → x ≡ userRoleIn (now (ws .entry)) i) ⌝ }
 {
     if i < USERS { ws[USERS + i] } else { 0 }
 }
 
 // Where the line of user form i starts and ends.
 pub fn user_start(ws: &[usize; USER_CELLS], i: usize) -> usize
-    ensures { λ x. ⌜ (i < 256 → x ≡ getD (now (ws .entry)) (512 + i) 0) ⌝ }
+    ensures { λ x. ⌜ (i < 256 → x ≡ userStartIn (now (ws .entry)) i) ⌝ }
 {
     if i < USERS { ws[2 * USERS + i] } else { 0 }
 }
 
 pub fn user_end(ws: &[usize; USER_CELLS], i: usize) -> usize
-    ensures { λ x. ⌜ (i < 256 → x ≡ getD (now (ws .entry)) (768 + i) 0) ⌝ }
+    ensures { λ x. ⌜ (i < 256 → x ≡ userEndIn (now (ws .entry)) i) ⌝ }
 {
     if i < USERS { ws[3 * USERS + i] } else { 0 }
 }
 
 // Where its values stand in the line.
 pub fn user_place(ws: &[usize; USER_CELLS], i: usize) -> usize
-    ensures { λ x. ⌜ (i < 256 → x ≡ getD (now (ws .entry)) (1024 + i) 0) ⌝ }
+    ensures { λ x. ⌜ (i < 256 → x ≡ userPlaceIn (now (ws .entry)) i) ⌝ }
 {
     if i < USERS { ws[4 * USERS + i] } else { 0 }
 }

@@ -266,12 +266,7 @@ fn value_fits(
 {
     let found = find_attribute(text, attributes, k, line, at);
     match found {
-        Found::At(n) => {
-            if attribute_kind(attributes, k, n) {
-                return has_kind(line, v, Kind::Name);
-            }
-            has_kind(line, v, Kind::Num)
-        }
+        Found::At(n) => has_kind(line, v, attribute_kind(attributes, k, n)),
         Found::Nothing => has_kind(line, v, Kind::Num),
     }
 }

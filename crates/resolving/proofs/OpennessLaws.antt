@@ -12,9 +12,9 @@ use Rattle.document.specs.Policy.{Policy}
 use Rattle.index.proofs.ListedLaws.{length-listed}
 use Rattle.index.proofs.TableLaws.{column-label-read, scheme-read, width-read}
 use Rattle.index.specs.Labels.{Opened}
-use Rattle.index.specs.Tables.{Cut, Tables, columnLabelIn, schemeBy, schemeIn}
+use Rattle.index.specs.Tables.{Cut, Tables, columnCountIn, columnLabelIn, columnLabelsIn, schemeBy, schemeIn, tableLabelIn}
 use Rattle.index.specs.Listed.{listed}
-use Rattle.index.specs.declared.tables.SchemeCode.{SchemeCode}
+use Rattle.form.specs.declared.lines.Scheme as coded
 use Rattle.lists.specs.Lists.{holdsOf, known}
 use Rattle.query.specs.Naming.{wordsAt}
 use Rattle.resolving.proofs.TakenLaws.{mapped-at}
@@ -43,8 +43,8 @@ openAt ws t d p w = labelOpen d p (getElem? (labelsIn ws t d) (known (columnOf (
 
 module _ (text ws : List ℕ) (k t : ℕ) (d : Policy) (p : ℕ) (h : Tables text ws k (d .tables)) (l : t < k) where
   -- a column's label, if the table has the column
-  module _ (c n : ℕ) (cut : Cut t 8 (getD ws (24 + t) 0) n) where
-    pub column-there : c < n → (truths : List Bool) → Opened d p truths → (x : ℕ) → (t < 8 → c < 16 → x ≡ getD ws (288 + 16 * t + c) 0)
+  module _ (c n : ℕ) (cut : Cut 16 t 8 (columnCountIn ws t) n) where
+    pub column-there : c < n → (truths : List Bool) → Opened d p truths → (x : ℕ) → (t < 8 → c < 16 → x ≡ columnLabelIn ws t c)
         → (b : Bool) → b ≡ getD truths x false → b ≡ labelOpen d p (getElem? (labelsIn ws t d) c)
     column-there less truths o x is b e =
         e ∙ o .is x ∙ ap (labelOpen d p) (sym (column-label-read text ws k t d h l c (omega (arith, less, width-read text ws k t d h l n cut)) x is))
@@ -54,16 +54,16 @@ module _ (text ws : List ℕ) (k t : ℕ) (d : Policy) (p : ℕ) (h : Tables tex
         sym (ap (labelOpen d p) (past-end (labelsIn ws t d) c (omega (arith, over, width-read text ws k t d h l n cut, length-listed (columnLabelIn ws t) (length (columnsAt d t))))) ∙ no-label d p)
 
   -- what the scheme that the code reads leaves open
-  module _ (s scheme : SchemeCode) (is : t < 8 → schemeIn ws t ≡ schemeBy s (getD ws (16 + t) 0) (listed (columnLabelIn ws t) (getD ws (24 + t) 0))) (e : s ≡ scheme) where
-    scheme-is : schemeAt d t ≡ schemeBy scheme (getD ws (16 + t) 0) (labelsIn ws t d)
-    scheme-is = scheme-read text ws k t d h l s is ∙ ap (λ z. schemeBy z (getD ws (16 + t) 0) (labelsIn ws t d)) e
+  module _ (s scheme : coded.Scheme) (is : t < 8 → schemeIn ws t ≡ schemeBy s (tableLabelIn ws t) (columnLabelsIn ws t)) (e : s ≡ scheme) where
+    scheme-is : schemeAt d t ≡ schemeBy scheme (tableLabelIn ws t) (labelsIn ws t d)
+    scheme-is = scheme-read text ws k t d h l s is ∙ ap (λ z. schemeBy z (tableLabelIn ws t) (labelsIn ws t d)) e
 
-    pub table-by : tableOpen (labelOpen d p) (schemeAt d t) ≡ tableOpen (labelOpen d p) (schemeBy scheme (getD ws (16 + t) 0) (labelsIn ws t d))
+    pub table-by : tableOpen (labelOpen d p) (schemeAt d t) ≡ tableOpen (labelOpen d p) (schemeBy scheme (tableLabelIn ws t) (labelsIn ws t d))
     table-by = ap (tableOpen (labelOpen d p)) scheme-is
 
     pub columns-by : (words : List Word)
         → missing (λ w. columnOpen (labelOpen d p) (schemeAt d t) (known (columnOf (columnsAt d t) w))) words
-        ≡ missing (λ w. columnOpen (labelOpen d p) (schemeBy scheme (getD ws (16 + t) 0) (labelsIn ws t d)) (known (columnOf (columnsAt d t) w))) words
+        ≡ missing (λ w. columnOpen (labelOpen d p) (schemeBy scheme (tableLabelIn ws t) (labelsIn ws t d)) (known (columnOf (columnsAt d t) w))) words
     columns-by words = ap (λ z. missing (λ w. columnOpen (labelOpen d p) z (known (columnOf (columnsAt d t) w))) words) scheme-is
 
 -- ---- the first closed column

@@ -8,11 +8,11 @@ use mathlib.Core.Path.{_∙_, _≡_, ap, sym}
 use Rattle.document.specs.Lookup.{columnOf, columnsAt}
 use Rattle.document.specs.Policy.{Policy}
 use Rattle.index.proofs.TableLaws.{columns-at}
-use Rattle.index.specs.Tables.{Tables, columnIn}
+use Rattle.index.specs.Tables.{Tables, columnIn, columnsIn}
 use Rattle.index.specs.Listed.{listed}
 use Rattle.text.specs.Words.{Word}
 
 -- the column that is found in the array is that of the policy
 pub column-read : (text ws : List ℕ) (k t : ℕ) (d : Policy) → Tables text ws k (d .tables) → t < k → (w : Word) (o : Option ℕ)
-    → o ≡ columnOf (listed (columnIn text ws t) (getD ws (24 + t) 0)) w → o ≡ columnOf (columnsAt d t) w
+    → o ≡ columnOf (columnsIn text ws t) w → o ≡ columnOf (columnsAt d t) w
 column-read text ws k t d h l w o e = e ∙ ap (λ cs. columnOf cs w) (sym (columns-at text ws k t d h l))

@@ -13,7 +13,8 @@ use Rattle.condition.specs.Kinds.{Kind, numbers}
 use Rattle.condition.specs.declared.kinds.Kind as kinds
 use Rattle.document.specs.Lookup.{columnKind, columnOf, columnsAt}
 use Rattle.document.specs.Policy.{Column, Policy}
-use Rattle.index.specs.Tables.{Tables}
+use Rattle.index.proofs.TableLaws.{column-kind-read}
+use Rattle.index.specs.Tables.{Tables, columnKindIn}
 use Rattle.lists.proofs.ListLaws.{all-here, findIndex-found, getElem?-map, map-map, there-some}
 use Rattle.lists.specs.Lists.{known, there}
 use Rattle.resolving.proofs.TakenLaws.{mapped-at, taken-at}
@@ -62,12 +63,12 @@ module _ {tables : List ℕ} {t : ℕ} {s ops : List ℕ} {m : ℕ} {columns : L
 
     -- what the code finds is what is wrong, if it knows the column's type
     pub wrong-found : (r : kinds.Kind)
-        → ((d : Policy) (text : List ℕ) (k : ℕ) → Tables text tables k (d .tables) → t < k → getD columns c 0 < length (columnsAt d t) → Option·map (λ x. x .kind) (getElem? (columnsAt d t) (getD columns c 0)) ≡ some (kindOf r))
+        → (t < 8 → getD columns c 0 < 16 → kindOf r ≡ columnKindIn tables t (getD columns c 0))
         → (o : Option Word) → o ≡ mistyped (kindOf r) (comparedAt s (getD ops i 0)) → o ≡ wrongAt d t s (getD ops i 0)
     wrong-found r is′ o e =
         e
         ∙ ap (λ k. mistyped k (comparedAt s (getD ops i 0)))
-        (sym (kind-by-number (columnsAt d t) (comparedAt s (getD ops i 0) .of) (getD columns c 0) (kindOf r) column-named (is′ d (g .text) (g .k) (g .held) (g .inside) column-inside)))
+        (sym (kind-by-number (columnsAt d t) (comparedAt s (getD ops i 0) .of) (getD columns c 0) (kindOf r) column-named (column-kind-read (g .text) tables (g .k) t d (g .held) (g .inside) (getD columns c 0) column-inside (kindOf r) is′)))
 
   in-places : leftmost (map (λ x. mistyped (columnKind (columnsAt d t) (x .of)) x) (map (comparedAt s) (take m ops))) ≡ leftmost (map (wrongAt d t s) (take m ops))
   in-places = ap leftmost (map-map (λ (x : Compared). mistyped (columnKind (columnsAt d t) (x .of)) x) (comparedAt s) (take m ops))

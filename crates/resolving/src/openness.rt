@@ -3,7 +3,7 @@ use crate::columns::NAMED;
 use crate::offending::Offending;
 use index::layout::LABELS;
 use index::layout::TABLE_CELLS;
-use index::tables::SchemeCode;
+use form::lines::Scheme;
 use index::tables::column_label;
 use index::tables::table_label;
 use index::tables::table_scheme;
@@ -41,11 +41,11 @@ fn table_open(tables: &[usize; TABLE_CELLS], t: usize, opened: &[bool]) -> bool
 {
     let scheme = table_scheme(tables, t);
     match scheme {
-        SchemeCode::Unlabelled => true,
-        SchemeCode::ByTable => label_is_open(opened, table_label(tables, t)),
-        SchemeCode::ByColumn => true,
-        SchemeCode::ByRow => true,
-        SchemeCode::ByCell => true,
+        Scheme::Unlabelled => true,
+        Scheme::ByTable => label_is_open(opened, table_label(tables, t)),
+        Scheme::ByColumn => true,
+        Scheme::ByRow => true,
+        Scheme::ByCell => true,
     }
 }
 
@@ -99,11 +99,11 @@ fn closed_column(
 {
     let scheme = table_scheme(tables, t);
     match scheme {
-        SchemeCode::Unlabelled => Offending::Nothing,
-        SchemeCode::ByTable => Offending::Nothing,
-        SchemeCode::ByColumn => first_closed(tables, t, opened, places, n, columns),
-        SchemeCode::ByRow => Offending::Nothing,
-        SchemeCode::ByCell => Offending::Nothing,
+        Scheme::Unlabelled => Offending::Nothing,
+        Scheme::ByTable => Offending::Nothing,
+        Scheme::ByColumn => first_closed(tables, t, opened, places, n, columns),
+        Scheme::ByRow => Offending::Nothing,
+        Scheme::ByCell => Offending::Nothing,
     }
 }
 

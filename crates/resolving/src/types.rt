@@ -3,31 +3,19 @@ use crate::columns::NAMED;
 use crate::offending::Offending;
 use condition::comparisons::Wrong;
 use condition::comparisons::wrong_type;
-use condition::kinds::Kind;
 use index::layout::TABLE_CELLS;
 use index::tables::column_kind;
 ghost use Prim.Native.Nat.{_+_, _<_, _≤_, ℕ};
-ghost use lib.ListN.{drop, getElem?, length, take};
+ghost use lib.ListN.{drop, length, take};
 ghost use mathlib.Core.List.{List, map};
-ghost use mathlib.Core.Option.{Option·map, some};
 ghost use mathlib.Core.Path.{_≡_};
-ghost use Rattle.condition.specs.Answers.{comparedAt, kindOf};
+ghost use Rattle.condition.specs.Answers.{comparedAt};
 ghost use Rattle.condition.specs.CondForm.{mistyped};
 ghost use Rattle.document.specs.Lookup.{columnKind, columnsAt};
 ghost use Rattle.document.specs.Policy.{Policy};
 ghost use Rattle.index.specs.Tables.{Tables};
 ghost use Rattle.resolving.specs.Resolved.{Compares, offendingIn};
 ghost use Rattle.text.specs.Offending.{leftmost};
-
-// The type of column c of table t.
-fn kind_of_column(tables: &[usize; TABLE_CELLS], t: usize, c: usize) -> Kind
-    ensures { λ r. ⌜ ((d : Policy) (text : List ℕ) (k : ℕ) → Tables text (now (tables .entry)) k (d .tables) → t < k → c < length (columnsAt d t) → Option·map (λ x. x .kind) (getElem? (columnsAt d t) c) ≡ some (kindOf r)) ⌝ }
-{
-    if column_kind(tables, t, c) {
-        return Kind::Name;
-    }
-    Kind::Num
-}
 
 // What mistyped_comparison finds, by places and numbers in lists of any length: of a slice the proof knows the length.
 fn first_mistyped(
@@ -50,7 +38,7 @@ fn first_mistyped(
         if c >= columns.len() {
             return Offending::Nothing;
         }
-        let kind = kind_of_column(tables, t, columns[c]);
+        let kind = column_kind(tables, t, columns[c]);
         let w = wrong_type(query, ops[j], kind);
         if let Wrong::At(p) = w {
             return Offending::At(p);

@@ -7,7 +7,7 @@ use mathlib.Core.List.{List, [], _∷_, map}
 use mathlib.Core.Option.{Option, Option·none-ne-some, Option·some-injective, none, some}
 use mathlib.Core.Path.{_∙_, _≡_, ap, refl, subst, sym}
 use native.Mathlib.Numerals.{add-one}
-use Rattle.condition.specs.Kinds.{hasKind}
+use Rattle.condition.specs.Kinds.{Kind, hasKind}
 use Rattle.document.proofs.RowItems.{item-bracket, item-plain}
 use Rattle.document.specs.Lookup.{columnsAt}
 use Rattle.document.specs.NameFaults.{bracketLabels}
@@ -17,14 +17,14 @@ use Rattle.rows.proofs.RowItems.{values-more, values-stop}
 use Rattle.rows.specs.RowWords.{labelAt, valueAt, valuesAt}
 use Rattle.form.proofs.WalkSteps.{items-more, items-stop}
 use Rattle.form.specs.Form.{Item, labelled, plain}
-use Rattle.form.specs.Walks.{firstIn, itemAt, itemEndAt, itemsAt, secondIn}
+use Rattle.form.specs.Walks.{cellLabelIn, firstIn, itemAt, itemEndAt, itemsAt}
 use Rattle.index.proofs.TableLaws.{column-at, column-inside, table-inside, width-read}
-use Rattle.index.specs.Cells.{kindOfCell, kindSaid}
-use Rattle.index.specs.Tables.{Cut, Tables, columnIn}
+use Rattle.index.specs.Tables.{Cut, Tables, columnCountIn, columnIn, columnKindIn}
 use Rattle.text.proofs.OffendingLaws.{leftmost-fail, leftmost-on, leftmost-only, missing-nil}
+use Rattle.text.proofs.WordLaws.{written-word}
 use Rattle.text.specs.Offending.{leftmost, missing, unless}
 use Rattle.text.specs.Walking.{past}
-use Rattle.text.specs.Words.{Word, wordAt, wordOf}
+use Rattle.text.specs.Words.{Word, wordOf, writtenAt, writtenOf}
 
 -- ---- labels that are not known
 
@@ -52,9 +52,9 @@ module _ (f : Word → Bool) where
     unfolding bracketLabels unless missing leftmost
     plain-known e = ap (λ i. missing f (bracketLabels (i ∷ []))) (item-plain s at e)
 
-    pub bracket-known : eqb (getD s at 0) 40 ≡ true → (b : Bool) → f (wordOf s (secondIn s at)) ≡ b → missing f (bracketLabels (itemAt s at ∷ [])) ≡ unless b (labelAt s at)
+    pub bracket-known : eqb (getD s at 0) 40 ≡ true → (b : Bool) → f (wordOf s (cellLabelIn s at)) ≡ b → missing f (bracketLabels (itemAt s at ∷ [])) ≡ unless b (labelAt s at)
     unfolding bracketLabels labelAt
-    bracket-known e b h = ap (λ i. missing f (bracketLabels (i ∷ []))) (item-bracket s at e) ∙ one-missing (wordOf s (secondIn s at)) b h
+    bracket-known e b h = ap (λ i. missing f (bracketLabels (i ∷ []))) (item-bracket s at e) ∙ one-missing (wordOf s (cellLabelIn s at)) b h
 
   module _ (s : List ℕ) (i : ℕ) (e : getD s i 0 ≡ 32) (b : Bool) (h : missing f (bracketLabels (itemAt s (i + 1) ∷ [])) ≡ unless b (labelAt s (i + 1))) where
     labels-step : missing f (bracketLabels (itemsAt s i)) ≡ leftmost (unless b (labelAt s (i + 1)) ∷ missing f (bracketLabels (itemsAt s (itemEndAt s (i + 1)))) ∷ [])
@@ -93,29 +93,29 @@ pub no-values-left : (cs : List Column) (s : List ℕ) (i : ℕ) → (getD s i 0
 no-values-left cs s i h = ap (mistypedValue cs) (values-stop s i h) ∙ no-values cs
 
 -- a value and its column, and those behind them
-module _ (text ws : List ℕ) (k t : ℕ) (d : Policy) (h : Tables text ws k (d .tables)) (l : t < k) (n : ℕ) (width : Cut t 8 (getD ws (24 + t) 0) n)
-    (s : List ℕ) (c i : ℕ) (small : c < n) (e : getD s i 0 ≡ 32) (named : Bool) (kind : t < 8 → c < 16 → kindOfCell (getD ws (160 + 16 * t + c) 0) ≡ kindSaid named)
-    (v : ℕ) (place : v ≡ past 40 s (i + 1)) (b : Bool) (is : b ≡ hasKind (kindSaid named) (wordAt s v)) where
+module _ (text ws : List ℕ) (k t : ℕ) (d : Policy) (h : Tables text ws k (d .tables)) (l : t < k) (n : ℕ) (width : Cut 16 t 8 (columnCountIn ws t) n)
+    (s : List ℕ) (c i : ℕ) (small : c < n) (e : getD s i 0 ≡ 32) (type : Kind) (kind : t < 8 → c < 16 → type ≡ columnKindIn ws t c)
+    (v : ℕ) (place : v ≡ past 40 s (i + 1)) (b : Bool) (is : b ≡ hasKind type (writtenAt s v)) where
   inside : c < length (columnsAt d t)
   inside = subst (λ (m : ℕ). c < m) (width-read text ws k t d h l n width) small
 
   columns-left : drop c (columnsAt d t) ≡ columnIn text ws t c ∷ drop (c + 1) (columnsAt d t)
   columns-left = rw (add-one c) (dropped (columnsAt d t) c (columnIn text ws t c) (column-at text ws k t d h l c inside))
 
-  kind-is : columnIn text ws t c .kind ≡ kindSaid named
+  kind-is : columnIn text ws t c .kind ≡ type
   unfolding columnIn
-  kind-is = kind (table-inside text ws k t d h l) (column-inside text ws k t d h l c inside)
+  kind-is = sym (kind (table-inside text ws k t d h l) (column-inside text ws k t d h l c inside))
 
   value-is : valueAt s (i + 1) ≡ wordOf s v
   unfolding valueAt firstIn
-  value-is = ap (wordOf s) (sym place)
+  value-is = ap (writtenOf s) (sym place) ∙ (λ j. record { at = v; bytes = written-word s v j })
 
   types-step : mistypedValue (drop c (columnsAt d t)) (valuesAt s i) ≡ leftmost (unless b (wordOf s v) ∷ mistypedValue (drop (c + 1) (columnsAt d t)) (valuesAt s (itemEndAt s (i + 1))) ∷ [])
   unfolding mistypedValue
   types-step =
       (λ j. mistypedValue (columns-left j) (values-more s i e j))
       ∙ (λ j. leftmost (unless (hasKind (kind-is j) (value-is j .bytes)) (value-is j) ∷ mistypedValue (drop (c + 1) (columnsAt d t)) (valuesAt s (itemEndAt s (i + 1))) ∷ []))
-      ∙ ap (λ x. leftmost (unless x (wordOf s v) ∷ mistypedValue (drop (c + 1) (columnsAt d t)) (valuesAt s (itemEndAt s (i + 1))) ∷ [])) (sym is)
+      ∙ ap (λ x. leftmost (unless x (wordOf s v) ∷ mistypedValue (drop (c + 1) (columnsAt d t)) (valuesAt s (itemEndAt s (i + 1))) ∷ [])) (sym (is ∙ ap (hasKind type) (written-word s v)))
 
   pub types-on : b ≡ true → mistypedValue (drop c (columnsAt d t)) (valuesAt s i) ≡ mistypedValue (drop (c + 1) (columnsAt d t)) (valuesAt s (itemEndAt s (i + 1)))
   types-on x = types-step ∙ leftmost-on b (wordOf s v) (mistypedValue (drop (c + 1) (columnsAt d t)) (valuesAt s (itemEndAt s (i + 1)))) x

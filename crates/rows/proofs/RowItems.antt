@@ -19,15 +19,15 @@ use Rattle.lists.proofs.ListLaws.{map-inv}
 use Rattle.lists.specs.Lists.{holdsOf}
 use Rattle.text.proofs.WalkingLaws.{past-other}
 use Rattle.text.specs.Names.{isName}
-use Rattle.text.specs.Words.{Word, wordOf}
+use Rattle.text.specs.Words.{Word, writtenOf}
 
 -- ---- one item
 
 module _ (s : List ℕ) (at : ℕ) where
   -- without a bracket, the value stands where the item stands
-  pub value-plain : eqb (getD s at 0) 40 ≡ false → wordOf s at ≡ valueAt s at
+  pub value-plain : eqb (getD s at 0) 40 ≡ false → writtenOf s at ≡ valueAt s at
   unfolding valueAt firstIn
-  value-plain e = ap (wordOf s) (sym (past-other 40 s at (eqb-false _ _ e)))
+  value-plain e = ap (writtenOf s) (sym (past-other 40 s at (eqb-false _ _ e)))
 
   -- an item of the shape that is wanted adds its value
   pub shaped-more : (b : Bool) (is : List Item) → eqb (getD s at 0) 40 ≡ b → shapedValues b (itemAt s at ∷ is) ≡ Option·map (λ ws. valueAt s at ∷ ws) (shapedValues b is)

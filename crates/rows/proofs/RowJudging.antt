@@ -23,11 +23,11 @@ use Rattle.rows.specs.RowWords.{valuesAt}
 use Rattle.form.specs.Form.{Item, Scheme, row}
 use Rattle.index.proofs.TableLaws.{scheme-read, width-read}
 use Rattle.index.specs.Found.{FoundBelow, foundAs}
-use Rattle.index.specs.Tables.{Cut, Tables, columnLabelIn, schemeBy, schemeIn}
+use Rattle.index.specs.Tables.{Cut, Tables, columnCountIn, columnLabelIn, columnLabelsIn, schemeBy, schemeIn, tableLabelIn}
 use Rattle.index.specs.Listed.{listed}
 use Rattle.index.specs.declared.found.Found.{Found}
 use Rattle.index.specs.declared.found.Found.the-variants as found
-use Rattle.index.specs.declared.tables.SchemeCode.{SchemeCode}
+use Rattle.form.specs.declared.lines.Scheme as coded
 use Rattle.lists.proofs.ListLaws.{holdsOf-some}
 use Rattle.lists.specs.Lists.{known, there}
 use Rattle.text.proofs.OffendingLaws.{leftmost-fail, leftmost-on}
@@ -117,10 +117,10 @@ module _ (d : Doc) (line : List ℕ) (w : Word) (is : List Item) (k : ℕ) (coun
 -- what is read of the labels and of the values by the scheme of the table of number x
 module _ (text tables line : List ℕ) (n k t : ℕ) (is : List Item) (d : Doc) (h : Tables text tables n (d .policy .tables)) (counted : k ≡ length (d .rows)) (room : k < 1024)
     (r : Found) (lookup : foundAs r ≡ tableOf (d .policy) (wordOf line t)) (below : FoundBelow r n) (x : ℕ) (told : r ≡ found.At x)
-    (s : SchemeCode) (reads : x < 8 → schemeIn tables x ≡ schemeBy s (getD tables (16 + x) 0) (listed (columnLabelIn tables x) (getD tables (24 + x) 0)))
+    (s : coded.Scheme) (reads : x < 8 → schemeIn tables x ≡ schemeBy s (tableLabelIn tables x) (columnLabelsIn tables x))
     (u : Found) (label : (l : ℕ) (ls : List ℕ) → wordFound line u ≡ missing (λ w. there (labelOf (d .policy) w)) (rowLabels (schemeBy s l ls) is)) where
   abbrev schemeRead : Scheme ℕ
-  schemeRead = schemeBy s (getD tables (16 + x) 0) (listed (columnLabelIn tables x) (length (columnsAt (d .policy) x)))
+  schemeRead = schemeBy s (tableLabelIn tables x) (listed (columnLabelIn tables x) (length (columnsAt (d .policy) x)))
 
   inside : x < n
   inside = below-at r x n told below
@@ -132,19 +132,19 @@ module _ (text tables line : List ℕ) (n k t : ℕ) (is : List Item) (d : Doc) 
   scheme-of = scheme-read text tables n x (d .policy) h inside s reads
 
   label-is : wordFound line u ≡ missing (λ w. there (labelOf (d .policy) w)) (rowLabels schemeRead is)
-  label-is = label (getD tables (16 + x) 0) (listed (columnLabelIn tables x) (length (columnsAt (d .policy) x)))
+  label-is = label (tableLabelIn tables x) (listed (columnLabelIn tables x) (length (columnsAt (d .policy) x)))
 
   pub found-unknown : (p : ℕ) → u ≡ found.At p → checkForm d line (row (wordOf line t) is) ≡ refused (pointing 5 document (wordOf line p))
   found-unknown p e = row-unknown d line (wordOf line t) is k counted room x table-is schemeRead scheme-of (wordOf line p) (sym label-is ∙ ap (wordFound line) e)
 
-  module _ (none-unknown : u ≡ found.Nothing) (width : ℕ) (wide : Cut x 8 (getD tables (24 + x) 0) width)
+  module _ (none-unknown : u ≡ found.Nothing) (width : ℕ) (wide : Cut 16 x 8 (columnCountIn tables x) width)
       (b : Bool) (fits : (l : ℕ) (ls : List ℕ) → b ≡ width-fits width (rowValues (schemeBy s l ls) is)) where
     labelled-all : missing (λ w. there (labelOf (d .policy) w)) (rowLabels schemeRead is) ≡ none
     labelled-all = sym label-is ∙ ap (wordFound line) none-unknown
 
     fits-is : width-fits (length (columnsAt (d .policy) x)) (rowValues schemeRead is) ≡ b
     fits-is =
-        sym (fits (getD tables (16 + x) 0) (listed (columnLabelIn tables x) (length (columnsAt (d .policy) x)))
+        sym (fits (tableLabelIn tables x) (listed (columnLabelIn tables x) (length (columnsAt (d .policy) x)))
         ∙ ap (λ m. width-fits m (rowValues schemeRead is)) (width-read text tables n x (d .policy) h inside width wide))
 
     pub found-misfit : b ≡ false → checkForm d line (row (wordOf line t) is) ≡ refused (pointingAll 7 document line)
@@ -158,7 +158,7 @@ module _ (text tables line : List ℕ) (n k t : ℕ) (is : List Item) (d : Doc) 
       types-of : wordFound line m ≡ mistypedValue (columnsAt (d .policy) x) (found-values .0)
       types-of =
           types inside
-          ∙ ap (mistypedValue (columnsAt (d .policy) x)) (values (getD tables (16 + x) 0) (listed (columnLabelIn tables x) (length (columnsAt (d .policy) x))) (found-values .0) (found-values .1))
+          ∙ ap (mistypedValue (columnsAt (d .policy) x)) (values (tableLabelIn tables x) (listed (columnLabelIn tables x) (length (columnsAt (d .policy) x))) (found-values .0) (found-values .1))
 
       pub found-mistyped : (p : ℕ) → m ≡ found.At p → checkForm d line (row (wordOf line t) is) ≡ refused (pointing 8 document (wordOf line p))
       found-mistyped p e =

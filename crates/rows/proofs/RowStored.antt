@@ -13,20 +13,20 @@ use Rattle.document.specs.Meaning.{add, rowMeant, rowsGiven}
 use Rattle.document.specs.NameFaults.{bracketLabels, leadingName, rowLabels, unknown}
 use Rattle.document.specs.Policy.{Doc, Policy, Row, Table}
 use Rattle.document.specs.ValueFaults.{bracketValues, misfit, plainValues, rowValues, valuesBehindLabel}
-use Rattle.form.specs.Form.{GivenForm, Item, Scheme, row}
-use Rattle.form.specs.Walks.{givensAt, itemsAt, namesAt}
+use Rattle.form.specs.Form.{Item, Scheme, row}
+use Rattle.form.specs.Walks.{cellsAt, itemsAt, plainAt}
 use Rattle.index.proofs.ListedLaws.{length-listed}
 use Rattle.index.proofs.RowLaws.{row-empty, rows-counted}
 use Rattle.index.proofs.TableLaws.{columns-at, scheme-read, tables-counted}
 use Rattle.index.specs.Rows.{FillingRow, LabelStored, Rows}
-use Rattle.index.specs.Tables.{Tables, columnIn, columnLabelIn, schemeBy, schemeIn}
+use Rattle.index.specs.Tables.{Tables, columnCountIn, columnIn, columnLabelIn, columnLabelsIn, columnsIn, schemeBy, schemeIn, tableLabelIn}
 use Rattle.index.specs.Listed.{listed}
-use Rattle.index.specs.declared.tables.SchemeCode.{SchemeCode}
+use Rattle.form.specs.declared.lines.Scheme as coded
 use Rattle.lists.proofs.ListLaws.{findIndex-found, holdsOf-some, map-map, there-some}
 use Rattle.lists.proofs.Tests.{not-false}
 use Rattle.lists.specs.Lists.{known, there}
 use Rattle.stepping.proofs.PassLaws.{Passed, passed}
-use Rattle.rows.proofs.StoredItems.{bracket-labels, bracket-values, leading, plain-names}
+use Rattle.rows.proofs.StoredItems.{bracket-labels, bracket-values, leading, plain-values}
 use Rattle.stepping.specs.Stored.{Passes, RowFilled}
 use Rattle.text.proofs.OffendingLaws.{leftmost-head, unless-none}
 use Rattle.text.specs.Numbers.{Value}
@@ -41,39 +41,39 @@ AddsRow text mid after k table n m = (rs : List Row) (vs : List Value) (ls : Lis
 
 module _ {text before mid after : List ℕ} {k table n : ℕ} (line : List ℕ) (is : ℕ) (rs : List Row) (ws : List Word) (N : Rows text before k rs) (small : k < 1024) (few : length ws ≤ 16) where
   pub plain-stored : plainValues (itemsAt line is) ≡ some ws
-      → (length (namesAt line is) ≤ 16 → FillingRow text before k 0 0 [] [] → RowFilled text before mid k n 0 (map (λ w. w .bytes) (namesAt line is)) [])
+      → (length (plainAt line is) ≤ 16 → FillingRow text before k 0 0 [] [] → RowFilled text before mid k n 0 (map (λ w. w .bytes) (plainAt line is)) [])
       → AddsRow text mid after k table n 0
       → Rows text after (k + 1) (rs ++ (record { table = table; values = map (λ w. w .bytes) ws; labels = [] } ∷ []))
   plain-stored h filled more =
-      let e : ws ≡ namesAt line is = plain-names line is ws h in
+      let e : ws ≡ plainAt line is = plain-values line is ws h in
       let f = filled (subst (λ (xs : List Word). length xs ≤ 16) e few) (row-empty text before k) in
       subst (λ (xs : List Word). Rows text after (k + 1) (rs ++ (record { table = table; values = map (λ w. w .bytes) xs; labels = [] } ∷ []))) (sym e)
       (more rs _ _ (f .kept rs N) small (f .filling))
 
   pub cells-stored : (d : Policy) → bracketValues (itemsAt line is) ≡ some ws
-      → (length (givensAt line is) ≤ 16 → RowFilled text before mid k n n (map (λ g. g .attribute .bytes) (givensAt line is)) (map (λ g. known (labelOf d (g .value))) (givensAt line is)))
+      → (length (cellsAt line is) ≤ 16 → RowFilled text before mid k n n (map (λ g. g .0 .bytes) (cellsAt line is)) (map (λ g. known (labelOf d (g .1))) (cellsAt line is)))
       → AddsRow text mid after k table n n
       → Rows text after (k + 1) (rs ++ (record { table = table; values = map (λ w. w .bytes) ws; labels = map (λ w. known (labelOf d w)) (bracketLabels (itemsAt line is)) } ∷ []))
   cells-stored d h filled more =
-      let e : ws ≡ map (λ (g : GivenForm). g .attribute) (givensAt line is) = bracket-values line is ws h in
-      let f = filled (subst (λ m. m ≤ 16) (ap length e ∙ length-map (givensAt line is) (λ (g : GivenForm). g .attribute)) few) in
+      let e : ws ≡ map (λ (g : Word × Word). g .0) (cellsAt line is) = bracket-values line is ws h in
+      let f = filled (subst (λ m. m ≤ 16) (ap length e ∙ length-map (cellsAt line is) (λ (g : Word × Word). g .0)) few) in
       subst (λ (x : Row). Rows text after (k + 1) (rs ++ (x ∷ [])))
       (λ j. record {
         table = table;
-        values = sym (ap (map (λ (w : Word). w .bytes)) e ∙ map-map (λ (w : Word). w .bytes) (λ (g : GivenForm). g .attribute) (givensAt line is)) j;
-        labels = sym (ap (map (λ (w : Word). known (labelOf d w))) (bracket-labels line is ws h) ∙ map-map (λ (w : Word). known (labelOf d w)) (λ (g : GivenForm). g .value) (givensAt line is)) j;
+        values = sym (ap (map (λ (w : Word). w .bytes)) e ∙ map-map (λ (w : Word). w .bytes) (λ (g : Word × Word). g .0) (cellsAt line is)) j;
+        labels = sym (ap (map (λ (w : Word). known (labelOf d w))) (bracket-labels line is ws h) ∙ map-map (λ (w : Word). known (labelOf d w)) (λ (g : Word × Word). g .1) (cellsAt line is)) j;
       })
       (more rs _ _ (f .kept rs N) small (f .filling))
 
   pub leading-stored : {marked : List ℕ} (d : Policy) (label e : ℕ) → valuesBehindLabel (itemsAt line is) ≡ some ws → getD line is 0 ≡ 32 → label ≡ known (labelOf d (wordOf line (is + 1)))
       → LabelStored before marked k 0 label → e ≡ is + 1 + length (wordAt line (is + 1))
-      → (length (namesAt line e) ≤ 16 → FillingRow text marked k 0 1 [] (label ∷ []) → RowFilled text marked mid k n 1 (map (λ w. w .bytes) (namesAt line e)) (label ∷ []))
+      → (length (plainAt line e) ≤ 16 → FillingRow text marked k 0 1 [] (label ∷ []) → RowFilled text marked mid k n 1 (map (λ w. w .bytes) (plainAt line e)) (label ∷ []))
       → AddsRow text mid after k table n 1
       → Rows text after (k + 1) (rs ++ (record { table = table; values = map (λ w. w .bytes) ws; labels = map (λ w. known (labelOf d w)) (leadingName (itemsAt line is)) } ∷ []))
   unfolding wordEndAt
   leading-stored d label e h space named s ends filled more =
       let g = leading line is ws h space in
-      let v : ws ≡ namesAt line e = g .values ∙ ap (namesAt line) (sym ends) in
+      let v : ws ≡ plainAt line e = g .values ∙ ap (plainAt line) (sym ends) in
       let f = filled (subst (λ (xs : List Word). length xs ≤ 16) v few) (s .grown text 0 [] [] small (omega arith) (row-empty text before k)) in
       subst (λ (x : Row). Rows text after (k + 1) (rs ++ (x ∷ [])))
       (λ j. record {
@@ -103,15 +103,15 @@ module _ {text tables rows : List ℕ} {count k : ℕ} (d : Doc) (line : List �
       subst (λ n. known (tableOf (d .policy) t) < n) (tables-counted text tables count (d .policy .tables) T)
       (findIndex-found (λ (x : Table). isCalled t (x .name)) (d .policy .tables) (known (tableOf (d .policy) t)) (there-some (tableOf (d .policy) t) (unless-none (there (tableOf (d .policy) t)) t (leftmost-head _ _ (p .knows)))) .1)
 
-  pub row-fits : (n : ℕ) (r s : SchemeCode) → n ≡ known (tableOf (d .policy) t) → r ≡ s → (n < 8 → schemeIn tables n ≡ schemeBy r (getD tables (16 + n) 0) (listed (columnLabelIn tables n) (getD tables (24 + n) 0)))
-      → RowFits d t items k (schemeBy s (getD tables (16 + known (tableOf (d .policy) t)) 0) (listed (columnLabelIn tables (known (tableOf (d .policy) t))) (length (columnsAt (d .policy) (known (tableOf (d .policy) t))))))
+  pub row-fits : (n : ℕ) (r s : coded.Scheme) → n ≡ known (tableOf (d .policy) t) → r ≡ s → (n < 8 → schemeIn tables n ≡ schemeBy r (tableLabelIn tables n) (columnLabelsIn tables n))
+      → RowFits d t items k (schemeBy s (tableLabelIn tables (known (tableOf (d .policy) t))) (listed (columnLabelIn tables (known (tableOf (d .policy) t))) (length (columnsAt (d .policy) (known (tableOf (d .policy) t))))))
   unfolding misfit overBound schemeOf columnsOf
   row-fits n r s e same told =
       let m : ℕ = known (tableOf (d .policy) t) in
       let q = holdsOf-some (λ (ws : List Word). eqb (length ws) (length (columnsOf (d .policy) t))) (rowValues (schemeOf (d .policy) t) items) (not-false _ (p .fits)) in
-      let scheme = scheme-read text tables count m (d .policy) T table-there s (subst (λ (x : ℕ × SchemeCode). x .0 < 8 → schemeIn tables (x .0) ≡ schemeBy (x .1) (getD tables (16 + x .0) 0) (listed (columnLabelIn tables (x .0)) (getD tables (24 + x .0) 0))) (λ j. (e j, same j)) told) in
+      let scheme = scheme-read text tables count m (d .policy) T table-there s (subst (λ (x : ℕ × coded.Scheme). x .0 < 8 → schemeIn tables (x .0) ≡ schemeBy (x .1) (tableLabelIn tables (x .0)) (columnLabelsIn tables (x .0))) (λ j. (e j, same j)) told) in
       let wide : length (q .0) ≡ length (columnsAt (d .policy) m) = eqb-true _ _ (q .2) in
-      let counted : length (columnsAt (d .policy) m) ≡ getD tables (24 + m) 0 = ap length (columns-at text tables count m (d .policy) T table-there) ∙ length-listed (columnIn text tables m) (getD tables (24 + m) 0) in
+      let counted : length (columnsAt (d .policy) m) ≡ columnCountIn tables m = ap length (columns-at text tables count m (d .policy) T table-there) ∙ length-listed (columnIn text tables m) (columnCountIn tables m) in
       record {
         small = subst (λ i. i < 1024) (rows-counted text rows k (d .rows) N) (leb-false 1024 _ (p .room));
         words = q .0;

@@ -7,20 +7,18 @@ use mathlib.Core.Path.{_∙_, _≡_, ap, refl, subst, sym}
 use native.Mathlib.Omega.{arith}
 use Rattle.document.specs.Lookup.{labelOf}
 use Rattle.document.specs.Policy.{Policy, Row}
-use Rattle.form.proofs.WalkSteps.{givens-more, names-more}
-use Rattle.form.specs.Form.{GivenForm}
-use Rattle.form.specs.Walks.{firstIn, givenAt, givensAt, namesAt, pairEndAt, secondIn}
+use Rattle.form.proofs.WalkSteps.{cells-more, plain-more}
+use Rattle.form.specs.Walks.{cellAt, cellEndAt, cellLabelIn, cellsAt, firstIn, plainAt}
 use Rattle.index.proofs.ListedLaws.{length-listed}
 use Rattle.index.proofs.RowLaws.{row-empty}
-use Rattle.index.specs.Rows.{FillingRow, LabelStored, Rows, ValueStored, rowLabelIn, valueIn}
+use Rattle.index.specs.Rows.{FillingRow, LabelStored, Rows, ValueStored, labelRoom, rowLabelIn, valueIn}
 use Rattle.lists.specs.Lists.{known}
-use Rattle.stepping.proofs.ColumnLaws.{pair-ends, second-is}
-use Rattle.stepping.proofs.PlaceLaws.{word-placed}
+use Rattle.stepping.proofs.PlaceLaws.{written-placed}
 use Rattle.stepping.specs.Stored.{LineAt, RowFilled}
 use Rattle.text.proofs.WalkingLaws.{past-within}
 use Rattle.text.specs.Numbers.{Value}
-use Rattle.text.specs.Walking.{nextWord, past, wordEndAt}
-use Rattle.text.specs.Words.{Word, wordAt, wordOf}
+use Rattle.text.specs.Walking.{past, wordEndAt, writtenEndAt}
+use Rattle.text.specs.Words.{Word, wordAt, wordOf, writtenAt, writtenOf}
 
 -- of all the values and labels some were stored, and the others are left
 pub record Rowed (text before after : List ℕ) (k c m : ℕ) (all left : List Value) (labels behind : List ℕ) : Type 0 where
@@ -54,7 +52,7 @@ rowed-marked {text} {ws} {k} {m} {ls} all h = record {
 
 -- one value more is stored, where it has room
 pub value-added : {text before ws after : List ℕ} {k c m pos : ℕ} {all left : List Value} {labels behind : List ℕ} (x : Value) → Rowed text before ws k c m all (x ∷ left) labels behind → k < 1024 → c < 16
-    → ValueStored ws after k c pos → wordAt text pos ≡ x → Rowed text before after k (c + 1) m all left labels behind
+    → ValueStored ws after k c pos → writtenAt text pos ≡ x → Rowed text before after k (c + 1) m all left labels behind
 value-added {text} {before} {ws} {after} {k} {c} {m} {pos} {all} {left} x g small room s n = record {
   kept = λ rs h. s .kept text k rs (omega arith) (g .kept rs h);
   passed = g .passed ++ (x ∷ []);
@@ -66,13 +64,13 @@ value-added {text} {before} {ws} {after} {k} {c} {m} {pos} {all} {left} x g smal
 
 -- it has room where all have
 pub rowed-value : {text before ws after : List ℕ} {k c m pos : ℕ} {all left : List Value} {labels behind : List ℕ} (x : Value) → Rowed text before ws k c m all (x ∷ left) labels behind → k < 1024 → length all ≤ 16
-    → ValueStored ws after k c pos → wordAt text pos ≡ x → Rowed text before after k (c + 1) m all left labels behind
+    → ValueStored ws after k c pos → writtenAt text pos ≡ x → Rowed text before after k (c + 1) m all left labels behind
 rowed-value {text} {before} {ws} {after} {k} {c} {m} {pos} {all} {left} x g small few s n =
     let long : length (g .passed) ≡ c = sym (ap length (g .filling .values)) ∙ length-listed (valueIn text ws k) c in
     value-added x g small (omega (arith, ap length (g .values), length-append (g .passed) (x ∷ left), long, few)) s n
 
 -- one label more, likewise
-pub label-added : {text before ws after : List ℕ} {k c m label : ℕ} {all left : List Value} {labels behind : List ℕ} (y : ℕ) → Rowed text before ws k c m all left labels (y ∷ behind) → k < 1024 → m < 16
+pub label-added : {text before ws after : List ℕ} {k c m label : ℕ} {all left : List Value} {labels behind : List ℕ} (y : ℕ) → Rowed text before ws k c m all left labels (y ∷ behind) → k < 1024 → m < labelRoom
     → LabelStored ws after k m label → label ≡ y → Rowed text before after k c (m + 1) all left labels behind
 label-added {text} {before} {ws} {after} {k} {c} {m} {label} {all} {left} {labels} {behind} y g small room s n = record {
   kept = λ rs h. s .kept text k rs (omega arith) (g .kept rs h);
@@ -98,28 +96,33 @@ rowed-all {text} {before} {after} {k} {c} {m} g e f = record {
 
 -- ---- one turn of the loops
 
-module _ {text : List ℕ} {at : ℕ} {line : List ℕ} (l : LineAt text at line) (j e pos : ℕ) (space : getD line j 0 ≡ 32) (inside : j < length line) where
-  pub value-turn : {before ws after : List ℕ} {k c m : ℕ} {ls : List ℕ} (is : ℕ) → (at + (j + 1) ≤ length text → pos ≡ at + (j + 1)) → e ≡ j + 1 + length (wordAt line (j + 1)) → ValueStored ws after k c pos → k < 1024 → length (namesAt line is) ≤ 16
-      → Rowed text before ws k c m (map (λ w. w .bytes) (namesAt line is)) (map (λ w. w .bytes) (namesAt line j)) ls []
-      → Rowed text before after k (c + 1) m (map (λ w. w .bytes) (namesAt line is)) (map (λ w. w .bytes) (namesAt line e)) ls []
-  unfolding wordEndAt
-  value-turn {before} {ws} {after} {k} {c} {m} {ls} is placed ends s small few g =
-      rowed-value (wordAt line (j + 1))
-      (subst (λ (xs : List Word). Rowed text before ws k c m (map (λ w. w .bytes) (namesAt line is)) (map (λ w. w .bytes) xs) ls [])
-      (names-more line j space ∙ ap (λ n. wordOf line (j + 1) ∷ namesAt line n) (sym ends)) g)
-      small (subst (λ n. n ≤ 16) (sym (length-map (namesAt line is) (λ (w : Word). w .bytes))) few) s (word-placed l (j + 1) pos (omega arith) placed)
+-- where the bracket of a value and a label ends, as the code finds it
+pub cell-ends : (s : List ℕ) (p q e : ℕ) → q ≡ cellLabelIn s p → e ≡ past 41 s (q + length (wordAt s q)) → e ≡ cellEndAt s p
+unfolding cellEndAt wordEndAt
+cell-ends s p q e second h = h ∙ ap (λ n. past 41 s (n + length (wordAt s n))) second
 
-  pub cell-turn : {before ws mid after : List ℕ} {k c : ℕ} (d : Policy) (is w q label : ℕ) → w ≡ past 40 line (j + 1) → q ≡ nextWord line w → (at + w ≤ length text → pos ≡ at + w) → label ≡ known (labelOf d (wordOf line q))
-      → e ≡ past 41 line (q + length (wordAt line q)) → ValueStored ws mid k c pos → LabelStored mid after k c label → k < 1024 → length (givensAt line is) ≤ 16
-      → Rowed text before ws k c c (map (λ g. g .attribute .bytes) (givensAt line is)) (map (λ g. g .attribute .bytes) (givensAt line j)) (map (λ g. known (labelOf d (g .value))) (givensAt line is)) (map (λ g. known (labelOf d (g .value))) (givensAt line j))
-      → Rowed text before after k (c + 1) (c + 1) (map (λ g. g .attribute .bytes) (givensAt line is)) (map (λ g. g .attribute .bytes) (givensAt line e)) (map (λ g. known (labelOf d (g .value))) (givensAt line is)) (map (λ g. known (labelOf d (g .value))) (givensAt line e))
-  unfolding givenAt firstIn
+module _ {text : List ℕ} {at : ℕ} {line : List ℕ} (l : LineAt text at line) (j e pos : ℕ) (space : getD line j 0 ≡ 32) (inside : j < length line) where
+  pub value-turn : {before ws after : List ℕ} {k c m : ℕ} {ls : List ℕ} (is : ℕ) → (at + (j + 1) ≤ length text → pos ≡ at + (j + 1)) → e ≡ j + 1 + length (writtenAt line (j + 1)) → ValueStored ws after k c pos → k < 1024 → length (plainAt line is) ≤ 16
+      → Rowed text before ws k c m (map (λ w. w .bytes) (plainAt line is)) (map (λ w. w .bytes) (plainAt line j)) ls []
+      → Rowed text before after k (c + 1) m (map (λ w. w .bytes) (plainAt line is)) (map (λ w. w .bytes) (plainAt line e)) ls []
+  unfolding writtenEndAt
+  value-turn {before} {ws} {after} {k} {c} {m} {ls} is placed ends s small few g =
+      rowed-value (writtenAt line (j + 1))
+      (subst (λ (xs : List Word). Rowed text before ws k c m (map (λ w. w .bytes) (plainAt line is)) (map (λ w. w .bytes) xs) ls [])
+      (plain-more line j space ∙ ap (λ n. writtenOf line (j + 1) ∷ plainAt line n) (sym ends)) g)
+      small (subst (λ n. n ≤ 16) (sym (length-map (plainAt line is) (λ (w : Word). w .bytes))) few) s (written-placed l (j + 1) pos (omega arith) placed)
+
+  pub cell-turn : {before ws mid after : List ℕ} {k c : ℕ} (d : Policy) (is w q label : ℕ) → w ≡ past 40 line (j + 1) → q ≡ cellLabelIn line (j + 1) → (at + w ≤ length text → pos ≡ at + w) → label ≡ known (labelOf d (wordOf line q))
+      → e ≡ past 41 line (q + length (wordAt line q)) → ValueStored ws mid k c pos → LabelStored mid after k c label → k < 1024 → length (cellsAt line is) ≤ 16
+      → Rowed text before ws k c c (map (λ g. g .0 .bytes) (cellsAt line is)) (map (λ g. g .0 .bytes) (cellsAt line j)) (map (λ g. known (labelOf d (g .1))) (cellsAt line is)) (map (λ g. known (labelOf d (g .1))) (cellsAt line j))
+      → Rowed text before after k (c + 1) (c + 1) (map (λ g. g .0 .bytes) (cellsAt line is)) (map (λ g. g .0 .bytes) (cellsAt line e)) (map (λ g. known (labelOf d (g .1))) (cellsAt line is)) (map (λ g. known (labelOf d (g .1))) (cellsAt line e))
+  unfolding cellAt firstIn
   cell-turn {before} {ws} {mid} {after} {k} {c} d is w q label first second placed named ends s t small few g =
       let within : w ≤ length line = subst (λ n. n ≤ length line) (sym first) (past-within 40 line (j + 1) (omega arith)) in
-      rowed-label (known (labelOf d (wordOf line (secondIn line (j + 1)))))
-      (rowed-value (wordAt line (firstIn line (j + 1)))
-      (subst (λ (xs : List GivenForm). Rowed text before ws k c c (map (λ g. g .attribute .bytes) (givensAt line is)) (map (λ g. g .attribute .bytes) xs) (map (λ g. known (labelOf d (g .value))) (givensAt line is)) (map (λ g. known (labelOf d (g .value))) xs))
-      (givens-more line j space ∙ ap (λ n. givenAt line (j + 1) ∷ givensAt line n) (sym (pair-ends line (j + 1) w q e first second ends))) g)
-      small (subst (λ n. n ≤ 16) (sym (length-map (givensAt line is) (λ (g : GivenForm). g .attribute .bytes))) few) s (word-placed l w pos within placed ∙ ap (wordAt line) first))
-      small (subst (λ n. n ≤ 16) (sym (length-map (givensAt line is) (λ (g : GivenForm). known (labelOf d (g .value))))) few) t
-      (named ∙ ap (λ n. known (labelOf d (wordOf line n))) (second-is line (j + 1) w q e first second))
+      rowed-label (known (labelOf d (wordOf line (cellLabelIn line (j + 1)))))
+      (rowed-value (writtenAt line (firstIn line (j + 1)))
+      (subst (λ (xs : List (Word × Word)). Rowed text before ws k c c (map (λ g. g .0 .bytes) (cellsAt line is)) (map (λ g. g .0 .bytes) xs) (map (λ g. known (labelOf d (g .1))) (cellsAt line is)) (map (λ g. known (labelOf d (g .1))) xs))
+      (cells-more line j space ∙ ap (λ n. cellAt line (j + 1) ∷ cellsAt line n) (sym (cell-ends line (j + 1) q e second ends))) g)
+      small (subst (λ n. n ≤ 16) (sym (length-map (cellsAt line is) (λ (g : Word × Word). g .0 .bytes))) few) s (written-placed l w pos within placed ∙ ap (writtenAt line) first))
+      small (subst (λ n. n ≤ 16) (sym (length-map (cellsAt line is) (λ (g : Word × Word). known (labelOf d (g .1))))) few) t
+      (named ∙ ap (λ n. known (labelOf d (wordOf line n))) second)

@@ -5,12 +5,12 @@ use mathlib.Core.List.{List}
 use mathlib.Core.Option.{Option}
 use Rattle.document.specs.ValueFaults.{bracketValues, plainValues}
 use Rattle.form.specs.Form.{Item}
-use Rattle.form.specs.Walks.{firstIn, itemEndAt, listAt, secondIn}
-use Rattle.text.specs.Words.{Word, wordOf}
+use Rattle.form.specs.Walks.{cellLabelIn, firstIn, itemEndAt, listAt}
+use Rattle.text.specs.Words.{Word, wordOf, writtenOf}
 
--- the value of the item at a position: the word there, or behind the bracket that opens there
+-- the value of the item at a position: it stands there, or behind the bracket that opens there
 unfoldable pub valueAt : List ℕ → ℕ → Word
-valueAt s at = wordOf s (firstIn s at)
+valueAt s at = writtenOf s (firstIn s at)
 
 -- the values of the items from a position on
 unfoldable pub valuesAt : List ℕ → ℕ → List Word
@@ -18,7 +18,7 @@ valuesAt s at = listAt valueAt itemEndAt s at
 
 -- the label of the bracket at a position
 unfoldable pub labelAt : List ℕ → ℕ → Word
-labelAt s at = wordOf s (secondIn s at)
+labelAt s at = wordOf s (cellLabelIn s at)
 
 -- the values of items that are all brackets (true), or all without one (false)
 unfoldable pub shapedValues : Bool → List Item → Option (List Word)

@@ -1,5 +1,6 @@
 // What is wrong with a row form.
 use crate::items::behind_first;
+use crate::items::cell_label;
 use crate::items::item_end_at;
 use crate::items::leads;
 use crate::items::led_values_fit;
@@ -11,7 +12,7 @@ use index::labels::find_label;
 use index::layout::LABELS;
 use index::layout::ROWS;
 use index::layout::TABLE_CELLS;
-use index::tables::SchemeCode;
+use form::lines::Scheme;
 use index::tables::column_kind;
 use index::tables::find_table;
 use index::tables::table_scheme;
@@ -19,7 +20,6 @@ use index::tables::table_width;
 use stepping::fault::Fault;
 use text::bytes::byte_at;
 use text::refusals::Reason;
-use text::walking::next_word;
 use text::walking::skip_byte;
 ghost use Prim.Native.Nat.{_+_, _<_, _≤_, ℕ};
 ghost use lib.Dec.{eqb};
@@ -27,6 +27,7 @@ ghost use lib.ListN.{length};
 ghost use mathlib.Core.List.{List, [], _∷_};
 ghost use mathlib.Core.Option.{some};
 ghost use mathlib.Core.Path.{_≡_};
+ghost use Rattle.condition.specs.Answers.{kindOf};
 ghost use Rattle.condition.specs.Kinds.{hasKind};
 ghost use Rattle.document.specs.Lookup.{columnsAt, labelOf};
 ghost use Rattle.document.specs.NameFaults.{bracketLabels, leadingName, rowLabels};
@@ -38,47 +39,43 @@ ghost use Rattle.stepping.specs.Places.{Near, wordFound};
 ghost use Rattle.rows.specs.RowWords.{labelAt, valuesAt};
 ghost use Rattle.form.specs.Form.{row};
 ghost use Rattle.form.specs.Walks.{itemAt, itemsAt};
-ghost use Rattle.index.specs.Cells.{kindSaid};
 ghost use Rattle.index.specs.Labels.{Labels};
 ghost use Rattle.index.specs.Tables.{Tables, schemeBy};
 ghost use Rattle.lists.specs.Lists.{holdsOf, there};
 ghost use Rattle.text.specs.Offending.{missing, unless};
-ghost use Rattle.text.specs.Words.{Word, wordAt, wordOf};
+ghost use Rattle.text.specs.Words.{Word, wordOf, writtenAt};
 
 // Whether the items from a position on are shaped for the scheme, with as many values as this.
-fn row_fits(scheme: SchemeCode, line: &[u8], at: usize, width: usize) -> bool
+fn row_fits(scheme: Scheme, line: &[u8], at: usize, width: usize) -> bool
     ensures { λ r. ⌜ ((l : ℕ) (ls : List ℕ) → r ≡ holdsOf (λ ws. eqb (length ws) width) (rowValues (schemeBy scheme l ls) (itemsAt (now (line .entry)) at))) ⌝ }
 {
     match scheme {
-        SchemeCode::Unlabelled => values_fit(line, at, false, width),
-        SchemeCode::ByTable => values_fit(line, at, false, width),
-        SchemeCode::ByColumn => values_fit(line, at, false, width),
-        SchemeCode::ByRow => led_values_fit(line, at, width),
-        SchemeCode::ByCell => values_fit(line, at, true, width),
+        Scheme::Unlabelled => values_fit(line, at, false, width),
+        Scheme::ByTable => values_fit(line, at, false, width),
+        Scheme::ByColumn => values_fit(line, at, false, width),
+        Scheme::ByRow => led_values_fit(line, at, width),
+        Scheme::ByCell => values_fit(line, at, true, width),
     }
 }
 
 // Where the items that have the values begin, of those from a position on.
-pub fn values_start(scheme: SchemeCode, line: &[u8], at: usize) -> usize
+pub fn values_start(scheme: Scheme, line: &[u8], at: usize) -> usize
     ensures { λ r. ⌜ ((l : ℕ) (ls : List ℕ) (ws : List Word) → rowValues (schemeBy scheme l ls) (itemsAt (now (line .entry)) at) ≡ some ws → valuesAt (now (line .entry)) r ≡ ws) ⌝ }
 {
     match scheme {
-        SchemeCode::Unlabelled => at,
-        SchemeCode::ByTable => at,
-        SchemeCode::ByColumn => at,
-        SchemeCode::ByRow => behind_first(line, at),
-        SchemeCode::ByCell => at,
+        Scheme::Unlabelled => at,
+        Scheme::ByTable => at,
+        Scheme::ByColumn => at,
+        Scheme::ByRow => behind_first(line, at),
+        Scheme::ByCell => at,
     }
 }
 
-// Whether the word at a position is a name, or is a number.
-fn typed(line: &[u8], at: usize, named: bool) -> bool
-    ensures { λ r. ⌜ r ≡ hasKind (kindSaid named) (wordAt (now (line .entry)) at) ⌝ }
+// Whether the value at a position is of the type.
+fn typed(line: &[u8], at: usize, kind: Kind) -> bool
+    ensures { λ r. ⌜ r ≡ hasKind (kindOf kind) (writtenAt (now (line .entry)) at) ⌝ }
 {
-    if named {
-        return has_kind(line, at, Kind::Name);
-    }
-    has_kind(line, at, Kind::Num)
+    has_kind(line, at, kind)
 }
 
 // The first value of the items from a position on that is not of its column's type.
@@ -93,8 +90,8 @@ fn first_mistyped(tables: &[usize; TABLE_CELLS], t: usize, line: &[u8], at: usiz
             return Found::Nothing;
         }
         let v = skip_byte(line, i + 1, b'(');
-        let named = column_kind(tables, t, c);
-        if !typed(line, v, named) {
+        let kind = column_kind(tables, t, c);
+        if !typed(line, v, kind) {
             return Found::At(v);
         }
         c += 1;
@@ -110,13 +107,7 @@ fn label_known(text: &[u8], labels: &[usize; LABELS], k: usize, line: &[u8], at:
     if byte_at(line, at) != b'(' {
         return true;
     }
-    let f = find_label(
-        text,
-        labels,
-        k,
-        line,
-        next_word(line, skip_byte(line, at, b'(')),
-    );
+    let f = find_label(text, labels, k, line, cell_label(line, at));
     match f {
         Found::At(_) => true,
         Found::Nothing => false,
@@ -136,7 +127,7 @@ fn first_unknown_label(
     let mut i = at;
     while byte_at(line, i) == b' ' {
         if !label_known(text, labels, k, line, i + 1) {
-            return Found::At(next_word(line, skip_byte(line, i + 1, b'(')));
+            return Found::At(cell_label(line, i + 1));
         }
         i = item_end_at(line, i + 1);
     }
@@ -159,7 +150,7 @@ fn leading_unknown(text: &[u8], labels: &[usize; LABELS], k: usize, line: &[u8],
 
 // The first label that the items from a position on use by the scheme, and that is not known.
 fn unknown_label(
-    scheme: SchemeCode,
+    scheme: Scheme,
     text: &[u8],
     labels: &[usize; LABELS],
     k: usize,
@@ -169,11 +160,11 @@ fn unknown_label(
     ensures { λ r. ⌜ ((sets : List ℕ) (d : Policy) (l : ℕ) (ls : List ℕ) → Labels (now (text .entry)) (now (labels .entry)) sets k (d .labels) → wordFound (now (line .entry)) r ≡ missing (λ w. there (labelOf d w)) (rowLabels (schemeBy scheme l ls) (itemsAt (now (line .entry)) at))) × Near (now (line .entry)) r ⌝ }
 {
     match scheme {
-        SchemeCode::Unlabelled => Found::Nothing,
-        SchemeCode::ByTable => Found::Nothing,
-        SchemeCode::ByColumn => Found::Nothing,
-        SchemeCode::ByRow => leading_unknown(text, labels, k, line, at),
-        SchemeCode::ByCell => first_unknown_label(text, labels, k, line, at),
+        Scheme::Unlabelled => Found::Nothing,
+        Scheme::ByTable => Found::Nothing,
+        Scheme::ByColumn => Found::Nothing,
+        Scheme::ByRow => leading_unknown(text, labels, k, line, at),
+        Scheme::ByCell => first_unknown_label(text, labels, k, line, at),
     }
 }
 

@@ -1,4 +1,5 @@
 // Storing a row: its values and labels one by one, and then the row.
+use crate::items::cell_label;
 use index::labels::find_label;
 use index::layout::LABELS;
 use index::layout::ROW_CELLS;
@@ -6,15 +7,15 @@ use index::layout::TABLE_CELLS;
 use index::rows::add_row;
 use index::rows::set_label;
 use index::rows::set_value;
-use index::tables::SchemeCode;
+use form::lines::Scheme;
 use index::tables::find_table;
 use index::tables::table_scheme;
 use stepping::places::number;
 use stepping::places::place;
 use text::bytes::byte_at;
-use text::walking::next_word;
 use text::walking::skip_byte;
 use text::words::word_end;
+use text::words::written_end;
 ghost use Prim.Native.Nat.{_+_, _<_, _≤_, ℕ};
 ghost use lib.ListN.{length};
 ghost use mathlib.Core.List.{List, [], _++_, _∷_, map};
@@ -26,7 +27,7 @@ ghost use Rattle.document.specs.NameFaults.{bracketLabels, leadingName};
 ghost use Rattle.document.specs.Policy.{Doc, Policy, Row};
 ghost use Rattle.document.specs.ValueFaults.{bracketValues, plainValues, valuesBehindLabel};
 ghost use Rattle.form.specs.Form.{row};
-ghost use Rattle.form.specs.Walks.{givensAt, itemsAt, namesAt};
+ghost use Rattle.form.specs.Walks.{cellsAt, itemsAt, plainAt};
 ghost use Rattle.index.specs.Labels.{Labels};
 ghost use Rattle.index.specs.Rows.{FillingRow, Rows};
 ghost use Rattle.index.specs.Tables.{Tables};
@@ -34,7 +35,7 @@ ghost use Rattle.lists.specs.Lists.{known};
 ghost use Rattle.stepping.specs.Stored.{LineAt, Passes, RowFilled};
 ghost use Rattle.text.specs.Words.{Word, wordOf};
 
-// Stores the words that stand from a place of the line on as the values of row k, and gives their number.
+// Stores the values that stand from a place of the line on as those of row k, and gives their number.
 fn store_values(
     text: &[u8],
     rows: &mut [usize; ROW_CELLS],
@@ -43,7 +44,7 @@ fn store_values(
     line: &[u8],
     is: usize,
 ) -> usize
-    ensures { λ r. ⌜ ((m : ℕ) (ls : List ℕ) → LineAt (now (text .entry)) at (now (line .entry)) → k < 1024 → length (namesAt (now (line .entry)) is) ≤ 16 → FillingRow (now (text .entry)) (now (rows .entry)) k 0 m [] ls → RowFilled (now (text .entry)) (now (rows .entry)) (now (rows .exit)) k r m (map (λ w. w .bytes) (namesAt (now (line .entry)) is)) ls) ⌝ }
+    ensures { λ r. ⌜ ((m : ℕ) (ls : List ℕ) → LineAt (now (text .entry)) at (now (line .entry)) → k < 1024 → length (plainAt (now (line .entry)) is) ≤ 16 → FillingRow (now (text .entry)) (now (rows .entry)) k 0 m [] ls → RowFilled (now (text .entry)) (now (rows .entry)) (now (rows .exit)) k r m (map (λ w. w .bytes) (plainAt (now (line .entry)) is)) ls) ⌝ }
 {
     let mut c: usize = 0;
     let mut j = is;
@@ -51,7 +52,7 @@ fn store_values(
         let w = j + 1;
         let pos = place(text, at, w);
         set_value(rows, k, c, pos);
-        j = word_end(line, w);
+        j = written_end(line, w);
         c += 1;
     }
     c
@@ -68,13 +69,13 @@ fn store_cells(
     line: &[u8],
     is: usize,
 ) -> usize
-    ensures { λ r. ⌜ ((d : Policy) (sets : List ℕ) → LineAt (now (text .entry)) at (now (line .entry)) → Labels (now (text .entry)) (now (labels .entry)) sets «labels_count» (d .labels) → k < 1024 → length (givensAt (now (line .entry)) is) ≤ 16 → RowFilled (now (text .entry)) (now (rows .entry)) (now (rows .exit)) k r r (map (λ g. g .attribute .bytes) (givensAt (now (line .entry)) is)) (map (λ g. known (labelOf d (g .value))) (givensAt (now (line .entry)) is))) ⌝ }
+    ensures { λ r. ⌜ ((d : Policy) (sets : List ℕ) → LineAt (now (text .entry)) at (now (line .entry)) → Labels (now (text .entry)) (now (labels .entry)) sets «labels_count» (d .labels) → k < 1024 → length (cellsAt (now (line .entry)) is) ≤ 16 → RowFilled (now (text .entry)) (now (rows .entry)) (now (rows .exit)) k r r (map (λ g. g .0 .bytes) (cellsAt (now (line .entry)) is)) (map (λ g. known (labelOf d (g .1))) (cellsAt (now (line .entry)) is))) ⌝ }
 {
     let mut c: usize = 0;
     let mut j = is;
     while byte_at(line, j) == b' ' {
         let w = skip_byte(line, j + 1, b'(');
-        let q = next_word(line, w);
+        let q = cell_label(line, j + 1);
         let label = number(find_label(text, labels, labels_count, line, q));
         let pos = place(text, at, w);
         set_value(rows, k, c, pos);
@@ -161,19 +162,19 @@ pub fn store_row(
     let table = number(find_table(text, tables, tables_count, line, t));
     let scheme = table_scheme(tables, table);
     match scheme {
-        SchemeCode::Unlabelled => {
+        Scheme::Unlabelled => {
             store_plain(text, rows, k, at, line, table, is);
         }
-        SchemeCode::ByTable => {
+        Scheme::ByTable => {
             store_plain(text, rows, k, at, line, table, is);
         }
-        SchemeCode::ByColumn => {
+        Scheme::ByColumn => {
             store_plain(text, rows, k, at, line, table, is);
         }
-        SchemeCode::ByRow => {
+        Scheme::ByRow => {
             store_by_row(text, labels, labels_count, rows, k, at, line, table, is);
         }
-        SchemeCode::ByCell => {
+        Scheme::ByCell => {
             store_by_cell(text, labels, labels_count, rows, k, at, line, table, is);
         }
     }

@@ -1,11 +1,10 @@
 -- The columns of a table that is being stored: what the loops over them keep, and the table that is stored in the end. Assumes nothing.
 use Prim.Native.Nat.{_+_, _<_, _≤_, ℕ}
 use lib.ListN.{getD, length, length-append, length-map}
-use mathlib.Core.Bool.{Bool, cond, false, not, true}
 use mathlib.Core.List.{List, [], _++_, _∷_, append-assoc, append-nil, map}
 use mathlib.Core.Path.{_∙_, _≡_, ap, refl, subst, sym}
 use native.Mathlib.Omega.{arith}
-use Rattle.condition.specs.Kinds.{names, numbers}
+use Rattle.condition.specs.Kinds.{Kind}
 use Rattle.document.specs.Lookup.{labelOf}
 use Rattle.document.specs.Meaning.{columnMeant}
 use Rattle.document.specs.Policy.{Column, Policy, Table}
@@ -13,7 +12,6 @@ use Rattle.form.proofs.WalkSteps.{column-labels-more, column-labels-stop, colum
 use Rattle.form.specs.Walks.{columnAt, columnLabelAt, columnLabelsAt, columnsAt, firstIn, kindAt, labelledColumnsAt, pairEndAt, secondIn, thirdIn, tripleEndAt}
 use Rattle.index.proofs.ListedLaws.{length-listed}
 use Rattle.index.proofs.TableLaws.{table-empty}
-use Rattle.index.specs.Cells.{kindSaid}
 use Rattle.index.specs.Tables.{ColumnStored, Filling, Tables, columnIn}
 use Rattle.lists.specs.Lists.{known}
 use Rattle.stepping.proofs.PlaceLaws.{word-placed}
@@ -41,10 +39,10 @@ columned-none text ws k all labels = record {
   labelled = refl;
 }
 
-pub columned-more : {text before ws after : List ℕ} {k c pos label : ℕ} {named : Bool} {all left : List Column} {labels behind : List ℕ} (x : Column) (y : ℕ)
-    → Columned text before ws k c all (x ∷ left) labels (y ∷ behind) → k < 8 → length all ≤ 16 → ColumnStored ws after k c pos named label
-    → wordAt text pos ≡ x .name → kindSaid named ≡ x .kind → label ≡ y → Columned text before after k (c + 1) all left labels behind
-columned-more {text} {before} {ws} {after} {k} {c} {pos} {label} {named} {all} {left} {labels} {behind} x y g small few s n t u =
+pub columned-more : {text before ws after : List ℕ} {k c pos label : ℕ} {kind : Kind} {all left : List Column} {labels behind : List ℕ} (x : Column) (y : ℕ)
+    → Columned text before ws k c all (x ∷ left) labels (y ∷ behind) → k < 8 → length all ≤ 16 → ColumnStored ws after k c pos kind label
+    → wordAt text pos ≡ x .name → kind ≡ x .kind → label ≡ y → Columned text before after k (c + 1) all left labels behind
+columned-more {text} {before} {ws} {after} {k} {c} {pos} {label} {kind} {all} {left} {labels} {behind} x y g small few s n t u =
     let long : length (g .passed) ≡ c = sym (ap length (g .filling .columns)) ∙ length-listed (columnIn text ws k) c in
     let inside : c < 16 = omega (arith, ap length (g .columns), length-append (g .passed) (x ∷ left), long, few) in
     record {
@@ -83,16 +81,10 @@ module _ (s : List ℕ) (p w q e : ℕ) (first : w ≡ past 40 s p) (second : q 
   unfolding tripleEndAt wordEndAt
   triple-ends m g h = h ∙ ap (λ n. past 41 s (n + length (wordAt s n))) (third-is m g)
 
--- the type by the test for `num`
-pub kind-unless : (b : Bool) → kindSaid (not b) ≡ cond b numbers names
-unfolding kindSaid
-kind-unless true = refl
-kind-unless false = refl
-
 -- ---- one turn of the loops
 
-module _ {text : List ℕ} {at : ℕ} {line : List ℕ} (l : LineAt text at line) (j w q e pos : ℕ) (named : Bool) (space : getD line j 0 ≡ 32) (inside : j < length line)
-    (first : w ≡ past 40 line (j + 1)) (second : q ≡ nextWord line w) (placed : at + w ≤ length text → pos ≡ at + w) (kind : kindSaid named ≡ kindAt line q) where
+module _ {text : List ℕ} {at : ℕ} {line : List ℕ} (l : LineAt text at line) (j w q e pos : ℕ) (type : Kind) (space : getD line j 0 ≡ 32) (inside : j < length line)
+    (first : w ≡ past 40 line (j + 1)) (second : q ≡ nextWord line w) (placed : at + w ≤ length text → pos ≡ at + w) (kind : type ≡ kindAt line q) where
   within : w ≤ length line
   within = subst (λ n. n ≤ length line) (sym first) (past-within 40 line (j + 1) (omega arith))
 
@@ -100,11 +92,11 @@ module _ {text : List ℕ} {at : ℕ} {line : List ℕ} (l : LineAt text at line
   unfolding columnMeant columnAt firstIn
   name-is = word-placed l w pos within placed ∙ ap (wordAt line) first
 
-  kind-is : kindSaid named ≡ columnMeant (columnAt line (j + 1)) .kind
+  kind-is : type ≡ columnMeant (columnAt line (j + 1)) .kind
   unfolding columnMeant columnAt
   kind-is = kind ∙ ap (kindAt line) (second-is line (j + 1) w q e first second)
 
-  pub plain-turn : {before ws after : List ℕ} {k c : ℕ} (cs : ℕ) → e ≡ past 41 line (q + length (wordAt line q)) → ColumnStored ws after k c pos named 0 → k < 8 → length (columnsAt line cs) ≤ 16
+  pub plain-turn : {before ws after : List ℕ} {k c : ℕ} (cs : ℕ) → e ≡ past 41 line (q + length (wordAt line q)) → ColumnStored ws after k c pos type 0 → k < 8 → length (columnsAt line cs) ≤ 16
       → Columned text before ws k c (map columnMeant (columnsAt line cs)) (map columnMeant (columnsAt line j)) (map (λ x. 0) (columnsAt line cs)) (map (λ x. 0) (columnsAt line j))
       → Columned text before after k (c + 1) (map columnMeant (columnsAt line cs)) (map columnMeant (columnsAt line e)) (map (λ x. 0) (columnsAt line cs)) (map (λ x. 0) (columnsAt line e))
   plain-turn {before} {ws} {after} {k} {c} cs ends s small few g =
@@ -114,7 +106,7 @@ module _ {text : List ℕ} {at : ℕ} {line : List ℕ} (l : LineAt text at line
       small (subst (λ n. n ≤ 16) (sym (length-map (columnsAt line cs) columnMeant)) few) s name-is kind-is refl
 
   pub labelled-turn : {before ws after : List ℕ} {k c : ℕ} (d : Policy) (cs m label : ℕ) → m ≡ nextWord line q → e ≡ past 41 line (m + length (wordAt line m)) → label ≡ known (labelOf d (wordOf line m))
-      → ColumnStored ws after k c pos named label → k < 8 → length (labelledColumnsAt line cs) ≤ 16
+      → ColumnStored ws after k c pos type label → k < 8 → length (labelledColumnsAt line cs) ≤ 16
       → Columned text before ws k c (map columnMeant (labelledColumnsAt line cs)) (map columnMeant (labelledColumnsAt line j)) (map (λ v. known (labelOf d v)) (columnLabelsAt line cs)) (map (λ v. known (labelOf d v)) (columnLabelsAt line j))
       → Columned text before after k (c + 1) (map columnMeant (labelledColumnsAt line cs)) (map columnMeant (labelledColumnsAt line e)) (map (λ v. known (labelOf d v)) (columnLabelsAt line cs)) (map (λ v. known (labelOf d v)) (columnLabelsAt line e))
   unfolding columnLabelAt

@@ -14,8 +14,8 @@ use Rattle.lists.proofs.Tests.{decide}
 use Rattle.stepping.specs.Stored.{LineAt}
 use Rattle.text.specs.Bytes.{isDigit, isLetter, isNameByte}
 use Rattle.text.specs.Lines.{LineEnd}
-use Rattle.text.specs.Words.{nameBytes, wordAt}
-use Rattle.text.proofs.WordLaws.{word-stop}
+use Rattle.text.specs.Words.{nameBytes, wordAt, writtenAt}
+use Rattle.text.proofs.WordLaws.{word-stop, written-word}
 
 -- name bytes before something that does not begin with one
 run-before : (bs rest : List ℕ) → nameBytes rest ≡ [] → nameBytes (bs ++ rest) ≡ nameBytes bs
@@ -33,6 +33,10 @@ module _ {text : List ℕ} {at : ℕ} {line : List ℕ} (l : LineAt text at line
   -- so it does at the position that the code finds
   pub word-placed : (p r : ℕ) → p ≤ length line → (at + p ≤ length text → r ≡ at + p) → wordAt text r ≡ wordAt line p
   word-placed p r h e = ap (wordAt text) (e (omega (arith, l .within))) ∙ word-in-line p h
+
+  -- and a value, being a word
+  pub written-placed : (p r : ℕ) → p ≤ length line → (at + p ≤ length text → r ≡ at + p) → writtenAt text r ≡ writtenAt line p
+  written-placed p r h e = written-word text r ∙ word-placed p r h e ∙ sym (written-word line p)
 
   -- the line itself
   pub line-placed : (e : ℕ) → (at + length line ≤ length text → e ≡ at + length line) → lineIn text at e ≡ line

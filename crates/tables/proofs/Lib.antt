@@ -3,5 +3,4 @@ pub mod LabelFaults
 pub mod NameWalks
 pub mod SetLaws
 pub mod TableLineLaws
-pub mod TableLines
 pub mod TableStored

@@ -28,16 +28,16 @@ use Rattle.text.specs.Offending.{leftmost, missing, offendingIf, repeated, repe
 use Rattle.text.specs.Words.{Word, isCalled, wordOf}
 use Rattle.text.specs.declared.refusals.Reason.{Reason}
 use Rattle.stepping.specs.declared.fault.Fault.the-variants.{Fine, Item, Whole}
-use Rattle.index.specs.TableWords.{columnWords, labelsColumns, schemeWords, tableLine}
-use Rattle.index.specs.declared.tables.SchemeCode.{SchemeCode}
-use Rattle.index.specs.declared.tables.SchemeCode.the-variants as code
+use Rattle.form.specs.TableWords.{columnWords, labelsColumns, schemeWords, tableLine}
+use Rattle.form.specs.declared.lines.Scheme as coded
+use Rattle.form.specs.declared.lines.Scheme.the-variants as code
 
 -- the names of columns
 abbrev pub columnNames : List ColumnForm → List Word
 columnNames cs = map (λ x. x .name) cs
 
 -- the columns of a line are those in the brackets of its scheme
-pub columns-words : (line : List ℕ) (scheme : SchemeCode) (cs : ℕ) → columnWords line scheme cs ≡ columnsBy (labelsColumns scheme) line cs
+pub columns-words : (line : List ℕ) (scheme : coded.Scheme) (cs : ℕ) → columnWords line scheme cs ≡ columnsBy (labelsColumns scheme) line cs
 unfolding columnWords columnsBy
 columns-words line code.Unlabelled cs = refl
 columns-words line code.ByTable cs = refl
@@ -208,7 +208,7 @@ fine-apart-whole x {A} h = let z : _≡_ {A = ℕ} 0 1 = cc in absurd (omega ari
 pub fine-apart-item : (x : Reason) (at : ℕ) {A : Type 0} → Item x at ≡ Fine → A
 fine-apart-item x at {A} h = let z : _≡_ {A = ℕ} 0 1 = cc in absurd (omega arith)
 
-module _ (d : Doc) (line : List ℕ) (t : ℕ) (scheme : SchemeCode) (l cs : ℕ) where
+module _ (d : Doc) (line : List ℕ) (t : ℕ) (scheme : coded.Scheme) (l cs : ℕ) where
   abbrev form : Form
   form = tableLine line t scheme l cs
 

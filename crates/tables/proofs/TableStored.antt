@@ -14,9 +14,9 @@ use Rattle.form.specs.Form.{ColumnForm, byTable, mapScheme}
 use Rattle.form.specs.Walks.{columnLabelsAt, columnsAt, labelledColumnsAt}
 use Rattle.index.proofs.TableLaws.{tables-counted}
 use Rattle.index.specs.Tables.{Filling, Tables, schemeBy}
-use Rattle.index.specs.TableWords.{columnWords, labelsColumns, schemeWords, tableLine}
-use Rattle.index.specs.declared.tables.SchemeCode.{SchemeCode}
-use Rattle.index.specs.declared.tables.SchemeCode.the-variants as code
+use Rattle.form.specs.TableWords.{columnWords, labelsColumns, schemeWords, tableLine}
+use Rattle.form.specs.declared.lines.Scheme as coded
+use Rattle.form.specs.declared.lines.Scheme.the-variants as code
 use Rattle.lists.proofs.Tests.{neither-left, neither-right, true-not-false}
 use Rattle.lists.specs.Lists.{known}
 use Rattle.stepping.proofs.PassLaws.{Passed, passed}
@@ -26,7 +26,7 @@ use Rattle.text.specs.Words.{Word, wordAt, wordOf}
 
 -- what the line gives, by whether labels stand at the columns
 module _ (f : Word → ℕ) (line : List ℕ) (l cs : ℕ) where
-  pub labelled-columns : (s : SchemeCode) → labelsColumns s ≡ true → columnWords line s cs ≡ labelledColumnsAt line cs
+  pub labelled-columns : (s : coded.Scheme) → labelsColumns s ≡ true → columnWords line s cs ≡ labelledColumnsAt line cs
   unfolding columnWords
   labelled-columns code.Unlabelled h = true-not-false h refl
   labelled-columns code.ByTable h = true-not-false h refl
@@ -34,7 +34,7 @@ module _ (f : Word → ℕ) (line : List ℕ) (l cs : ℕ) where
   labelled-columns code.ByRow h = true-not-false h refl
   labelled-columns code.ByCell h = true-not-false h refl
 
-  pub plain-columns : (s : SchemeCode) → labelsColumns s ≡ false → columnWords line s cs ≡ columnsAt line cs
+  pub plain-columns : (s : coded.Scheme) → labelsColumns s ≡ false → columnWords line s cs ≡ columnsAt line cs
   unfolding columnWords
   plain-columns code.Unlabelled h = refl
   plain-columns code.ByTable h = refl
@@ -42,7 +42,7 @@ module _ (f : Word → ℕ) (line : List ℕ) (l cs : ℕ) where
   plain-columns code.ByRow h = refl
   plain-columns code.ByCell h = refl
 
-  pub labelled-scheme : (s : SchemeCode) (label : ℕ) → labelsColumns s ≡ true → schemeBy s label (map f (columnLabelsAt line cs)) ≡ mapScheme f (schemeWords line s l cs)
+  pub labelled-scheme : (s : coded.Scheme) (label : ℕ) → labelsColumns s ≡ true → schemeBy s label (map f (columnLabelsAt line cs)) ≡ mapScheme f (schemeWords line s l cs)
   unfolding schemeBy mapScheme schemeWords
   labelled-scheme code.Unlabelled label h = true-not-false h refl
   labelled-scheme code.ByTable label h = true-not-false h refl
@@ -50,7 +50,7 @@ module _ (f : Word → ℕ) (line : List ℕ) (l cs : ℕ) where
   labelled-scheme code.ByRow label h = true-not-false h refl
   labelled-scheme code.ByCell label h = true-not-false h refl
 
-  pub plain-scheme : (s : SchemeCode) (label : ℕ) (ls : List ℕ) → label ≡ f (wordOf line l) → labelsColumns s ≡ false → schemeBy s label ls ≡ mapScheme f (schemeWords line s l cs)
+  pub plain-scheme : (s : coded.Scheme) (label : ℕ) (ls : List ℕ) → label ≡ f (wordOf line l) → labelsColumns s ≡ false → schemeBy s label ls ≡ mapScheme f (schemeWords line s l cs)
   unfolding schemeBy mapScheme schemeWords
   plain-scheme code.Unlabelled label ls e h = refl
   plain-scheme code.ByTable label ls e h = ap byTable e
@@ -58,7 +58,7 @@ module _ (f : Word → ℕ) (line : List ℕ) (l cs : ℕ) where
   plain-scheme code.ByRow label ls e h = refl
   plain-scheme code.ByCell label ls e h = refl
 
-module _ {text : List ℕ} {at : ℕ} {line : List ℕ} (p : LineAt text at line) (d : Doc) (t pos : ℕ) (h : t ≤ length line) (e : at + t ≤ length text → pos ≡ at + t) (s : SchemeCode) (l cs : ℕ) where
+module _ {text : List ℕ} {at : ℕ} {line : List ℕ} (p : LineAt text at line) (d : Doc) (t pos : ℕ) (h : t ≤ length line) (e : at + t ≤ length text → pos ≡ at + t) (s : coded.Scheme) (l cs : ℕ) where
   pub table-stored : {before mid after : List ℕ} {k width : ℕ} (label : ℕ) (fs : List ColumnForm) (ls : List ℕ) → Tables text before k (d .policy .tables) → Passes d line (tableLine line t s l cs)
       → columnWords line s cs ≡ fs → schemeBy s label ls ≡ mapScheme (λ w. known (labelOf (d .policy) w)) (schemeWords line s l cs)
       → (k < 8 → length fs ≤ 16 → ColumnsFilled text before mid k width (map columnMeant fs) ls)

@@ -1,3 +1,2 @@
 -- What the contracts of these lines say. Assumes nothing.
-pub mod SchemeCodes
 pub mod TableLine

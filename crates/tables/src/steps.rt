@@ -9,7 +9,6 @@ use index::layout::LABELS;
 use index::layout::PURPOSE_CELLS;
 use index::layout::SET_WORDS;
 use index::layout::TABLE_CELLS;
-use index::tables::SchemeCode;
 use stepping::step::Step;
 use stepping::step::is_fine;
 ghost use Prim.Native.Nat.{_≤_, ℕ};
@@ -19,41 +18,14 @@ ghost use mathlib.Core.Option.{none};
 ghost use mathlib.Core.Path.{_≡_};
 ghost use Rattle.index.specs.Workspace.{Indexed};
 ghost use Rattle.stepping.specs.Follows.{Follows};
-ghost use Rattle.tables.specs.SchemeCodes.{labelPlace, schemeCoded};
 ghost use Rattle.document.specs.Check.{checkForm};
 ghost use Rattle.document.specs.Policy.{Doc};
-ghost use Rattle.form.specs.Form.{label, table};
-ghost use Rattle.form.specs.Places.{SchemeWithin, schemeAt, tableColumnsAt};
+ghost use Rattle.form.specs.Form.{label};
+ghost use Rattle.form.specs.TableWords.{tableLine};
 ghost use Rattle.form.specs.Walks.{namesAt};
 ghost use Rattle.stepping.specs.Stored.{LineAt};
 ghost use Rattle.text.specs.Reader.{from};
 ghost use Rattle.text.specs.Words.{wordOf};
-
-// A scheme without its label.
-fn scheme_code(k: Scheme) -> SchemeCode
-    ensures { λ r. ⌜ r ≡ schemeCoded k ⌝ }
-{
-    match k {
-        Scheme::Unlabelled => SchemeCode::Unlabelled,
-        Scheme::ByTable(_) => SchemeCode::ByTable,
-        Scheme::ByColumn => SchemeCode::ByColumn,
-        Scheme::ByRow => SchemeCode::ByRow,
-        Scheme::ByCell => SchemeCode::ByCell,
-    }
-}
-
-// The place of the label of a table; 0 where it has none.
-fn scheme_label(k: Scheme) -> usize
-    ensures { λ r. ⌜ r ≡ labelPlace k ⌝ }
-{
-    match k {
-        Scheme::Unlabelled => 0,
-        Scheme::ByTable(l) => l,
-        Scheme::ByColumn => 0,
-        Scheme::ByRow => 0,
-        Scheme::ByCell => 0,
-    }
-}
 
 // A label, whose name stands at l, with the purposes from two places on.
 pub fn step_label(
@@ -103,7 +75,7 @@ pub fn step_label(
     Step::Fails(f)
 }
 
-// A table, whose name stands at t, of this scheme, with its columns from cs on.
+// A table, whose name stands at t, of this scheme, with its label at l, if it has one, and its columns from cs on.
 pub fn step_table(
     text: &[u8],
     at: usize,
@@ -113,16 +85,15 @@ pub fn step_table(
     c: Counts,
     t: usize,
     scheme: Scheme,
+    l: usize,
     cs: usize,
 ) -> Step
-    ensures { λ s. ⌜ ((d : Doc) (ps′ rs′ bs′ us′ cs′ gs′ ms′ ws′ : List ℕ) → LineAt (now (text .entry)) at (now (line .entry)) → ((t ≤ length (now (line .entry))) × SchemeWithin (now (line .entry)) scheme × (cs ≤ length (now (line .entry)))) → Indexed (now (text .entry)) ps′ rs′ bs′ us′ cs′ gs′ (now (labels .entry)) ms′ (now (tables .entry)) ws′ c d → Follows (Indexed (now (text .entry)) ps′ rs′ bs′ us′ cs′ gs′ (now (labels .entry)) ms′ (now (tables .exit)) ws′) (now (line .entry)) (checkForm d (now (line .entry)) (table (wordOf (now (line .entry)) t) (schemeAt (now (line .entry)) scheme cs) (tableColumnsAt (now (line .entry)) scheme cs))) s) ⌝ }
+    ensures { λ s. ⌜ ((d : Doc) (ps′ rs′ bs′ us′ cs′ gs′ ms′ ws′ : List ℕ) → LineAt (now (text .entry)) at (now (line .entry)) → ((t ≤ length (now (line .entry))) × (l ≤ length (now (line .entry))) × (cs ≤ length (now (line .entry)))) → Indexed (now (text .entry)) ps′ rs′ bs′ us′ cs′ gs′ (now (labels .entry)) ms′ (now (tables .entry)) ws′ c d → Follows (Indexed (now (text .entry)) ps′ rs′ bs′ us′ cs′ gs′ (now (labels .entry)) ms′ (now (tables .exit)) ws′) (now (line .entry)) (checkForm d (now (line .entry)) (tableLine (now (line .entry)) t scheme l cs)) s) ⌝ }
 {
     let k = c.tables;
-    let code = scheme_code(scheme);
-    let l = scheme_label(scheme);
-    let f = table_fault(text, labels, c.labels, tables, k, line, t, code, l, cs);
+    let f = table_fault(text, labels, c.labels, tables, k, line, t, scheme, l, cs);
     if is_fine(f) {
-        store_table(text, labels, c.labels, tables, k, at, line, t, code, l, cs);
+        store_table(text, labels, c.labels, tables, k, at, line, t, scheme, l, cs);
         let mut next = c;
         next.tables = k + 1;
         return Step::Goes(next);

@@ -5,9 +5,9 @@ use index::layout::COLUMNS;
 use index::layout::LABELS;
 use index::layout::TABLE_CELLS;
 use index::layout::TABLES;
-use index::tables::SchemeCode;
+use form::lines::Scheme;
 use index::tables::find_table;
-use index::tables::labels_columns;
+use form::lines::labels_columns;
 use stepping::fault::Fault;
 use text::bytes::byte_at;
 use text::refusals::Reason;
@@ -26,7 +26,7 @@ ghost use Rattle.form.specs.Form.{schemeLabels};
 ghost use Rattle.form.specs.Walks.{columnLabelsAt};
 ghost use Rattle.index.specs.Labels.{Labels};
 ghost use Rattle.index.specs.Tables.{Tables};
-ghost use Rattle.index.specs.TableWords.{schemeWords};
+ghost use Rattle.form.specs.TableWords.{schemeWords};
 ghost use Rattle.lists.specs.Lists.{anyOf, findIndex, there};
 ghost use Rattle.text.specs.Offending.{missing, repeated};
 ghost use Rattle.text.specs.Words.{isCalled, wordOf};
@@ -149,18 +149,18 @@ fn unknown_label(
     labels: &[usize; LABELS],
     m: usize,
     line: &[u8],
-    scheme: SchemeCode,
+    scheme: Scheme,
     l: usize,
     cs: usize,
 ) -> Found
     ensures { λ r. ⌜ ((sets : List ℕ) (ls : List Label) → Labels (now (text .entry)) (now (labels .entry)) sets m ls → wordFound (now (line .entry)) r ≡ missing (λ w. there (findIndex (λ x. isCalled w (x .name)) ls)) (schemeLabels (schemeWords (now (line .entry)) scheme l cs))) × (l ≤ length (now (line .entry)) → Near (now (line .entry)) r) ⌝ }
 {
     match scheme {
-        SchemeCode::Unlabelled => Found::Nothing,
-        SchemeCode::ByTable => unknown_table_label(text, labels, m, line, l),
-        SchemeCode::ByColumn => first_unknown_label(text, labels, m, line, cs),
-        SchemeCode::ByRow => Found::Nothing,
-        SchemeCode::ByCell => Found::Nothing,
+        Scheme::Unlabelled => Found::Nothing,
+        Scheme::ByTable => unknown_table_label(text, labels, m, line, l),
+        Scheme::ByColumn => first_unknown_label(text, labels, m, line, cs),
+        Scheme::ByRow => Found::Nothing,
+        Scheme::ByCell => Found::Nothing,
     }
 }
 
@@ -174,7 +174,7 @@ pub fn table_fault(
     k: usize,
     line: &[u8],
     t: usize,
-    scheme: SchemeCode,
+    scheme: Scheme,
     l: usize,
     cs: usize,
 ) -> Fault

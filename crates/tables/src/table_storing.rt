@@ -1,10 +1,11 @@
 // Storing a table: its columns one by one, and then the table.
+use condition::kinds::Kind;
 use index::labels::find_label;
 use index::layout::LABELS;
 use index::layout::TABLE_CELLS;
-use index::tables::SchemeCode;
+use form::lines::Scheme;
 use index::tables::add_table;
-use index::tables::labels_columns;
+use form::lines::labels_columns;
 use index::tables::set_column;
 use stepping::places::number;
 use stepping::places::place;
@@ -17,22 +18,25 @@ ghost use Prim.Native.Nat.{_+_, _<_, _≤_, ℕ};
 ghost use lib.ListN.{length};
 ghost use mathlib.Core.List.{List, map};
 ghost use mathlib.Core.Path.{_≡_};
+ghost use Rattle.condition.specs.Answers.{kindOf};
 ghost use Rattle.document.specs.Lookup.{labelOf};
 ghost use Rattle.document.specs.Meaning.{add, columnMeant};
 ghost use Rattle.document.specs.Policy.{Doc, Policy};
 ghost use Rattle.form.specs.Walks.{columnLabelsAt, columnsAt, kindAt, labelledColumnsAt};
-ghost use Rattle.index.specs.Cells.{kindSaid};
 ghost use Rattle.index.specs.Labels.{Labels};
 ghost use Rattle.index.specs.Tables.{Tables};
-ghost use Rattle.index.specs.TableWords.{tableLine};
+ghost use Rattle.form.specs.TableWords.{tableLine};
 ghost use Rattle.lists.specs.Lists.{known};
 ghost use Rattle.stepping.specs.Stored.{ColumnsFilled, LineAt, Passes};
 
-// Whether the type at a place of the line is that of names.
-fn kind_named(line: &[u8], q: usize) -> bool
-    ensures { λ r. ⌜ kindSaid r ≡ kindAt (now (line .entry)) q ⌝ }
+// The type that the word at a place of the line names.
+fn kind_at(line: &[u8], q: usize) -> Kind
+    ensures { λ r. ⌜ kindOf r ≡ kindAt (now (line .entry)) q ⌝ }
 {
-    !is_word(line, q, b"num")
+    if is_word(line, q, b"num") {
+        return Kind::Num;
+    }
+    Kind::Name
 }
 
 // Stores the columns `(COL num)` of table k that stand from a place of the line on, and gives their number.
@@ -51,9 +55,9 @@ fn store_columns(
     while byte_at(line, j) == b' ' {
         let w = skip_byte(line, j + 1, b'(');
         let q = next_word(line, w);
-        let named = kind_named(line, q);
+        let kind = kind_at(line, q);
         let pos = place(text, at, w);
-        set_column(tables, k, c, pos, named, 0);
+        set_column(tables, k, c, pos, kind, 0);
         j = skip_byte(line, word_end(line, q), b')');
         c += 1;
     }
@@ -79,10 +83,10 @@ fn store_labelled_columns(
         let w = skip_byte(line, j + 1, b'(');
         let q = next_word(line, w);
         let m = next_word(line, q);
-        let named = kind_named(line, q);
+        let kind = kind_at(line, q);
         let label = number(find_label(text, labels, labels_count, line, m));
         let pos = place(text, at, w);
-        set_column(tables, k, c, pos, named, label);
+        set_column(tables, k, c, pos, kind, label);
         j = skip_byte(line, word_end(line, m), b')');
         c += 1;
     }
@@ -100,7 +104,7 @@ pub fn store_table(
     at: usize,
     line: &[u8],
     t: usize,
-    scheme: SchemeCode,
+    scheme: Scheme,
     l: usize,
     cs: usize,
 )

@@ -6,7 +6,7 @@ use crate::numbers::Number;
 use crate::numbers::read_number;
 ghost use mathlib.Core.Path.{_≡_};
 ghost use Rattle.text.specs.Reader.{from};
-ghost use Rattle.text.specs.Words.{wordAt, name, value};
+ghost use Rattle.text.specs.Words.{wordAt, writtenAt, name, value};
 ghost use Rattle.text.specs.Names.{sameByte, sameName};
 ghost use Rattle.text.specs.CodeEnds.{wordEnd};
 ghost use Prim.Native.Nat.{_+_};
@@ -27,6 +27,13 @@ pub fn word_end(s: &[u8], at: usize) -> usize
         i += 1;
     }
     i
+}
+
+// The end of the value of a cell that stands at a position.
+pub fn written_end(s: &[u8], at: usize) -> usize
+    ensures { λ r. ⌜ r ≡ at + length (writtenAt (now (s .entry)) at) ⌝ }
+{
+    word_end(s, at)
 }
 
 // The end of the name that stands at a position.

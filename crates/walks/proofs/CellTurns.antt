@@ -7,24 +7,23 @@ use mathlib.Core.List.{List, _∷_, map}
 use mathlib.Core.Option.{some}
 use mathlib.Core.Path.{_∙_, _≡_, ap, refl, subst, sym}
 use native.Mathlib.Omega.{arith}
-use Rattle.condition.specs.Kinds.{hasKind}
+use Rattle.condition.specs.Kinds.{Kind, hasKind}
 use Rattle.document.proofs.RowItems.{item-bracket-end}
 use Rattle.document.specs.Lookup.{columnsAt, labelOf}
 use Rattle.document.specs.NameFaults.{bracketLabels}
 use Rattle.document.specs.Policy.{Column, Policy}
 use Rattle.rows.proofs.RowChecks.{bracket-known, labels-on}
-use Rattle.form.proofs.WalkSteps.{givens-more}
-use Rattle.form.specs.Form.{GivenForm, labelled}
-use Rattle.form.specs.FormReader.{item, labelledItem, plainItem}
-use Rattle.form.specs.Walks.{firstIn, givenAt, givensAt, itemEndAt, itemsAt, pairEndAt, secondIn}
+use Rattle.form.proofs.WalkSteps.{cells-more}
+use Rattle.form.specs.Form.{labelled}
+use Rattle.form.specs.FormReader.{cellValue, item, labelledItem, plainItem}
+use Rattle.form.specs.Walks.{cellAt, cellEndAt, cellLabelIn, cellsAt, firstIn, itemEndAt, itemsAt}
 use Rattle.index.proofs.TableLaws.{column-inside}
-use Rattle.index.specs.Cells.{kindOfCell, kindSaid}
 use Rattle.index.specs.Rows.{LabelStored, ValueStored}
-use Rattle.index.specs.Tables.{Tables}
+use Rattle.index.specs.Tables.{Tables, columnKindIn}
 use Rattle.lists.specs.Lists.{known, there}
 use Rattle.walks.proofs.Typed.{ItemsPassed, all-passed, items-turn, none-passed, typed-at, typed-value}
 use Rattle.walks.specs.Walked.{CellsTaken, LabelTaken, LabelWalked, typedEnd}
-use Rattle.stepping.proofs.PlaceLaws.{word-placed}
+use Rattle.stepping.proofs.PlaceLaws.{written-placed}
 use Rattle.rows.proofs.RowTurns.{Rowed, label-added, rowed-all, rowed-none, value-added}
 use Rattle.stepping.specs.Stored.{LineAt}
 use Rattle.text.proofs.CodeLaws.{word-at}
@@ -41,8 +40,8 @@ use Rattle.text.specs.Names.{isName}
 use Rattle.text.specs.Numbers.{isValue}
 use Rattle.text.specs.Offending.{missing}
 use Rattle.text.specs.Reader.{from}
-use Rattle.text.specs.Walking.{nextWord, past, wordEndAt}
-use Rattle.text.specs.Words.{name, value, wordAt, wordOf}
+use Rattle.text.specs.Walking.{past, wordEndAt, writtenEndAt}
+use Rattle.text.specs.Words.{Word, name, wordAt, wordOf, writtenAt}
 use Rattle.text.specs.declared.words.End.{End}
 use Rattle.text.specs.declared.words.End.the-variants.{At}
 
@@ -72,7 +71,7 @@ label-at {before} {after} {line} {d} {k} {m} {at} q h = subst (λ z. LabelWalked
 pub record CellsPassed (text before after line : List ℕ) (k n c : ℕ) (d : Policy) (cs : List Column) (is j : ℕ) : Type 0 where
   pub items : ItemsPassed true line n c cs is j
   pub labelled : missing (λ w. there (labelOf d w)) (bracketLabels (itemsAt line is)) ≡ missing (λ w. there (labelOf d w)) (bracketLabels (itemsAt line j))
-  pub rowed : Rowed text before after k c c (map (λ g. g .attribute .bytes) (givensAt line is)) (map (λ g. g .attribute .bytes) (givensAt line j)) (map (λ g. known (labelOf d (g .value))) (givensAt line is)) (map (λ g. known (labelOf d (g .value))) (givensAt line j))
+  pub rowed : Rowed text before after k c c (map (λ g. g .0 .bytes) (cellsAt line is)) (map (λ g. g .0 .bytes) (cellsAt line j)) (map (λ g. known (labelOf d (g .1))) (cellsAt line is)) (map (λ g. known (labelOf d (g .1))) (cellsAt line j))
 
 pub no-cells-passed : (text ws line : List ℕ) (k n : ℕ) (d : Policy) (cs : List Column) (is : ℕ) → CellsPassed text ws ws line k n 0 d cs is is
 no-cells-passed text ws line k n d cs is = record {
@@ -87,65 +86,65 @@ all-cells-passed {text} {before} {after} {line} {k} {n} {c} {d} {cs} {is} {j} q 
     record {
       walked = all-passed (g .items);
       labelled = g .labelled;
-      filled = λ z. rowed-all (g .rowed) (ap (map (λ g. g .attribute .bytes)) z) (ap (map (λ g. known (labelOf d (g .value)))) z);
+      filled = λ z. rowed-all (g .rowed) (ap (map (λ g. g .0 .bytes)) z) (ap (map (λ g. known (labelOf d (g .1)))) z);
     }
 
 -- ---- one cell: where its words stand, and that it is read as an item
 
-module _ (line : List ℕ) (j e f : ℕ) (opened : getD line (j + 1) 0 ≡ 40) (first : e ≡ wordEndAt line (j + 2)) (gap : getD line e 0 ≡ 32) (second : f ≡ wordEndAt line (e + 1)) (closed : getD line f 0 ≡ 41) where
+module _ (line : List ℕ) (j e f : ℕ) (opened : getD line (j + 1) 0 ≡ 40) (first : e ≡ writtenEndAt line (j + 2)) (gap : getD line e 0 ≡ 32) (second : f ≡ wordEndAt line (e + 1)) (closed : getD line f 0 ≡ 41) where
   first-at : j + 2 ≡ past 40 line (j + 1)
   first-at = omega (arith, past-here 40 line (j + 1) (λ z. absurd (omega arith)) opened)
 
-  second-at : e + 1 ≡ secondIn line (j + 1)
-  unfolding secondIn firstIn nextWord
-  second-at = sym (past-here 32 line e (λ z. absurd (omega arith)) gap) ∙ ap (past 32 line) (first ∙ ap (wordEndAt line) first-at)
+  second-at : e + 1 ≡ cellLabelIn line (j + 1)
+  unfolding cellLabelIn firstIn
+  second-at = sym (past-here 32 line e (λ z. absurd (omega arith)) gap) ∙ ap (past 32 line) (first ∙ ap (writtenEndAt line) first-at)
 
-  pair-at : f + 1 ≡ pairEndAt line (j + 1)
-  unfolding pairEndAt
+  pair-at : f + 1 ≡ cellEndAt line (j + 1)
+  unfolding cellEndAt
   pair-at = sym (past-here 41 line f (λ z. absurd (omega arith)) closed) ∙ ap (past 41 line) (second ∙ ap (wordEndAt line) second-at)
 
   cell-end : f + 1 ≡ itemEndAt line (j + 1)
   cell-end = pair-at ∙ sym (item-bracket-end line (j + 1) (eq-eqb _ _ opened))
 
-  cell-read : (named : Bool) → hasKind (kindSaid named) (wordAt line (j + 2)) ≡ true → isName (wordAt line (e + 1)) ≡ true → wordEnd (item (from line (j + 1))) ≡ At (f + 1)
+  cell-read : (type : Kind) → hasKind type (writtenAt line (j + 2)) ≡ true → isName (wordAt line (e + 1)) ≡ true → wordEnd (item (from line (j + 1))) ≡ At (f + 1)
   unfolding item labelledItem wordEndAt
-  cell-read named v n =
+  cell-read type v n =
       let two : j + 1 + 1 ≡ j + 2 = omega arith in
       ap wordEnd (if-here 40 labelledItem plainItem line (j + 1) opened)
-      ∙ sym (held-end value (next name) labelled (forward-wordThat isValue) line (j + 1) refl (ap wordEnd (byte-at-read line (j + 1) 40 opened) ∙ ap At two)
-      refl (typed-value line (j + 2) named v ∙ ap At (sym first))
+      ∙ sym (held-end cellValue (next name) labelled (forward-wordThat isValue) line (j + 1) refl (ap wordEnd (byte-at-read line (j + 1) 40 opened) ∙ ap At two)
+      refl (typed-value line (j + 2) type v ∙ ap At (sym first))
       refl (forward-next name (forward-wordThat isName)) (ap wordEnd (next-here name line e gap ∙ word-read line (e + 1) isName n) ∙ ap At (sym second))
       (sym (ap wordEnd (byte-at-read line f 41 closed))))
 
   cell-stored : {text : List ℕ} {at : ℕ} (l : LineAt text at line) {before ws mid after : List ℕ} {k c : ℕ} (d : Policy) (is pos : ℕ) → getD line j 0 ≡ 32 → (at + (j + 2) ≤ length text → pos ≡ at + (j + 2))
       → ValueStored ws mid k c pos → LabelStored mid after k c (known (labelOf d (wordOf line (e + 1)))) → k < 1024 → c < 16
-      → Rowed text before ws k c c (map (λ g. g .attribute .bytes) (givensAt line is)) (map (λ g. g .attribute .bytes) (givensAt line j)) (map (λ g. known (labelOf d (g .value))) (givensAt line is)) (map (λ g. known (labelOf d (g .value))) (givensAt line j))
-      → Rowed text before after k (c + 1) (c + 1) (map (λ g. g .attribute .bytes) (givensAt line is)) (map (λ g. g .attribute .bytes) (givensAt line (f + 1))) (map (λ g. known (labelOf d (g .value))) (givensAt line is)) (map (λ g. known (labelOf d (g .value))) (givensAt line (f + 1)))
-  unfolding givenAt firstIn
+      → Rowed text before ws k c c (map (λ g. g .0 .bytes) (cellsAt line is)) (map (λ g. g .0 .bytes) (cellsAt line j)) (map (λ g. known (labelOf d (g .1))) (cellsAt line is)) (map (λ g. known (labelOf d (g .1))) (cellsAt line j))
+      → Rowed text before after k (c + 1) (c + 1) (map (λ g. g .0 .bytes) (cellsAt line is)) (map (λ g. g .0 .bytes) (cellsAt line (f + 1))) (map (λ g. known (labelOf d (g .1))) (cellsAt line is)) (map (λ g. known (labelOf d (g .1))) (cellsAt line (f + 1)))
+  unfolding cellAt firstIn
   cell-stored {text} {at} l {before} {ws} {mid} {after} {k} {c} d is pos space placed s t small inside g =
       let begins : j + 1 < length line = before-end line (j + 1) (λ z. absurd (omega (arith, opened, z))) in
-      label-added (known (labelOf d (wordOf line (secondIn line (j + 1)))))
-      (value-added (wordAt line (firstIn line (j + 1)))
-      (subst (λ (xs : List GivenForm). Rowed text before ws k c c (map (λ g. g .attribute .bytes) (givensAt line is)) (map (λ g. g .attribute .bytes) xs) (map (λ g. known (labelOf d (g .value))) (givensAt line is)) (map (λ g. known (labelOf d (g .value))) xs))
-      (givens-more line j space ∙ ap (λ n. givenAt line (j + 1) ∷ givensAt line n) (sym pair-at)) g)
-      small inside s (word-placed l (j + 2) pos (omega arith) placed ∙ ap (wordAt line) first-at))
+      label-added (known (labelOf d (wordOf line (cellLabelIn line (j + 1)))))
+      (value-added (writtenAt line (firstIn line (j + 1)))
+      (subst (λ (xs : List (Word × Word)). Rowed text before ws k c c (map (λ g. g .0 .bytes) (cellsAt line is)) (map (λ g. g .0 .bytes) xs) (map (λ g. known (labelOf d (g .1))) (cellsAt line is)) (map (λ g. known (labelOf d (g .1))) xs))
+      (cells-more line j space ∙ ap (λ n. cellAt line (j + 1) ∷ cellsAt line n) (sym pair-at)) g)
+      small inside s (written-placed l (j + 2) pos (omega arith) placed ∙ ap (writtenAt line) first-at))
       small inside t (ap (λ n. known (labelOf d (wordOf line n))) second-at)
 
 -- ---- one cell more
 
 module _ {text tables : List ℕ} {count x : ℕ} (d : Policy) (T : Tables text tables count (d .tables)) (b : x < count) {n : ℕ} (wide : n ≡ length (columnsAt d x)) where
-  pub cells-turn : {before ws mid after line : List ℕ} {k c at e f pos : ℕ} (is j : ℕ) (named : Bool) → LineAt text at line → k < 1024 → c < n → getD line j 0 ≡ 32 → getD line (j + 1) 0 ≡ 40
-      → (x < 8 → c < 16 → kindOfCell (getD tables (160 + 16 * x + c) 0) ≡ kindSaid named) → typedEnd line (j + 2) named ≡ At e
+  pub cells-turn : {before ws mid after line : List ℕ} {k c at e f pos : ℕ} (is j : ℕ) (type : Kind) → LineAt text at line → k < 1024 → c < n → getD line j 0 ≡ 32 → getD line (j + 1) 0 ≡ 40
+      → (x < 8 → c < 16 → type ≡ columnKindIn tables x c) → typedEnd line (j + 2) type ≡ At e
       → (at + (j + 2) ≤ length text → pos ≡ at + (j + 2)) → ValueStored ws mid k c pos → LabelTaken mid after line d k c e f → getD line f 0 ≡ 41
       → CellsPassed text before ws line k n c d (columnsAt d x) is j → CellsPassed text before after line k n (c + 1) d (columnsAt d x) is (f + 1)
-  cells-turn {before} {ws} {mid} {after} {line} {k} {c} {at} {e} {f} {pos} is j named stands small inside space opened kind ends placed s t closed p =
-      let v = typed-at line (j + 2) named e ends in
+  cells-turn {before} {ws} {mid} {after} {line} {k} {c} {at} {e} {f} {pos} is j type stands small inside space opened kind ends placed s t closed p =
+      let v = typed-at line (j + 2) type e ends in
       let to : f + 1 ≡ itemEndAt line (j + 1) = cell-end line j e f opened (v .1) (t .space) (t .end) closed in
-      let mark : there (labelOf d (wordOf line (secondIn line (j + 1)))) ≡ true = ap (λ q. there (labelOf d (wordOf line q))) (sym (second-at line j e f opened (v .1) (t .space) (t .end) closed)) ∙ t .found in
+      let mark : there (labelOf d (wordOf line (cellLabelIn line (j + 1)))) ≡ true = ap (λ q. there (labelOf d (wordOf line q))) (sym (second-at line j e f opened (v .1) (t .space) (t .end) closed)) ∙ t .found in
       record {
         items =
-            items-turn d T b wide true line c is j (f + 1) (j + 2) named inside space (eq-eqb _ _ opened) kind (first-at line j e f opened (v .1) (t .space) (t .end) closed) (v .0)
-            (cell-read line j e f opened (v .1) (t .space) (t .end) closed named (v .0) (t .named)) to (p .items);
+            items-turn d T b wide true line c is j (f + 1) (j + 2) type inside space (eq-eqb _ _ opened) kind (first-at line j e f opened (v .1) (t .space) (t .end) closed) (v .0)
+            (cell-read line j e f opened (v .1) (t .space) (t .end) closed type (v .0) (t .named)) to (p .items);
         labelled =
             p .labelled
             ∙ labels-on (λ w. there (labelOf d w)) line j space true (bracket-known (λ w. there (labelOf d w)) line (j + 1) (eq-eqb _ _ opened) true mark) refl

@@ -9,7 +9,7 @@ use mathlib.Core.List.{List, [], _++_, _∷_, map}
 use mathlib.Core.Option.{none, some}
 use mathlib.Core.Path.{_∙_, _≡_, ap, refl, subst, sym}
 use native.Mathlib.Omega.{arith}
-use Rattle.condition.specs.Kinds.{hasKind}
+use Rattle.condition.specs.Kinds.{hasKind, names}
 use Rattle.document.proofs.RowItems.{led-name, led-values}
 use Rattle.document.specs.Lookup.{columnsAt, labelOf, schemeAt, schemeOf, tableOf}
 use Rattle.document.specs.NameFaults.{rowLabels}
@@ -21,20 +21,19 @@ use Rattle.rows.proofs.RowItems.{fits-stop, shaped-at, width-fits}
 use Rattle.rows.proofs.RowJudging.{row-fine}
 use Rattle.rows.specs.RowWords.{shapedValues, valuesAt}
 use Rattle.form.proofs.FormForward.{forward-item}
-use Rattle.form.proofs.WalkSteps.{givens-stop, names-stop}
+use Rattle.form.proofs.WalkSteps.{cells-stop, plain-stop}
 use Rattle.form.specs.Form.{Item, Scheme, byCell, byRow}
 use Rattle.form.specs.FormReader.{item}
 use Rattle.form.specs.Walks.{itemsAt}
 use Rattle.index.proofs.RowLaws.{rows-counted}
 use Rattle.index.proofs.TableLaws.{scheme-read}
-use Rattle.index.specs.Cells.{kindSaid}
 use Rattle.index.specs.Found.{FoundBelow, foundAs}
 use Rattle.index.specs.Rows.{Rows}
-use Rattle.index.specs.Tables.{Tables, columnLabelIn, schemeBy, schemeIn}
+use Rattle.index.specs.Tables.{Tables, columnLabelIn, columnLabelsIn, schemeBy, schemeIn, tableLabelIn}
 use Rattle.index.specs.Listed.{listed}
 use Rattle.index.specs.declared.found.Found.{Found}
 use Rattle.index.specs.declared.found.Found.the-variants as found
-use Rattle.index.specs.declared.tables.SchemeCode.{SchemeCode}
+use Rattle.form.specs.declared.lines.Scheme as coded
 use Rattle.lists.proofs.ListLaws.{holdsOf-some}
 use Rattle.lists.proofs.Tests.{eqb-self}
 use Rattle.lists.specs.Lists.{known, there}
@@ -50,8 +49,9 @@ use Rattle.text.specs.Brackets.{many}
 use Rattle.text.specs.CodeEnds.{wordEnd}
 use Rattle.text.specs.Offending.{missing}
 use Rattle.text.specs.Reader.{from}
+use Rattle.text.proofs.WalkingLaws.{written-end}
 use Rattle.text.specs.Walking.{wordEndAt}
-use Rattle.text.specs.Words.{Word, wordAt, wordOf}
+use Rattle.text.specs.Words.{Word, wordAt, wordOf, writtenAt}
 use Rattle.text.specs.declared.words.End.the-variants.{At}
 
 -- ---- items that were walked to the bracket
@@ -123,15 +123,15 @@ cells-labelled d line {cs} {is} {e} t shut = t .labelled ∙ labels-done (λ v. 
 
 -- the first is the label
 module _ {before marked line : List ℕ} {d : Policy} {k is j : ℕ} (l : LabelTaken before marked line d k 0 is j) where
-  is-typed : hasKind (kindSaid true) (wordAt line (is + 1)) ≡ true
-  unfolding hasKind kindSaid
+  is-typed : hasKind names (writtenAt line (is + 1)) ≡ true
+  unfolding hasKind writtenAt
   is-typed = l .named
 
   bare : eqb (getD line (is + 1) 0) 40 ≡ false
-  bare = typed-bare line (is + 1) true is-typed
+  bare = typed-bare line (is + 1) names is-typed
 
   led-ends : wordEnd (many item (from line is)) ≡ wordEnd (many item (from line j))
-  led-ends = sym (list-more item forward-item line is refl (l .space) refl (typed-plain line (is + 1) true is-typed ∙ ap At (sym (l .end))) refl)
+  led-ends = sym (list-more item forward-item line is refl (l .space) refl (typed-plain line (is + 1) names is-typed ∙ ap At (written-end line (is + 1) ∙ sym (l .end))) refl)
 
   led-labelled : missing (λ v. there (labelOf d v)) (rowLabels byRow (itemsAt line is)) ≡ none
   unfolding rowLabels
@@ -155,14 +155,14 @@ module _ {text before : List ℕ} {k x n : ℕ} (d : Doc) (line : List ℕ) (is 
       taken-so d line is k x (sym (rows-counted text before k (d .rows) N)) room table s refl (unlabelled-all (d .policy) u items) (t .walked) shut wide few (plain-shaped (d .policy) u items) (walked-close (t .walked) shut)
       (λ (f : RowFits d (wordOf line 5) items k s).
       subst (λ (ls : List Word). Rows text after (k + 1) (d .rows ++ (record { table = x; values = map (λ w. w .bytes) (f .words); labels = map (λ w. known (labelOf (d .policy) w)) ls } ∷ []))) (sym (u .labels items))
-      (plain-stored line is (d .rows) (f .words) N room (f .few) (sym (u .values items) ∙ f .values) (λ short g. t .filled (names-stop line e (no-space line e shut))) more))
+      (plain-stored line is (d .rows) (f .words) N room (f .few) (sym (u .values items) ∙ f .values) (λ short g. t .filled (plain-stop line e (no-space line e shut))) more))
 
   pub cells-taken : schemeAt (d .policy) x ≡ byCell → CellsTaken text before mid line k n (d .policy) (columnsAt (d .policy) x) is e → AddsRow text mid after k x n n → ItemsTaken text line after k is d
   unfolding rowLabels rowValues
   cells-taken scheme t more =
       taken-so d line is k x (sym (rows-counted text before k (d .rows) N)) room table byCell scheme (cells-labelled (d .policy) line t shut) (t .walked) shut wide few (cells-shaped (itemsAt line is)) (walked-close (t .walked) shut)
       (λ (f : RowFits d (wordOf line 5) (itemsAt line is) k byCell).
-      cells-stored line is (d .rows) (f .words) N room (f .few) (d .policy) (f .values) (λ short. t .filled (givens-stop line e (no-space line e shut))) more)
+      cells-stored line is (d .rows) (f .words) N room (f .few) (d .policy) (f .values) (λ short. t .filled (cells-stop line e (no-space line e shut))) more)
 
   pub led-taken : {marked : List ℕ} {j : ℕ} → schemeAt (d .policy) x ≡ byRow → LabelTaken before marked line (d .policy) k 0 is j
       → ValuesTaken text marked mid line k n 1 (known (labelOf (d .policy) (wordOf line (is + 1))) ∷ []) (columnsAt (d .policy) x) j e → AddsRow text mid after k x n 1 → ItemsTaken text line after k is d
@@ -172,22 +172,22 @@ module _ {text before : List ℕ} {k x n : ℕ} (d : Doc) (line : List ℕ) (is 
       (record { end = e; read = led-ends l ∙ t .walked .ends ∙ no-items line e shut; closed = shut })
       (λ (f : RowFits d (wordOf line 5) (itemsAt line is) k byRow).
       leading-stored line is (d .rows) (f .words) N room (f .few) (d .policy) (known (labelOf (d .policy) (wordOf line (is + 1)))) j (f .values) (l .space) refl (l .stored) (l .end)
-      (λ short g. t .filled (names-stop line e (no-space line e shut))) more)
+      (λ short g. t .filled (plain-stop line e (no-space line e shut))) more)
 
 -- ---- what the code looked up
 
 -- the table of this name has the number x, and its scheme is the one that the code names
-pub record TableTold (tables : List ℕ) (count x : ℕ) (s : SchemeCode) (w : Word) (d : Policy) : Type 0 where
+pub record TableTold (tables : List ℕ) (count x : ℕ) (s : coded.Scheme) (w : Word) (d : Policy) : Type 0 where
   pub table : tableOf d w ≡ some x
   pub inside : x < count
-  pub scheme : schemeAt d x ≡ schemeBy s (getD tables (16 + x) 0) (listed (columnLabelIn tables x) (length (columnsAt d x)))
+  pub scheme : schemeAt d x ≡ schemeBy s (tableLabelIn tables x) (listed (columnLabelIn tables x) (length (columnsAt d x)))
 
-pub table-told : {text tables : List ℕ} {count x : ℕ} {r : Found} {q s : SchemeCode} (w : Word) (d : Policy) → Tables text tables count (d .tables) → r ≡ found.At x → foundAs r ≡ tableOf d w → FoundBelow r count
-    → q ≡ s → (x < 8 → schemeIn tables x ≡ schemeBy q (getD tables (16 + x) 0) (listed (columnLabelIn tables x) (getD tables (24 + x) 0))) → TableTold tables count x s w d
+pub table-told : {text tables : List ℕ} {count x : ℕ} {r : Found} {q s : coded.Scheme} (w : Word) (d : Policy) → Tables text tables count (d .tables) → r ≡ found.At x → foundAs r ≡ tableOf d w → FoundBelow r count
+    → q ≡ s → (x < 8 → schemeIn tables x ≡ schemeBy q (tableLabelIn tables x) (columnLabelsIn tables x)) → TableTold tables count x s w d
 table-told {text} {tables} {count} {x} {r} {q} {s} w d T at lookup below told reads =
     let inside : x < count = subst (λ (f : Found). FoundBelow f count) at below in
     record {
       table = sym lookup ∙ ap foundAs at;
       inside = inside;
-      scheme = scheme-read text tables count x d T inside s (subst (λ (c : SchemeCode). x < 8 → schemeIn tables x ≡ schemeBy c (getD tables (16 + x) 0) (listed (columnLabelIn tables x) (getD tables (24 + x) 0))) told reads);
+      scheme = scheme-read text tables count x d T inside s (subst (λ (c : coded.Scheme). x < 8 → schemeIn tables x ≡ schemeBy c (tableLabelIn tables x) (columnLabelsIn tables x)) told reads);
     }

@@ -5,15 +5,14 @@ use lib.ListN.{drop, getD, length}
 use mathlib.Core.Bool.{Bool, cond, false, true}
 use mathlib.Core.List.{List, [], map}
 use mathlib.Core.Path.{_≡_}
-use Rattle.condition.specs.Kinds.{hasKind}
+use Rattle.condition.specs.Kinds.{Kind, hasKind}
 use Rattle.document.specs.Lookup.{labelOf}
 use Rattle.document.specs.NameFaults.{bracketLabels}
 use Rattle.document.specs.Policy.{Column, Policy, Row}
 use Rattle.document.specs.TypeFaults.{mistypedValue}
 use Rattle.rows.specs.RowWords.{shapedValues, valuesAt}
 use Rattle.form.specs.FormReader.{item}
-use Rattle.form.specs.Walks.{givensAt, itemsAt, namesAt}
-use Rattle.index.specs.Cells.{kindSaid}
+use Rattle.form.specs.Walks.{cellsAt, itemsAt, plainAt}
 use Rattle.index.specs.Rows.{LabelStored, Rows}
 use Rattle.lists.specs.Lists.{holdsOf, known, there}
 use Rattle.stepping.specs.Stored.{RowFilled}
@@ -22,14 +21,14 @@ use Rattle.text.specs.CodeEnds.{wordEnd}
 use Rattle.text.specs.Names.{isName}
 use Rattle.text.specs.Offending.{missing}
 use Rattle.text.specs.Reader.{from}
-use Rattle.text.specs.Walking.{wordEndAt}
-use Rattle.text.specs.Words.{wordAt, wordOf}
+use Rattle.text.specs.Walking.{wordEndAt, writtenEndAt}
+use Rattle.text.specs.Words.{wordAt, wordOf, writtenAt}
 use Rattle.text.specs.declared.words.End.{End}
 use Rattle.text.specs.declared.words.End.the-variants.{At, Nothing}
 
--- where the word at a place ends, if it is a name (true), or a number (false)
-unfoldable pub typedEnd : List ℕ → ℕ → Bool → End
-typedEnd line at named = cond (hasKind (kindSaid named) (wordAt line at)) (At (wordEndAt line at)) Nothing
+-- where the value at a place ends, if it is of the type
+unfoldable pub typedEnd : List ℕ → ℕ → Kind → End
+typedEnd line at kind = cond (hasKind kind (writtenAt line at)) (At (writtenEndAt line at)) Nothing
 
 -- the first k rows stay
 abbrev pub KeepsRows : (text before after : List ℕ) → ℕ → Type 0
@@ -44,13 +43,13 @@ pub record ItemsWalked (bracketed : Bool) (line : List ℕ) (n : ℕ) (cs : List
 -- n values stand from `is` to e, and if they are all, they are stored as those of row k, which has m labels already
 pub record ValuesTaken (text before after line : List ℕ) (k n m : ℕ) (ls : List ℕ) (cs : List Column) (is e : ℕ) : Type 0 where
   pub walked : ItemsWalked false line n cs is e
-  pub filled : namesAt line e ≡ [] → RowFilled text before after k n m (map (λ w. w .bytes) (namesAt line is)) ls
+  pub filled : plainAt line e ≡ [] → RowFilled text before after k n m (map (λ w. w .bytes) (plainAt line is)) ls
 
 -- the same for n cells with a known label at each
 pub record CellsTaken (text before after line : List ℕ) (k n : ℕ) (d : Policy) (cs : List Column) (is e : ℕ) : Type 0 where
   pub walked : ItemsWalked true line n cs is e
   pub labelled : missing (λ w. there (labelOf d w)) (bracketLabels (itemsAt line is)) ≡ missing (λ w. there (labelOf d w)) (bracketLabels (itemsAt line e))
-  pub filled : givensAt line e ≡ [] → RowFilled text before after k n n (map (λ g. g .attribute .bytes) (givensAt line is)) (map (λ g. known (labelOf d (g .value))) (givensAt line is))
+  pub filled : cellsAt line e ≡ [] → RowFilled text before after k n n (map (λ g. g .0 .bytes) (cellsAt line is)) (map (λ g. known (labelOf d (g .1))) (cellsAt line is))
 
 -- the name of a known label stands behind a space and ends at e, and it is stored as label m of row k
 pub record LabelTaken (before after line : List ℕ) (d : Policy) (k m at e : ℕ) : Type 0 where

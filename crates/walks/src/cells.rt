@@ -1,4 +1,5 @@
 // The values and labels of a row line: judged while they are read, and stored while they are judged.
+use condition::kinds::Kind;
 use index::found::Found;
 use index::labels::find_label_to;
 use index::layout::LABELS;
@@ -17,6 +18,7 @@ ghost use Prim.Native.Nat.{_<_, _≤_, ℕ};
 ghost use lib.ListN.{length};
 ghost use mathlib.Core.List.{List, []};
 ghost use mathlib.Core.Path.{_≡_};
+ghost use Rattle.condition.specs.Answers.{kindOf};
 ghost use Rattle.document.specs.Lookup.{columnsAt};
 ghost use Rattle.document.specs.Policy.{Policy};
 ghost use Rattle.index.specs.Labels.{Labels};
@@ -25,17 +27,19 @@ ghost use Rattle.index.specs.Tables.{Tables};
 ghost use Rattle.walks.specs.Walked.{CellsWalked, KeepsRows, LabelWalked, ValuesWalked, typedEnd};
 ghost use Rattle.stepping.specs.Stored.{LineAt};
 
-// The end of the name, or of the number, that stands at a position.
-fn typed_end(line: &[u8], at: usize, named: bool) -> End
-    ensures { λ r. ⌜ r ≡ typedEnd (now (line .entry)) at named ⌝ }
+// The end of the value of the type that stands at a position.
+fn typed_end(line: &[u8], at: usize, kind: Kind) -> End
+    ensures { λ r. ⌜ r ≡ typedEnd (now (line .entry)) at (kindOf kind) ⌝ }
 {
-    if named {
-        return name_end(line, at);
-    }
-    let n = read_number(line, at);
-    match n {
-        Number::At(e, _) => End::At(e),
-        Number::Nothing => End::Nothing,
+    match kind {
+        Kind::Name => name_end(line, at),
+        Kind::Num => {
+            let n = read_number(line, at);
+            match n {
+                Number::At(e, _) => End::At(e),
+                Number::Nothing => End::Nothing,
+            }
+        }
     }
 }
 
@@ -60,8 +64,8 @@ pub(crate) fn take_values(
             return End::Nothing;
         }
         let v = j + 1;
-        let named = column_kind(tables, x, m);
-        let r = typed_end(line, v, named);
+        let kind = column_kind(tables, x, m);
+        let r = typed_end(line, v, kind);
         let End::At(e) = r else {
             return End::Nothing;
         };
@@ -127,8 +131,8 @@ pub(crate) fn take_cells(
             return End::Nothing;
         }
         let v = j + 2;
-        let named = column_kind(tables, x, m);
-        let r = typed_end(line, v, named);
+        let kind = column_kind(tables, x, m);
+        let r = typed_end(line, v, kind);
         let End::At(e) = r else {
             return End::Nothing;
         };

@@ -8,7 +8,7 @@ use index::layout::ROW_CELLS;
 use index::layout::ROWS;
 use index::layout::TABLE_CELLS;
 use index::rows::add_row;
-use index::tables::SchemeCode;
+use form::lines::Scheme;
 use index::tables::find_table_to;
 use index::tables::table_scheme;
 use index::tables::table_width;
@@ -180,13 +180,13 @@ pub fn take_row(
     };
     let scheme = table_scheme(tables, x);
     match scheme {
-        SchemeCode::Unlabelled => take_plain(text, at, line, tables, x, rows, k, is),
-        SchemeCode::ByTable => take_plain(text, at, line, tables, x, rows, k, is),
-        SchemeCode::ByColumn => take_plain(text, at, line, tables, x, rows, k, is),
-        SchemeCode::ByRow => {
+        Scheme::Unlabelled => take_plain(text, at, line, tables, x, rows, k, is),
+        Scheme::ByTable => take_plain(text, at, line, tables, x, rows, k, is),
+        Scheme::ByColumn => take_plain(text, at, line, tables, x, rows, k, is),
+        Scheme::ByRow => {
             take_led(text, at, line, labels, labels_count, tables, x, rows, k, is)
         }
-        SchemeCode::ByCell => {
+        Scheme::ByCell => {
             take_labelled(text, at, line, labels, labels_count, tables, x, rows, k, is)
         }
     }

@@ -4,7 +4,7 @@ use text::bytes::byte_at;
 use text::bytes::is_name_byte;
 ghost use mathlib.Core.List.{[], _∷_};
 ghost use Rattle.text.specs.Numbers.{decimal};
-ghost use Rattle.text.specs.Words.{wordAt};
+ghost use Rattle.text.specs.Words.{writtenAt};
 ghost use Rattle.writing.specs.Write.{Wrote};
 
 // The largest place that counting comes to, so that no place wraps: no buffer reaches it.
@@ -37,9 +37,9 @@ pub fn put_bytes(out: &mut [u8], at: usize, s: &[u8]) -> usize
     to
 }
 
-// Writes the word that stands at a place of a text.
-pub fn put_word(out: &mut [u8], at: usize, text: &[u8], start: usize) -> usize
-    ensures { λ r. ⌜ Wrote (now (out .entry)) at (wordAt (now (text .entry)) start) (now (out .exit)) r ⌝ }
+// Writes the value of a cell that stands at a place of a text.
+pub fn put_written(out: &mut [u8], at: usize, text: &[u8], start: usize) -> usize
+    ensures { λ r. ⌜ Wrote (now (out .entry)) at (writtenAt (now (text .entry)) start) (now (out .exit)) r ⌝ }
 {
     let mut to = at;
     let mut i = start;

@@ -34,8 +34,8 @@ value-place-requires c κs = search needs
 put-byte-requires : tie.Need-put-byte-requires Inv-loop μ-loop
 put-byte-requires c κs = search needs
 
-put-word-requires : tie.Need-put-word-requires Inv-loop μ-loop
-put-word-requires c κs = search needs
+put-written-requires : tie.Need-put-written-requires Inv-loop μ-loop
+put-written-requires c κs = search needs
 
 add-i : tie.Need-add-i Inv-loop μ-loop
 add-i c = omega arith
@@ -49,7 +49,7 @@ loop-again c =
     let cs = c .before .before .before .before .before .before .before .before .before .before .before .before .before .before .before .args .columns .now in
     let i = c .before .before .before .before .before .before .before .before .before .before .before .loop .i in
     w.step (32 ∷ getD vs (getD cs i 0) []) (spaced (drop (i + 1) cs) vs) (c .before .before .before .before .before .before .before .before .before .before .before .loop .inv) (spaced-more vs cs i (c .before .before .before .before .before .before .before .before .before .before .loop-test .taken))
-    (rw (c .before .before .before .before .before .before .before .before .value-place .ensures (c .before .before .before .before .before .before .before .before .before .before .before .before .before .before .before .pre .0) (c .before .before .before .before .before .before .before .before .before .before .before .before .before .before .before .pre .1)) at (w.both (c .before .before .before .before .before .before .put-byte .ensures) (c .before .before .put-word .ensures)))
+    (rw (c .before .before .before .before .before .before .before .before .value-place .ensures (c .before .before .before .before .before .before .before .before .before .before .before .before .before .before .before .pre .0) (c .before .before .before .before .before .before .before .before .before .before .before .before .before .before .before .pre .1)) at (w.both (c .before .before .before .before .before .before .put-byte .ensures) (c .before .before .put-written .ensures)))
 
 same-length : tie.Need-same-length Inv-loop μ-loop
 same-length c = c .before .loop .inv .kept
@@ -68,7 +68,7 @@ put-values-spec =
     shared-slice-read-value-place
     value-place-requires
     put-byte-requires
-    put-word-requires
+    put-written-requires
     add-i
     loop-less
     loop-again

@@ -4,7 +4,7 @@ use Rattle.lists.specs.Lists.{known}
 use Rattle.document.specs.Lookup.{roleOf}
 use Rattle.text.specs.Words.{wordOf}
 use mathlib.Core.Path.{_∙_, ap, refl, sym}
-use Rattle.index.specs.Cells.{kindSaid}
+use Rattle.condition.specs.Answers.{kindOf}
 use Rattle.stepping.proofs.NamedLaws.{attr-stored}
 use borrow.Author.Needs.{needs}
 use Rattle.attributes.proofs.attr_storing.store_attr.Statement.{statement}
@@ -26,7 +26,7 @@ returns : tie.Need-returns
 unfolding roleOf
 returns c d l R N ok h =
     let a = c .before .before .before .before .before .before .before .args in
-    attr-stored l d (a .a) _ h (c .before .before .place .ensures) (wordOf (a .line .now) (a .r)) _ (kindSaid (a .named)) N ok
+    attr-stored l d (a .a) _ h (c .before .before .place .ensures) (wordOf (a .line .now) (a .r)) _ (kindOf (a .kind)) N ok
     (c .before .before .before .number .ensures ∙ ap known (c .before .before .before .before .find-role .ensures .0 _ R))
     (c .add-attribute .ensures (a .text .now) _ N)
 

@@ -6,7 +6,6 @@ use Rattle.document.specs.Lookup.{attributeOf}
 use Rattle.document.specs.Policy.{Policy}
 use Rattle.attributes.proofs.CondLineLaws.{kind-none, kind-there, named, named-none}
 use Rattle.index.specs.Attributes.{Attributes}
-use Rattle.index.specs.Cells.{kindSaid}
 use Rattle.index.specs.Found.{foundAs}
 use Rattle.text.specs.Words.{wordOf}
 use Rattle.attributes.proofs.cond_faults.kind_named.Statement.{statement}
@@ -34,18 +33,10 @@ unfolding attributeOf
 found c d h = sym (ap foundAs (c .before .f .given .1)) ∙ c .before .before .before .find-attribute .ensures .0 (d .attributes) h
 
 returns-2 : tie.Need-returns-2
-unfolding kindSaid
 returns-2 c d h =
-    let w = wordOf (c .before .before .before .before .before .before .before .before .args .line .now) (c .before .before .before .before .before .before .before .before .args .at) in
-    let a = named d w (c .before .before .before .f .given .0 .0) (found (c .before .before) d h) in
-    sym (kind-there d w (a .0) (a .2) ∙ c .before .attribute-kind .ensures (c .before .before .before .before .before .before .before .before .args .text .now) (d .attributes) (a .0) h (a .1) ∙ ap kindSaid (c .if1 .taken))
-
-returns-3 : tie.Need-returns-3
-unfolding kindSaid
-returns-3 c d h =
-    let w = wordOf (c .before .before .before .before .before .before .before .before .args .line .now) (c .before .before .before .before .before .before .before .before .args .at) in
-    let a = named d w (c .before .before .before .f .given .0 .0) (found (c .before .before) d h) in
-    sym (kind-there d w (a .0) (a .2) ∙ c .before .attribute-kind .ensures (c .before .before .before .before .before .before .before .before .args .text .now) (d .attributes) (a .0) h (a .1) ∙ ap kindSaid (c .if1 .left))
+    let w = wordOf (c .before .before .before .before .before .before .before .args .line .now) (c .before .before .before .before .before .before .before .args .at) in
+    let a = named d w (c .before .before .f .given .0 .0) (found (c .before) d h) in
+    c .attribute-kind .ensures (c .before .before .before .before .before .before .before .args .text .now) (d .attributes) (a .0) h (a .1) ∙ sym (kind-there d w (a .0) (a .2))
 
 pub kind-named-spec : {M : Type 1} → statement M
 kind-named-spec =
@@ -56,5 +47,4 @@ kind-named-spec =
     enum-told
     returns
     attribute-kind-requires
-    returns-2
-    returns-3)
+    returns-2)

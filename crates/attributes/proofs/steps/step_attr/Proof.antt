@@ -1,18 +1,11 @@
 -- `attributes::steps::step_attr` meets its contract. Assumes nothing.
-use mathlib.Core.Path.{_∙_, ap, sym}
+use mathlib.Core.Path.{_∙_, sym}
 use native.Mathlib.Omega.{arith}
 use Rattle.stepping.proofs.Growing.{grow-attr}
-use Rattle.stepping.proofs.Judgements.{follows-as, follows-fails, follows-goes, has-room, passes, refuses}
-use Rattle.condition.specs.Kinds.{Kind}
-use Rattle.document.specs.Check.{checkForm}
-use Rattle.form.specs.Form.{attr}
+use Rattle.stepping.proofs.Judgements.{follows-fails, follows-goes, has-room, passes, refuses}
 use Rattle.index.proofs.IndexLaws.{users-length}
-use Rattle.text.specs.Words.{wordOf}
 use Rattle.attributes.proofs.steps.step_attr.Statement.{statement}
 use Rattle.attributes.proofs.steps.step_attr.Tie as tie
-
-is-named-requires : tie.Need-is-named-requires
-is-named-requires c κs = tt
 
 attr-fault-requires : tie.Need-attr-fault-requires
 attr-fault-requires c κs = tt
@@ -29,16 +22,15 @@ add-next c = omega (arith, has-room (c .before .before .before .before .attr-fau
 returns : tie.Need-returns
 returns c = λ d ps′ us′ cs′ gs′ ls′ ms′ ts′ ws′ a w I.
     let p = passes (c .before .before .before .before .attr-fault .ensures) (sym (c .before .before .before .is-fine .ensures) ∙ c .before .before .if1 .taken) d (I .roles, I .attributes, sym (users-length (I .users))) in
-    follows-as (ap (λ (k : Kind). checkForm d (c .before .before .before .before .before .before .before .before .before .args .line .now) (attr (wordOf (c .before .before .before .before .before .before .before .before .before .args .line .now) (c .before .before .before .before .before .before .before .before .before .args .r)) (wordOf (c .before .before .before .before .before .before .before .before .before .args .line .now) (c .before .before .before .before .before .before .before .before .before .args .a)) k)) (c .before .before .before .before .before .before .is-named .ensures)) (follows-goes (record { doc = _; is = p; held = grow-attr I _ _ _ _ (c .before .before .before .before .before .before .before .before .before .args .line .now) p (c .store-attr .ensures d a (I .roles) (I .attributes) p (w .1)) }))
+    follows-goes (record { doc = _; is = p; held = grow-attr I _ _ _ _ (c .before .before .before .before .before .before .before .before .args .line .now) p (c .store-attr .ensures d a (I .roles) (I .attributes) p (w .1)) })
 
 returns-2 : tie.Need-returns-2
-returns-2 c = λ d ps′ us′ cs′ gs′ ls′ ms′ ts′ ws′ a w I. follows-as (ap (λ (k : Kind). checkForm d (c .before .before .before .before .before .before .before .args .line .now) (attr (wordOf (c .before .before .before .before .before .before .before .args .line .now) (c .before .before .before .before .before .before .before .args .r)) (wordOf (c .before .before .before .before .before .before .before .args .line .now) (c .before .before .before .before .before .before .before .args .a)) k)) (c .before .before .before .before .is-named .ensures)) (follows-fails (refuses (c .before .before .attr-fault .ensures) (sym (c .before .is-fine .ensures) ∙ c .if1 .left) d (I .roles, I .attributes, sym (users-length (I .users))) w))
+returns-2 c = λ d ps′ us′ cs′ gs′ ls′ ms′ ts′ ws′ a w I. follows-fails (refuses (c .before .before .attr-fault .ensures) (sym (c .before .is-fine .ensures) ∙ c .if1 .left) d (I .roles, I .attributes, sym (users-length (I .users))) w)
 
 pub step-attr-spec : {M : Type 1} → statement M
 step-attr-spec =
     tie.close
     (tie.spec
-    is-named-requires
     attr-fault-requires
     is-fine-requires
     store-attr-requires

@@ -3,9 +3,8 @@ use mathlib.Core.Bool.{false, true}
 use mathlib.Core.Path.{_∙_, ap, sym}
 use native.Mathlib.Omega.{arith}
 use Rattle.authority.proofs.HeldLaws.{attribute-below, user-none, user-some}
-use Rattle.condition.specs.Answers.{opOf}
+use Rattle.condition.specs.Answers.{kindOf, opOf}
 use Rattle.condition.specs.Comparison.{valuesMeet}
-use Rattle.index.specs.Cells.{kindSaid}
 use Rattle.lists.specs.Lists.{holdsOf}
 use Rattle.query.specs.Authority.{userValue}
 use Rattle.text.specs.Words.{wordAt}
@@ -32,29 +31,14 @@ values-meet-requires : tie.Need-values-meet-requires
 values-meet-requires c κs = search needs
 
 returns-2 : tie.Need-returns-2
-unfolding kindSaid
-returns-2 c text d u a h v e = let x = c .before .before .before .before .before .before .before .before .args in
-    let k = sym (c .before .before .attribute-kind .ensures text (d .attributes) a h e ∙ ap kindSaid (c .before .if3 .taken)) in
+returns-2 c text d u a h v e = let x = c .before .before .before .before .before .before .before .args in
+    let k = c .before .attribute-kind .ensures text (d .attributes) a h e in
     c .values-meet .ensures
-    ∙ user-some (x .user .now) (x .values .now) u v (x .n) (c .before .before .before .before .before .if1 .taken) (λ w. valuesMeet (kindSaid true) (opOf (x .op)) w (wordAt (x .line .now) (x .v))) (c .before .before .before .if2 .left)
+    ∙ user-some (x .user .now) (x .values .now) u v (x .n) (c .before .before .before .before .if1 .taken) (λ w. valuesMeet (kindOf (c .before .attribute-kind .result)) (opOf (x .op)) w (wordAt (x .line .now) (x .v))) (c .before .before .if2 .left)
     ∙ ap (λ t. holdsOf (λ w. valuesMeet t (opOf (x .op)) w (wordAt (x .line .now) (x .v))) (userValue u (x .n))) k
-
-sub-values-meet-2 : tie.Need-sub-values-meet-2
-sub-values-meet-2 c = search needs
-
-values-meet-requires-2 : tie.Need-values-meet-requires-2
-values-meet-requires-2 c κs = search needs
 
 returns-3 : tie.Need-returns-3
-unfolding kindSaid
-returns-3 c text d u a h v e = let x = c .before .before .before .before .before .before .before .before .args in
-    let k = sym (c .before .before .attribute-kind .ensures text (d .attributes) a h e ∙ ap kindSaid (c .before .if3 .left)) in
-    c .values-meet2 .ensures
-    ∙ user-some (x .user .now) (x .values .now) u v (x .n) (c .before .before .before .before .before .if1 .taken) (λ w. valuesMeet (kindSaid false) (opOf (x .op)) w (wordAt (x .line .now) (x .v))) (c .before .before .before .if2 .left)
-    ∙ ap (λ t. holdsOf (λ w. valuesMeet t (opOf (x .op)) w (wordAt (x .line .now) (x .v))) (userValue u (x .n))) k
-
-returns-4 : tie.Need-returns-4
-returns-4 c text d u a h v e = absurd (omega (arith, attribute-below text (c .before .before .before .args .attributes .now) (c .before .before .before .args .acount) (d .attributes) (c .before .before .before .args .n) a h e))
+returns-3 c text d u a h v e = absurd (omega (arith, attribute-below text (c .before .before .before .args .attributes .now) (c .before .before .before .args .acount) (d .attributes) (c .before .before .before .args .n) a h e))
 
 pub value-meets-spec : {M : Type 1} → statement M
 value-meets-spec =
@@ -67,7 +51,4 @@ value-meets-spec =
     sub-values-meet
     values-meet-requires
     returns-2
-    sub-values-meet-2
-    values-meet-requires-2
-    returns-3
-    returns-4)
+    returns-3)

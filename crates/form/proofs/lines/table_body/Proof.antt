@@ -64,8 +64,8 @@ returns-3 c =
     let t = wordOf s (c .before .before .before .before .before .before .before .before .before .before .args .at + 1) in
     record { is = rw (first (c .before .before .before .before .before .before) .is, next-here (keyword (schemes t)) s (c .before .before .before .before .before .before .n .given .0 .0) (space (c .before .before .before))) (c .before .before .table-columns .ensures .is t ∙ ap (tableTo s t) (c .enum-told2 .given .1)); within = tt }
 
-add-t11 : tie.Need-add-t11
-add-t11 c = omega (arith, first (c .before .before .before .before .before .before .before))
+add-t12 : tie.Need-add-t12
+add-t12 c = omega (arith, first (c .before .before .before .before .before .before .before))
 
 returns-4 : tie.Need-returns-4
 unfolding tableForm bodyAt lineAt BodyWithin Within tableTo ColumnsWithin
@@ -93,5 +93,5 @@ table-body-spec =
     enum-known-t
     enum-told-2
     returns-3
-    add-t11
+    add-t12
     returns-4)

@@ -10,7 +10,7 @@ use Rattle.form.proofs.PartLaws.{Behind, name-to}
 use Rattle.form.proofs.TableLaws.{labelled-table, plain-table}
 use Rattle.form.specs.BodyPlaces.{ColumnsWithin, tableTo}
 use Rattle.form.specs.FormReader.{columnsUnderLabel, schemes}
-use Rattle.form.specs.Places.{SchemeWithin, schemeAt, tableColumnsAt}
+use Rattle.form.specs.TableWords.{columnWords, schemeWords}
 use Rattle.text.proofs.EndLaws.{end-none}
 use Rattle.text.specs.Brackets.{among, next}
 use Rattle.text.specs.Bytes.{ascii}
@@ -69,9 +69,9 @@ under-scheme-requires : tie.Need-under-scheme-requires
 under-scheme-requires c κs = search needs
 
 returns : tie.Need-returns
-unfolding schemes among isCalled schemeAt tableColumnsAt SchemeWithin
+unfolding schemes among isCalled schemeWords columnWords
 returns c =
-    plain-table (c .before .before .before .before .before .before .before .args .s .now) (c .before .before .before .before .before .before .before .args .at) (c .before .before .before .before .before .word-end .result) scheme.Unlabelled (c .before .columns-end .result) (c .under-scheme .ensures) (c .before .columns-end .ensures) refl tt (λ t.
+    plain-table (c .before .before .before .before .before .before .before .args .s .now) (c .before .before .before .before .before .before .before .args .at) (c .before .before .before .before .before .word-end .result) scheme.Unlabelled 0 (c .before .columns-end .result) (c .under-scheme .ensures) (c .before .columns-end .ensures) refl (omega arith) (λ t.
     rw (keyword-at (schemes t) (c .before .before .before .before .before .before .before .args .s .now) (c .before .before .before .before .before .before .before .args .at) (c .before .before .before .before .before .word-end .result) (c .before .before .before .before .before .word-end .ensures), is-none (c .before .before)))
 
 slice-aggregate-is-word-2 : tie.Need-slice-aggregate-is-word-2
@@ -93,8 +93,8 @@ returns-2 : tie.Need-returns-2
 unfolding schemes among isCalled columnsUnderLabel tableTo ColumnsWithin
 returns-2 c = record { is = λ t. rw (keyword-at (schemes t) (c .before .before .before .before .before .before .before .before .before .before .before .args .s .now) (c .before .before .before .before .before .before .before .before .before .before .before .args .at) (c .before .before .before .before .before .before .before .before .before .word-end .result) (c .before .before .before .before .before .before .before .before .before .word-end .ensures), not-none (c .before .before .before .before .before .before), is-table (c .before .before .before), end-none (next name) (c .before .before .before .before .before .before .before .before .before .before .before .args .s .now) (c .before .before .before .before .before .before .before .before .before .word-end .result) (sym (c .before .before .spaced-name-end .ensures) ∙ c .enum-told .given .1)); within = tt }
 
-add-t19 : tie.Need-add-t19
-add-t19 c = omega (arith, label (c .before))
+add-under-scheme : tie.Need-add-under-scheme
+add-under-scheme c = omega (arith, label (c .before))
 
 columns-end-requires-2 : tie.Need-columns-end-requires-2
 columns-end-requires-2 c κs = search needs
@@ -103,9 +103,9 @@ under-scheme-requires-2 : tie.Need-under-scheme-requires-2
 under-scheme-requires-2 c κs = search needs
 
 returns-3 : tie.Need-returns-3
-unfolding schemes among isCalled columnsUnderLabel schemeAt tableColumnsAt SchemeWithin
+unfolding schemes among isCalled columnsUnderLabel schemeWords columnWords
 returns-3 c =
-    plain-table (c .before .before .before .before .before .before .before .before .before .before .before .before .before .before .args .s .now) (c .before .before .before .before .before .before .before .before .before .before .before .before .before .before .args .at) (c .before .before .before .n .given .0 .0) (scheme.ByTable (c .before .before .before .before .before .before .before .before .before .before .before .before .word-end .result + 1)) (c .before .columns-end2 .result) (c .under-scheme2 .ensures) (c .before .columns-end2 .ensures) refl (omega (arith, label (c .before .before .before))) (λ t.
+    plain-table (c .before .before .before .before .before .before .before .before .before .before .before .before .before .before .args .s .now) (c .before .before .before .before .before .before .before .before .before .before .before .before .before .before .args .at) (c .before .before .before .n .given .0 .0) scheme.ByTable (c .before .before .before .before .before .before .before .before .before .before .before .before .word-end .result + 1) (c .before .columns-end2 .result) (c .under-scheme2 .ensures) (c .before .columns-end2 .ensures) refl (omega (arith, label (c .before .before .before))) (λ t.
     rw (keyword-at (schemes t) (c .before .before .before .before .before .before .before .before .before .before .before .before .before .before .args .s .now) (c .before .before .before .before .before .before .before .before .before .before .before .before .before .before .args .at) (c .before .before .before .before .before .before .before .before .before .before .before .before .word-end .result) (c .before .before .before .before .before .before .before .before .before .before .before .before .word-end .ensures), not-none (c .before .before .before .before .before .before .before .before .before), is-table (c .before .before .before .before .before .before), label (c .before .before .before) .is))
 
 slice-aggregate-is-word-3 : tie.Need-slice-aggregate-is-word-3
@@ -139,9 +139,9 @@ under-scheme-requires-4 : tie.Need-under-scheme-requires-4
 under-scheme-requires-4 c κs = search needs
 
 returns-5 : tie.Need-returns-5
-unfolding schemes among isCalled schemeAt tableColumnsAt SchemeWithin
+unfolding schemes among isCalled schemeWords columnWords
 returns-5 c =
-    plain-table (c .before .before .before .before .before .before .before .before .before .before .before .before .before .before .before .before .args .s .now) (c .before .before .before .before .before .before .before .before .before .before .before .before .before .before .before .before .args .at) (c .before .before .before .before .before .before .before .before .before .before .before .before .before .before .word-end .result) scheme.ByRow (c .before .columns-end3 .result) (c .under-scheme4 .ensures) (c .before .columns-end3 .ensures) refl tt (λ t.
+    plain-table (c .before .before .before .before .before .before .before .before .before .before .before .before .before .before .before .before .args .s .now) (c .before .before .before .before .before .before .before .before .before .before .before .before .before .before .before .before .args .at) (c .before .before .before .before .before .before .before .before .before .before .before .before .before .before .word-end .result) scheme.ByRow 0 (c .before .columns-end3 .result) (c .under-scheme4 .ensures) (c .before .columns-end3 .ensures) refl (omega arith) (λ t.
     rw (keyword-at (schemes t) (c .before .before .before .before .before .before .before .before .before .before .before .before .before .before .before .before .args .s .now) (c .before .before .before .before .before .before .before .before .before .before .before .before .before .before .before .before .args .at) (c .before .before .before .before .before .before .before .before .before .before .before .before .before .before .word-end .result) (c .before .before .before .before .before .before .before .before .before .before .before .before .before .before .word-end .ensures), not-none (c .before .before .before .before .before .before .before .before .before .before .before), not-table (c .before .before .before .before .before .before .before .before), not-column (c .before .before .before .before .before), is-row (c .before .before)))
 
 slice-aggregate-is-word-5 : tie.Need-slice-aggregate-is-word-5
@@ -157,9 +157,9 @@ under-scheme-requires-5 : tie.Need-under-scheme-requires-5
 under-scheme-requires-5 c κs = search needs
 
 returns-6 : tie.Need-returns-6
-unfolding schemes among isCalled schemeAt tableColumnsAt SchemeWithin
+unfolding schemes among isCalled schemeWords columnWords
 returns-6 c =
-    plain-table (c .before .before .before .before .before .before .before .before .before .before .before .before .before .before .before .before .before .before .before .args .s .now) (c .before .before .before .before .before .before .before .before .before .before .before .before .before .before .before .before .before .before .before .args .at) (c .before .before .before .before .before .before .before .before .before .before .before .before .before .before .before .before .before .word-end .result) scheme.ByCell (c .before .columns-end4 .result) (c .under-scheme5 .ensures) (c .before .columns-end4 .ensures) refl tt (λ t.
+    plain-table (c .before .before .before .before .before .before .before .before .before .before .before .before .before .before .before .before .before .before .before .args .s .now) (c .before .before .before .before .before .before .before .before .before .before .before .before .before .before .before .before .before .before .before .args .at) (c .before .before .before .before .before .before .before .before .before .before .before .before .before .before .before .before .before .word-end .result) scheme.ByCell 0 (c .before .columns-end4 .result) (c .under-scheme5 .ensures) (c .before .columns-end4 .ensures) refl (omega arith) (λ t.
     rw (keyword-at (schemes t) (c .before .before .before .before .before .before .before .before .before .before .before .before .before .before .before .before .before .before .before .args .s .now) (c .before .before .before .before .before .before .before .before .before .before .before .before .before .before .before .before .before .before .before .args .at) (c .before .before .before .before .before .before .before .before .before .before .before .before .before .before .before .before .before .word-end .result) (c .before .before .before .before .before .before .before .before .before .before .before .before .before .before .before .before .before .word-end .ensures), not-none (c .before .before .before .before .before .before .before .before .before .before .before .before .before .before), not-table (c .before .before .before .before .before .before .before .before .before .before .before), not-column (c .before .before .before .before .before .before .before .before), not-row (c .before .before .before .before .before), is-cell (c .before .before)))
 
 returns-7 : tie.Need-returns-7
@@ -182,7 +182,7 @@ table-columns-spec =
     enum-known-n
     enum-told
     returns-2
-    add-t19
+    add-under-scheme
     columns-end-requires-2
     under-scheme-requires-2
     returns-3

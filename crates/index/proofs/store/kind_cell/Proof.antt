@@ -1,16 +1,24 @@
 -- `index::store::kind_cell` meets its contract. Assumes nothing.
+use borrow.Author.Needs.{needs}
 use mathlib.Core.Path.{ap, sym}
-use Rattle.index.specs.Cells.{kindOfCell, kindSaid}
+use Rattle.condition.specs.Answers.{kindOf}
+use Rattle.index.specs.Cells.{kindOfCell}
 use Rattle.index.proofs.store.kind_cell.Statement.{statement}
 use Rattle.index.proofs.store.kind_cell.Tie as tie
 
+enum-told : tie.Need-enum-told
+enum-told c = search needs
+
+enum-told-2 : tie.Need-enum-told-2
+enum-told-2 c = search needs
+
 returns : tie.Need-returns
-unfolding kindOfCell kindSaid
-returns c = ap kindSaid (sym (c .if1 .taken))
+unfolding kindOfCell
+returns c = ap kindOf (sym (c .enum-told .given .1))
 
 returns-2 : tie.Need-returns-2
-unfolding kindOfCell kindSaid
-returns-2 c = ap kindSaid (sym (c .if1 .left))
+unfolding kindOfCell
+returns-2 c = ap kindOf (sym (c .enum-told2 .given .1))
 
 pub kind-cell-spec : {M : Type 1} → statement M
-kind-cell-spec = tie.close (tie.spec returns returns-2)
+kind-cell-spec = tie.close (tie.spec enum-told enum-told-2 returns returns-2)

@@ -1,8 +1,5 @@
 -- `index::tables::column_kind` meets its contract. Assumes nothing.
-use Prim.Native.Nat.{_*_, _+_}
-use lib.ListN.{getD}
 use native.Mathlib.Omega.{arith}
-use Rattle.index.proofs.TableLaws.{kind-by}
 use borrow.Author.Needs.{needs}
 use Rattle.index.proofs.tables.column_kind.Statement.{statement}
 use Rattle.index.proofs.tables.column_kind.Tie as tie
@@ -22,8 +19,11 @@ mul-n-2 c = search needs
 element-copy-out-n : tie.Need-element-copy-out-n
 element-copy-out-n c = search needs
 
+kind-by-requires : tie.Need-kind-by-requires
+kind-by-requires c κs = search needs
+
 returns : tie.Need-returns
-returns c l s = kind-by (getD (c .before .before .before .args .ws .now) (160 + 16 * c .before .before .before .args .t + c .before .before .before .args .c) 0)
+returns c l s = c .kind-by .ensures
 
 returns-2 : tie.Need-returns-2
 returns-2 c l s = absurd (omega (arith, s, c .if2 .left))
@@ -33,4 +33,4 @@ returns-3 c l s = absurd (omega (arith, l, c .if1 .left))
 
 pub column-kind-spec : {M : Type 1} → statement M
 column-kind-spec =
-    tie.close (tie.spec mul-n add-n add-n-2 mul-n-2 element-copy-out-n returns returns-2 returns-3)
+    tie.close (tie.spec mul-n add-n add-n-2 mul-n-2 element-copy-out-n kind-by-requires returns returns-2 returns-3)

@@ -4,6 +4,7 @@ use lib.Seq.{lt-length-set}
 use mathlib.Core.Path.{_≡_}
 use lib.ListN.{length, set}
 use native.Mathlib.Omega.{arith}
+use Rattle.condition.specs.Answers.{kindOf}
 use Rattle.index.proofs.TableLaws.{column-stored, no-column}
 use borrow.Author.Needs.{needs}
 use Rattle.index.proofs.tables.set_column.Statement.{statement}
@@ -67,17 +68,17 @@ returns : tie.Need-returns
 returns c =
     let a = c .before .before .before .before .args in
     let l : length (c .before .before .before .before .args .ws .now) ≡ 416 = search needs in
-    column-stored (a .ws .now) (a .t) (a .c) (a .pos) (c .before .kind-cell .result) (a .label) l (c .before .before .before .if1 .taken) (c .before .before .if2 .taken) (a .named) (c .before .kind-cell .ensures)
+    column-stored (a .ws .now) (a .t) (a .c) (a .pos) (c .before .kind-cell .result) (a .label) l (c .before .before .before .if1 .taken) (c .before .before .if2 .taken) (kindOf (a .kind)) (c .before .kind-cell .ensures)
 
 returns-2 : tie.Need-returns-2
 returns-2 c =
     let a = c .before .before .args in
-    no-column (a .ws .now) (a .t) (a .c) (a .pos) (a .named) (a .label) (λ l s. omega (arith, s, c .if2 .left))
+    no-column (a .ws .now) (a .t) (a .c) (a .pos) (kindOf (a .kind)) (a .label) (λ l s. omega (arith, s, c .if2 .left))
 
 returns-3 : tie.Need-returns-3
 returns-3 c =
     let a = c .before .args in
-    no-column (a .ws .now) (a .t) (a .c) (a .pos) (a .named) (a .label) (λ l s. omega (arith, l, c .if1 .left))
+    no-column (a .ws .now) (a .t) (a .c) (a .pos) (kindOf (a .kind)) (a .label) (λ l s. omega (arith, l, c .if1 .left))
 
 pub set-column-spec : {M : Type 1} → statement M
 set-column-spec =

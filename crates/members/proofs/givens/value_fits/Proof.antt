@@ -1,8 +1,8 @@
 -- `members::givens::value_fits` meets its contract. Assumes nothing.
-use Rattle.condition.specs.Kinds.{hasKind, names, numbers}
+use Rattle.condition.specs.Answers.{kindOf}
+use Rattle.condition.specs.Kinds.{hasKind}
 use Rattle.document.specs.Lookup.{attributeOf}
 use Rattle.members.proofs.GivenLaws.{kind-at, kind-none}
-use Rattle.index.specs.Cells.{kindSaid}
 use Rattle.index.specs.Found.{foundAs}
 use Rattle.text.specs.Words.{wordAt, wordOf}
 use mathlib.Core.Path.{_∙_, ap, sym}
@@ -23,25 +23,20 @@ has-kind-requires : tie.Need-has-kind-requires
 has-kind-requires c κs = search needs
 
 returns : tie.Need-returns
-unfolding attributeOf kindSaid
-returns c = λ d h. c .has-kind .ensures ∙ ap (λ k. hasKind k (wordAt (c .before .before .before .before .before .before .before .before .before .args .line .now) (c .before .before .before .before .before .before .before .before .before .args .v))) (sym (kind-at d (wordOf (c .before .before .before .before .before .before .before .before .before .args .line .now) (c .before .before .before .before .before .before .before .before .before .args .at)) (c .before .before .before .before .found .given .0 .0) names (sym (c .before .before .before .before .before .before .find-attribute .ensures .0 (d .attributes) h) ∙ ap foundAs (c .before .before .before .before .found .given .1)) (λ a e. c .before .before .attribute-kind .ensures (c .before .before .before .before .before .before .before .before .before .args .text .now) (d .attributes) a h e ∙ ap kindSaid (c .before .if1 .taken))))
-
-has-kind-requires-2 : tie.Need-has-kind-requires-2
-has-kind-requires-2 c κs = search needs
+unfolding attributeOf
+returns c = λ d h.
+    let a = c .before .before .before .before .before .before .before .before .args in
+    c .has-kind .ensures ∙ ap (λ k. hasKind k (wordAt (a .line .now) (a .v))) (sym (kind-at d (wordOf (a .line .now) (a .at)) (c .before .before .before .found .given .0 .0) (kindOf (c .before .attribute-kind .result)) (sym (c .before .before .before .before .before .find-attribute .ensures .0 (d .attributes) h) ∙ ap foundAs (c .before .before .before .found .given .1)) (λ x e. sym (c .before .attribute-kind .ensures (a .text .now) (d .attributes) x h e))))
 
 enum-told : tie.Need-enum-told
 enum-told c = search needs
 
-has-kind-requires-3 : tie.Need-has-kind-requires-3
-has-kind-requires-3 c κs = search needs
+has-kind-requires-2 : tie.Need-has-kind-requires-2
+has-kind-requires-2 c κs = search needs
 
 returns-2 : tie.Need-returns-2
-unfolding attributeOf kindSaid
-returns-2 c = λ d h. c .has-kind2 .ensures ∙ ap (λ k. hasKind k (wordAt (c .before .before .before .before .before .before .before .before .before .args .line .now) (c .before .before .before .before .before .before .before .before .before .args .v))) (sym (kind-at d (wordOf (c .before .before .before .before .before .before .before .before .before .args .line .now) (c .before .before .before .before .before .before .before .before .before .args .at)) (c .before .before .before .before .found .given .0 .0) numbers (sym (c .before .before .before .before .before .before .find-attribute .ensures .0 (d .attributes) h) ∙ ap foundAs (c .before .before .before .before .found .given .1)) (λ a e. c .before .before .attribute-kind .ensures (c .before .before .before .before .before .before .before .before .before .args .text .now) (d .attributes) a h e ∙ ap kindSaid (c .before .if1 .left))))
-
-returns-3 : tie.Need-returns-3
 unfolding attributeOf
-returns-3 c = λ d h. c .has-kind3 .ensures ∙ ap (λ k. hasKind k (wordAt (c .before .before .before .before .before .before .args .line .now) (c .before .before .before .before .before .before .args .v))) (sym (kind-none d (wordOf (c .before .before .before .before .before .before .args .line .now) (c .before .before .before .before .before .before .args .at)) (sym (c .before .before .before .find-attribute .ensures .0 (d .attributes) h) ∙ ap foundAs (c .before .enum-told .given .1))))
+returns-2 c = λ d h. c .has-kind2 .ensures ∙ ap (λ k. hasKind k (wordAt (c .before .before .before .before .before .before .args .line .now) (c .before .before .before .before .before .before .args .v))) (sym (kind-none d (wordOf (c .before .before .before .before .before .before .args .line .now) (c .before .before .before .before .before .before .args .at)) (sym (c .before .before .before .find-attribute .ensures .0 (d .attributes) h) ∙ ap foundAs (c .before .enum-told .given .1))))
 
 pub value-fits-spec : {M : Type 1} → statement M
 value-fits-spec =
@@ -51,9 +46,7 @@ value-fits-spec =
     enum-known-found
     attribute-kind-requires
     has-kind-requires
-    returns
-    has-kind-requires-2
     enum-told
-    has-kind-requires-3
-    returns-2
-    returns-3)
+    has-kind-requires-2
+    returns
+    returns-2)

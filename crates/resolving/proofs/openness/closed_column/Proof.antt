@@ -3,7 +3,7 @@ use mathlib.Core.Path.{_∙_, refl, sym}
 use Rattle.document.specs.Open.{columnOpen}
 use Rattle.index.specs.Tables.{schemeBy}
 use Rattle.text.proofs.OffendingLaws.{missing-all}
-use Rattle.index.specs.declared.tables.SchemeCode.the-variants as code
+use Rattle.form.specs.declared.lines.Scheme.the-variants as code
 use Rattle.query.specs.Naming.{wordsAt}
 use Rattle.resolving.proofs.OpennessLaws.{columns-by}
 use borrow.Author.Needs.{needs}

@@ -4,7 +4,7 @@ use mathlib.Core.Path.{_∙_, ap, sym}
 use Rattle.document.specs.Open.{labelOpen, tableOpen}
 use Rattle.index.proofs.TableLaws.{table-inside}
 use Rattle.index.specs.Tables.{schemeBy}
-use Rattle.index.specs.declared.tables.SchemeCode.the-variants as code
+use Rattle.form.specs.declared.lines.Scheme.the-variants as code
 use Rattle.resolving.proofs.OpennessLaws.{table-by}
 use borrow.Author.Needs.{needs}
 use Rattle.resolving.proofs.openness.table_open.Statement.{statement}

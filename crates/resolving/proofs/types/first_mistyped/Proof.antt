@@ -29,14 +29,14 @@ returns c d text k h l a b q = absurd (omega (arith, a, c .before .loop-test .ta
 returns-2 : tie.Need-returns-2 Inv-loop μ-loop
 returns-2 c d text k h l a b q = absurd (omega (arith, b, c .before .before .before .loop .inv .1, c .before .before .loop-test .taken, c .if2 .taken))
 
-mul-kind-of-column : tie.Need-mul-kind-of-column Inv-loop μ-loop
-mul-kind-of-column c = search needs
+mul-column-kind : tie.Need-mul-column-kind Inv-loop μ-loop
+mul-column-kind c = search needs
 
-shared-slice-read-kind-of-column : tie.Need-shared-slice-read-kind-of-column Inv-loop μ-loop
-shared-slice-read-kind-of-column c = search needs
+shared-slice-read-column-kind : tie.Need-shared-slice-read-column-kind Inv-loop μ-loop
+shared-slice-read-column-kind c = search needs
 
-kind-of-column-requires : tie.Need-kind-of-column-requires Inv-loop μ-loop
-kind-of-column-requires c κs = search needs
+column-kind-requires : tie.Need-column-kind-requires Inv-loop μ-loop
+column-kind-requires c κs = search needs
 
 mul-wrong-type : tie.Need-mul-wrong-type Inv-loop μ-loop
 mul-wrong-type c = search needs
@@ -54,7 +54,7 @@ returns-3 : tie.Need-returns-3 Inv-loop μ-loop
 returns-3 c d text k h l a b q =
     let g : Given (c .before .before .before .before .before .before .before .before .before .before .before .before .before .before .args .tables .now) (c .before .before .before .before .before .before .before .before .before .before .before .before .before .before .args .t) (c .before .before .before .before .before .before .before .before .before .before .before .before .before .before .args .query .now) (c .before .before .before .before .before .before .before .before .before .before .before .before .before .before .args .ops .now) (c .before .before .before .before .before .before .before .before .before .before .before .before .before .before .args .m) (c .before .before .before .before .before .before .before .before .before .before .before .before .before .before .args .columns .now) (c .before .before .before .before .before .before .before .before .before .before .before .before .before .before .args .base) d = record { text = text; k = k; held = h; inside = l; longOps = a; longColumns = b; compares = q } in
     first-wrong g (c .before .before .before .before .before .before .before .before .before .before .loop .j) (wordOf (c .before .before .before .before .before .before .before .before .before .before .before .before .before .before .args .query .now) (c .before .w .given .0 .0)) (c .before .before .before .before .before .before .before .before .before .loop-test .taken) (c .before .before .before .before .before .before .before .before .before .before .loop .inv .2 d g)
-    (ap (wrongWord (c .before .before .before .before .before .before .before .before .before .before .before .before .before .before .args .query .now)) (sym (c .before .w .given .1)) ∙ wrong-found g (c .before .before .before .before .before .before .before .before .before .before .loop .j) (c .before .before .before .before .before .before .before .before .before .before .loop .c) (c .before .before .before .before .before .before .before .before .before .loop-test .taken) (c .before .before .before .before .before .before .before .before .before .before .loop .inv .1) (c .before .before .before .before .before .kind-of-column .result) (c .before .before .before .before .before .kind-of-column .ensures) (wrongWord (c .before .before .before .before .before .before .before .before .before .before .before .before .before .before .args .query .now) (c .before .before .before .wrong-type .result)) (c .before .before .before .wrong-type .ensures))
+    (ap (wrongWord (c .before .before .before .before .before .before .before .before .before .before .before .before .before .before .args .query .now)) (sym (c .before .w .given .1)) ∙ wrong-found g (c .before .before .before .before .before .before .before .before .before .before .loop .j) (c .before .before .before .before .before .before .before .before .before .before .loop .c) (c .before .before .before .before .before .before .before .before .before .loop-test .taken) (c .before .before .before .before .before .before .before .before .before .before .loop .inv .1) (c .before .before .before .before .before .column-kind .result) (c .before .before .before .before .before .column-kind .ensures) (wrongWord (c .before .before .before .before .before .before .before .before .before .before .before .before .before .before .args .query .now) (c .before .before .before .wrong-type .result)) (c .before .before .before .wrong-type .ensures))
 
 enum-told : tie.Need-enum-told Inv-loop μ-loop
 enum-told c = search needs
@@ -73,7 +73,7 @@ loop-again c = (
   omega (arith, c .before .before .before .before .before .before .before .before .loop-test .taken),
   omega (arith, c .before .before .before .before .before .before .before .before .before .loop .inv .1),
   (λ d g. below-more _ (c .before .before .before .before .before .before .before .before .before .loop .j) (c .before .before .before .before .before .before .before .before .before .loop .inv .2 d g)
-      (sym (ap (wrongWord (c .before .before .before .before .before .before .before .before .before .before .before .before .before .args .query .now)) (sym (c .enum-told .given .1)) ∙ wrong-found g (c .before .before .before .before .before .before .before .before .before .loop .j) (c .before .before .before .before .before .before .before .before .before .loop .c) (c .before .before .before .before .before .before .before .before .loop-test .taken) (c .before .before .before .before .before .before .before .before .before .loop .inv .1) (c .before .before .before .before .kind-of-column .result) (c .before .before .before .before .kind-of-column .ensures) (wrongWord (c .before .before .before .before .before .before .before .before .before .before .before .before .before .args .query .now) (c .before .before .wrong-type .result)) (c .before .before .wrong-type .ensures)))),
+      (sym (ap (wrongWord (c .before .before .before .before .before .before .before .before .before .before .before .before .before .args .query .now)) (sym (c .enum-told .given .1)) ∙ wrong-found g (c .before .before .before .before .before .before .before .before .before .loop .j) (c .before .before .before .before .before .before .before .before .before .loop .c) (c .before .before .before .before .before .before .before .before .loop-test .taken) (c .before .before .before .before .before .before .before .before .before .loop .inv .1) (c .before .before .before .before .column-kind .result) (c .before .before .before .before .column-kind .ensures) (wrongWord (c .before .before .before .before .before .before .before .before .before .before .before .before .before .args .query .now) (c .before .before .wrong-type .result)) (c .before .before .wrong-type .ensures)))),
 )
 
 returns-4 : tie.Need-returns-4 Inv-loop μ-loop
@@ -90,9 +90,9 @@ first-mistyped-spec =
     loop-holds
     returns
     returns-2
-    mul-kind-of-column
-    shared-slice-read-kind-of-column
-    kind-of-column-requires
+    mul-column-kind
+    shared-slice-read-column-kind
+    column-kind-requires
     mul-wrong-type
     shared-slice-read-wrong-type
     wrong-type-requires

@@ -7,6 +7,7 @@ use lib.ListN.{drop, length}
 use mathlib.Core.List.{List}
 use mathlib.Core.Path.{_∙_, _≡_, ap, refl, subst, sym}
 use native.Mathlib.Omega.{arith}
+use Rattle.condition.specs.Answers.{kindOf}
 use Rattle.document.specs.Lookup.{columnsAt}
 use Rattle.document.specs.Policy.{Policy}
 use Rattle.document.specs.TypeFaults.{mistypedValue}
@@ -56,7 +57,7 @@ returns-2 c =
     let i = c .before .before .before .before .before .before .before .loop .i in
     let e = space-here s i _ (c .before .before .before .before .before .byte-at .ensures) (c .before .before .before .before .if1 .left) in (
       (λ text k d h l. sym (c .before .before .before .before .before .before .before .loop .inv text k d h l
-          ∙ types-here text (c .before .before .before .before .before .before .before .before .before .before .args .tables .now) k (c .before .before .before .before .before .before .before .before .before .before .args .t) d h l (c .before .before .before .before .before .before .before .before .table-width .result) (c .before .before .before .before .before .before .before .before .table-width .ensures) s (c .before .before .before .before .before .before .before .loop .c) i (c .before .before .before .before .before .before .loop-test .taken) (e .0) (c .before .before .column-kind .result) (c .before .before .column-kind .ensures)
+          ∙ types-here text (c .before .before .before .before .before .before .before .before .before .before .args .tables .now) k (c .before .before .before .before .before .before .before .before .before .before .args .t) d h l (c .before .before .before .before .before .before .before .before .table-width .result) (c .before .before .before .before .before .before .before .before .table-width .ensures) s (c .before .before .before .before .before .before .before .loop .c) i (c .before .before .before .before .before .before .loop-test .taken) (e .0) (kindOf (c .before .before .column-kind .result)) (c .before .before .column-kind .ensures)
           (c .before .before .before .skip-byte .result) (c .before .before .before .skip-byte .ensures) (c .before .typed .result) (c .before .typed .ensures) (not-true (c .before .typed .result) (c .if2 .taken)))),
       subst (λ (v : ℕ). v ≤ length s) (sym (c .before .before .before .skip-byte .ensures)) (past-within 40 s (i + 1) (omega (arith, e .1))),
     )
@@ -79,7 +80,7 @@ loop-again c =
     let i = c .before .before .before .before .before .before .before .before .loop .i in
     let e = space-here s i _ (c .before .before .before .before .before .before .byte-at .ensures) (c .before .before .before .before .before .if1 .left) in
     λ text k d h l. c .before .before .before .before .before .before .before .before .loop .inv text k d h l
-    ∙ types-on text (c .before .before .before .before .before .before .before .before .before .before .before .args .tables .now) k (c .before .before .before .before .before .before .before .before .before .before .before .args .t) d h l (c .before .before .before .before .before .before .before .before .before .table-width .result) (c .before .before .before .before .before .before .before .before .before .table-width .ensures) s (c .before .before .before .before .before .before .before .before .loop .c) i (c .before .before .before .before .before .before .before .loop-test .taken) (e .0) (c .before .before .before .column-kind .result) (c .before .before .before .column-kind .ensures)
+    ∙ types-on text (c .before .before .before .before .before .before .before .before .before .before .before .args .tables .now) k (c .before .before .before .before .before .before .before .before .before .before .before .args .t) d h l (c .before .before .before .before .before .before .before .before .before .table-width .result) (c .before .before .before .before .before .before .before .before .before .table-width .ensures) s (c .before .before .before .before .before .before .before .before .loop .c) i (c .before .before .before .before .before .before .before .loop-test .taken) (e .0) (kindOf (c .before .before .before .column-kind .result)) (c .before .before .before .column-kind .ensures)
     (c .before .before .before .before .skip-byte .result) (c .before .before .before .before .skip-byte .ensures) (c .before .before .typed .result) (c .before .before .typed .ensures) (not-false (c .before .before .typed .result) (c .before .if2 .left))
     ∙ ap (λ j. mistypedValue (drop (c .before .before .before .before .before .before .before .before .loop .c + 1) (columnsAt d (c .before .before .before .before .before .before .before .before .before .before .before .args .t))) (valuesAt s j)) (sym (c .item-end-at .ensures))
 

@@ -12,6 +12,7 @@ use Rattle.document.specs.Lookup.{labelOf}
 use Rattle.document.specs.NameFaults.{bracketLabels}
 use Rattle.document.specs.Policy.{Policy}
 use Rattle.rows.specs.RowWords.{labelAt}
+use Rattle.form.proofs.WalkLaws.{cell-label}
 use Rattle.form.proofs.WalkSteps.{item-after, item-inside}
 use Rattle.form.specs.Walks.{firstIn, itemsAt, secondIn}
 use Rattle.index.specs.Labels.{Labels}
@@ -19,7 +20,7 @@ use Rattle.lists.specs.Lists.{there}
 use Rattle.text.proofs.Spaces.{space-here}
 use Rattle.text.proofs.WalkingLaws.{next-within, past-within}
 use Rattle.text.specs.Offending.{missing}
-use Rattle.text.specs.Walking.{nextWord, past}
+use Rattle.text.specs.Walking.{past}
 use Rattle.text.specs.Words.{wordOf}
 use Rattle.rows.proofs.RowChecks.{labels-done, labels-here, labels-on}
 use Rattle.rows.proofs.faults.first_unknown_label.Statement.{statement}
@@ -43,25 +44,21 @@ add-label-known c = omega (arith, space-here (c .before .before .before .before 
 label-known-requires : tie.Need-label-known-requires Inv-loop μ-loop
 label-known-requires c κs = search needs
 
-add-skip-byte : tie.Need-add-skip-byte Inv-loop μ-loop
-add-skip-byte c = omega (arith, space-here (c .before .before .before .before .before .before .before .args .line .now) (c .before .before .before .before .loop .i) _ (c .before .before .before .byte-at .ensures) (c .before .before .if1 .taken) .1)
+add-cell-label : tie.Need-add-cell-label Inv-loop μ-loop
+add-cell-label c = omega (arith, space-here (c .before .before .before .before .before .before .before .args .line .now) (c .before .before .before .before .loop .i) _ (c .before .before .before .byte-at .ensures) (c .before .before .if1 .taken) .1)
 
-skip-byte-requires : tie.Need-skip-byte-requires Inv-loop μ-loop
-skip-byte-requires c κs = search needs
-
-next-word-requires : tie.Need-next-word-requires Inv-loop μ-loop
-next-word-requires c κs = search needs
+cell-label-requires : tie.Need-cell-label-requires Inv-loop μ-loop
+cell-label-requires c κs = search needs
 
 returns : tie.Need-returns Inv-loop μ-loop
 unfolding labelAt secondIn firstIn
 returns c =
-    let s = c .before .before .before .before .before .before .before .before .before .args .line .now in
-    let i = c .before .before .before .before .before .before .loop .i in
-    let e = space-here s i _ (c .before .before .before .before .before .byte-at .ensures) (c .before .before .before .before .if1 .taken) in
-    let second : c .next-word .result ≡ nextWord s (past 40 s (i + 1)) = c .next-word .ensures ∙ ap (nextWord s) (c .before .skip-byte .ensures) in (
-      (λ sets d h. ap (λ p. some (wordOf s p)) second ∙ sym (c .before .before .before .before .before .before .loop .inv sets d h
-          ∙ labels-here (λ w. there (labelOf d w)) s i (e .0) (c .before .before .before .label-known .result) (c .before .before .before .label-known .ensures sets d h) (not-true (c .before .before .before .label-known .result) (c .before .before .if2 .taken)))),
-      subst (λ (v : ℕ). v ≤ length s) (sym second) (next-within s (past 40 s (i + 1)) (past-within 40 s (i + 1) (omega (arith, e .1)))),
+    let s = c .before .before .before .before .before .before .before .before .args .line .now in
+    let i = c .before .before .before .before .before .loop .i in
+    let e = space-here s i _ (c .before .before .before .before .byte-at .ensures) (c .before .before .before .if1 .taken) in (
+      (λ sets d h. ap (λ p. some (wordOf s p)) (c .cell-label .ensures) ∙ sym (c .before .before .before .before .before .loop .inv sets d h
+          ∙ labels-here (λ w. there (labelOf d w)) s i (e .0) (c .before .before .label-known .result) (c .before .before .label-known .ensures sets d h) (not-true (c .before .before .label-known .result) (c .before .if2 .taken)))),
+      subst (λ (v : ℕ). v ≤ length s) (sym (c .cell-label .ensures ∙ cell-label s (i + 1))) (next-within s (past 40 s (i + 1)) (past-within 40 s (i + 1) (omega (arith, e .1)))),
     )
 
 add-item-end-at : tie.Need-add-item-end-at Inv-loop μ-loop
@@ -99,9 +96,8 @@ first-unknown-label-spec =
     byte-at-requires
     add-label-known
     label-known-requires
-    add-skip-byte
-    skip-byte-requires
-    next-word-requires
+    add-cell-label
+    cell-label-requires
     returns
     add-item-end-at
     item-end-at-requires

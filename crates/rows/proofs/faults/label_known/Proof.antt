@@ -4,10 +4,8 @@ use lib.ListN.{getD}
 use mathlib.Core.Bool.{false, true}
 use mathlib.Core.Path.{_∙_, ap, sym}
 use Rattle.document.specs.Lookup.{labelOf}
-use Rattle.form.specs.Walks.{firstIn, secondIn}
 use Rattle.index.specs.Found.{foundAs}
 use Rattle.lists.specs.Lists.{there}
-use Rattle.text.specs.Walking.{nextWord}
 use Rattle.text.specs.Words.{wordOf}
 use Rattle.rows.proofs.RowChecks.{bracket-known, plain-known}
 use borrow.Author.Needs.{needs}
@@ -23,11 +21,8 @@ returns c =
     let at = c .before .before .before .before .args .at in
     λ sets d h. plain-known (λ w. there (labelOf d w)) s at (ne-eqb (getD s at 0) 40 (λ z. c .if1 .taken (c .before .byte-at .ensures ∙ z)))
 
-skip-byte-requires : tie.Need-skip-byte-requires
-skip-byte-requires c κs = search needs
-
-next-word-requires : tie.Need-next-word-requires
-next-word-requires c κs = search needs
+cell-label-requires : tie.Need-cell-label-requires
+cell-label-requires c κs = search needs
 
 find-label-requires : tie.Need-find-label-requires
 find-label-requires c κs = search needs
@@ -39,23 +34,23 @@ enum-told-2 : tie.Need-enum-told-2
 enum-told-2 c = search needs
 
 returns-2 : tie.Need-returns-2
-unfolding labelOf secondIn firstIn there
+unfolding labelOf there
 returns-2 c =
-    let s = c .before .before .before .before .before .before .before .before .before .args .line .now in
-    let at = c .before .before .before .before .before .before .before .before .before .args .at in
-    let second = c .before .before .before .next-word .ensures ∙ ap (nextWord s) (c .before .before .before .before .skip-byte .ensures) in
+    let s = c .before .before .before .before .before .before .before .before .args .line .now in
+    let at = c .before .before .before .before .before .before .before .before .args .at in
+    let second = c .before .before .before .cell-label .ensures in
     λ sets d h.
-    bracket-known (λ w. there (labelOf d w)) s at (eq-eqb (getD s at 0) 40 (sym (c .before .before .before .before .before .before .byte-at .ensures) ∙ c .before .before .before .before .before .if1 .left)) true
+    bracket-known (λ w. there (labelOf d w)) s at (eq-eqb (getD s at 0) 40 (sym (c .before .before .before .before .before .byte-at .ensures) ∙ c .before .before .before .before .if1 .left)) true
     (ap (λ p. there (labelOf d (wordOf s p))) (sym second) ∙ ap there (sym (c .before .before .find-label .ensures .0 sets (d .labels) h)) ∙ ap (λ f. there (foundAs f)) (c .enum-told .given .1))
 
 returns-3 : tie.Need-returns-3
-unfolding labelOf secondIn firstIn there
+unfolding labelOf there
 returns-3 c =
-    let s = c .before .before .before .before .before .before .before .before .before .args .line .now in
-    let at = c .before .before .before .before .before .before .before .before .before .args .at in
-    let second = c .before .before .before .next-word .ensures ∙ ap (nextWord s) (c .before .before .before .before .skip-byte .ensures) in
+    let s = c .before .before .before .before .before .before .before .before .args .line .now in
+    let at = c .before .before .before .before .before .before .before .before .args .at in
+    let second = c .before .before .before .cell-label .ensures in
     λ sets d h.
-    bracket-known (λ w. there (labelOf d w)) s at (eq-eqb (getD s at 0) 40 (sym (c .before .before .before .before .before .before .byte-at .ensures) ∙ c .before .before .before .before .before .if1 .left)) false
+    bracket-known (λ w. there (labelOf d w)) s at (eq-eqb (getD s at 0) 40 (sym (c .before .before .before .before .before .byte-at .ensures) ∙ c .before .before .before .before .if1 .left)) false
     (ap (λ p. there (labelOf d (wordOf s p))) (sym second) ∙ ap there (sym (c .before .before .find-label .ensures .0 sets (d .labels) h)) ∙ ap (λ f. there (foundAs f)) (c .enum-told2 .given .1))
 
 pub label-known-spec : {M : Type 1} → statement M
@@ -64,8 +59,7 @@ label-known-spec =
     (tie.spec
     byte-at-requires
     returns
-    skip-byte-requires
-    next-word-requires
+    cell-label-requires
     find-label-requires
     enum-told
     enum-told-2

@@ -10,12 +10,11 @@ use Rattle.text.proofs.Spaces.{space-here}
 use Rattle.stepping.specs.Stored.{LineAt}
 use Rattle.document.specs.Lookup.{labelOf}
 use Rattle.document.specs.Policy.{Policy}
-use Rattle.form.proofs.WalkSteps.{givens-stop, pair-after}
-use Rattle.form.specs.Walks.{givensAt}
+use Rattle.form.proofs.WalkSteps.{cell-after, cells-stop}
+use Rattle.form.specs.Walks.{cellsAt}
 use Rattle.index.specs.Labels.{Labels}
 use Rattle.lists.specs.Lists.{known}
-use Rattle.stepping.proofs.ColumnLaws.{pair-ends}
-use Rattle.rows.proofs.RowTurns.{Rowed, cell-turn, rowed-all, rowed-none}
+use Rattle.rows.proofs.RowTurns.{Rowed, cell-ends, cell-turn, rowed-all, rowed-none}
 use Rattle.text.specs.Walking.{past}
 use Rattle.rows.proofs.storing.store_cells.Statement.{statement}
 use Rattle.rows.proofs.storing.store_cells.Tie as tie
@@ -24,7 +23,7 @@ abbrev Inv-loop : tie.InvT-loop
 Inv-loop text labels labels-count rows₀ k at line is c₀ j₀ rows c j =
     (c ≤ j)
     × (length line < 2 ^ 64)
-    × ((d : Policy) (sets : List ℕ) → LineAt text at line → Labels text labels sets labels-count (d .labels) → k < 1024 → length (givensAt line is) ≤ 16 → Rowed text rows₀ rows k c c (map (λ g. g .attribute .bytes) (givensAt line is)) (map (λ g. g .attribute .bytes) (givensAt line j)) (map (λ g. known (labelOf d (g .value))) (givensAt line is)) (map (λ g. known (labelOf d (g .value))) (givensAt line j)))
+    × ((d : Policy) (sets : List ℕ) → LineAt text at line → Labels text labels sets labels-count (d .labels) → k < 1024 → length (cellsAt line is) ≤ 16 → Rowed text rows₀ rows k c c (map (λ g. g .0 .bytes) (cellsAt line is)) (map (λ g. g .0 .bytes) (cellsAt line j)) (map (λ g. known (labelOf d (g .1))) (cellsAt line is)) (map (λ g. known (labelOf d (g .1))) (cellsAt line j)))
 
 abbrev μ-loop : tie.MeasureT-loop
 μ-loop text labels labels-count rows₀ k at line is c₀ j₀ rows c j = length line - j
@@ -41,8 +40,11 @@ add-skip-byte c = omega (arith, space-here (c .before .before .before .before .b
 skip-byte-requires : tie.Need-skip-byte-requires Inv-loop μ-loop
 skip-byte-requires c κs = search needs
 
-next-word-requires : tie.Need-next-word-requires Inv-loop μ-loop
-next-word-requires c κs = search needs
+add-cell-label : tie.Need-add-cell-label Inv-loop μ-loop
+add-cell-label c = omega (arith, space-here (c .before .before .before .before .before .before .args .line .now) (c .before .before .before .loop .j) _ (c .before .before .byte-at .ensures) (c .before .if1 .taken) .1)
+
+cell-label-requires : tie.Need-cell-label-requires Inv-loop μ-loop
+cell-label-requires c κs = search needs
 
 find-label-requires : tie.Need-find-label-requires Inv-loop μ-loop
 find-label-requires c κs = search needs
@@ -69,21 +71,21 @@ add-c : tie.Need-add-c Inv-loop μ-loop
 add-c c = omega (arith, space-here (c .before .before .before .before .before .before .before .before .before .before .before .before .before .before .before .before .args .line .now) (c .before .before .before .before .before .before .before .before .before .before .before .before .before .loop .j) _ (c .before .before .before .before .before .before .before .before .before .before .before .before .byte-at .ensures) (c .before .before .before .before .before .before .before .before .before .before .before .if1 .taken) .1, c .before .before .before .before .before .before .before .before .before .before .before .before .before .loop .inv .0, c .before .before .before .before .before .before .before .before .before .before .before .before .before .loop .inv .1)
 
 loop-less : tie.Need-loop-less Inv-loop μ-loop
-loop-less c = omega (arith, space-here (c .before .before .before .before .before .before .before .before .before .before .before .before .before .before .before .before .args .line .now) (c .before .before .before .before .before .before .before .before .before .before .before .before .before .loop .j) _ (c .before .before .before .before .before .before .before .before .before .before .before .before .byte-at .ensures) (c .before .before .before .before .before .before .before .before .before .before .before .if1 .taken) .1, pair-after (c .before .before .before .before .before .before .before .before .before .before .before .before .before .before .before .before .args .line .now) (c .before .before .before .before .before .before .before .before .before .before .before .before .before .loop .j), pair-ends (c .before .before .before .before .before .before .before .before .before .before .before .before .before .before .before .before .args .line .now) (c .before .before .before .before .before .before .before .before .before .before .before .before .before .loop .j + 1) _ _ _ (c .before .before .before .before .before .before .before .before .before .before .skip-byte .ensures) (c .before .before .before .before .before .before .before .before .before .next-word .ensures) (c .skip-byte2 .ensures ∙ ap (past 41 (c .before .before .before .before .before .before .before .before .before .before .before .before .before .before .before .before .args .line .now)) (c .before .word-end .ensures)))
+loop-less c = omega (arith, space-here (c .before .before .before .before .before .before .before .before .before .before .before .before .before .before .before .before .args .line .now) (c .before .before .before .before .before .before .before .before .before .before .before .before .before .loop .j) _ (c .before .before .before .before .before .before .before .before .before .before .before .before .byte-at .ensures) (c .before .before .before .before .before .before .before .before .before .before .before .if1 .taken) .1, cell-after (c .before .before .before .before .before .before .before .before .before .before .before .before .before .before .before .before .args .line .now) (c .before .before .before .before .before .before .before .before .before .before .before .before .before .loop .j), cell-ends (c .before .before .before .before .before .before .before .before .before .before .before .before .before .before .before .before .args .line .now) (c .before .before .before .before .before .before .before .before .before .before .before .before .before .loop .j + 1) _ _ (c .before .before .before .before .before .before .before .before .before .cell-label .ensures) (c .skip-byte2 .ensures ∙ ap (past 41 (c .before .before .before .before .before .before .before .before .before .before .before .before .before .before .before .before .args .line .now)) (c .before .word-end .ensures)))
 
 loop-again : tie.Need-loop-again Inv-loop μ-loop
 unfolding labelOf
 loop-again c =
     let b = space-here (c .before .before .before .before .before .before .before .before .before .before .before .before .before .before .before .before .args .line .now) (c .before .before .before .before .before .before .before .before .before .before .before .before .before .loop .j) _ (c .before .before .before .before .before .before .before .before .before .before .before .before .byte-at .ensures) (c .before .before .before .before .before .before .before .before .before .before .before .if1 .taken) in (
-      omega (arith, b .1, c .before .before .before .before .before .before .before .before .before .before .before .before .before .loop .inv .0, pair-after (c .before .before .before .before .before .before .before .before .before .before .before .before .before .before .before .before .args .line .now) (c .before .before .before .before .before .before .before .before .before .before .before .before .before .loop .j), pair-ends (c .before .before .before .before .before .before .before .before .before .before .before .before .before .before .before .before .args .line .now) (c .before .before .before .before .before .before .before .before .before .before .before .before .before .loop .j + 1) _ _ _ (c .before .before .before .before .before .before .before .before .before .before .skip-byte .ensures) (c .before .before .before .before .before .before .before .before .before .next-word .ensures) (c .skip-byte2 .ensures ∙ ap (past 41 (c .before .before .before .before .before .before .before .before .before .before .before .before .before .before .before .before .args .line .now)) (c .before .word-end .ensures))),
+      omega (arith, b .1, c .before .before .before .before .before .before .before .before .before .before .before .before .before .loop .inv .0, cell-after (c .before .before .before .before .before .before .before .before .before .before .before .before .before .before .before .before .args .line .now) (c .before .before .before .before .before .before .before .before .before .before .before .before .before .loop .j), cell-ends (c .before .before .before .before .before .before .before .before .before .before .before .before .before .before .before .before .args .line .now) (c .before .before .before .before .before .before .before .before .before .before .before .before .before .loop .j + 1) _ _ (c .before .before .before .before .before .before .before .before .before .cell-label .ensures) (c .skip-byte2 .ensures ∙ ap (past 41 (c .before .before .before .before .before .before .before .before .before .before .before .before .before .before .before .before .args .line .now)) (c .before .word-end .ensures))),
       c .before .before .before .before .before .before .before .before .before .before .before .before .before .loop .inv .1,
-      λ d sets l N small few. cell-turn l (c .before .before .before .before .before .before .before .before .before .before .before .before .before .loop .j) _ _ (b .0) (b .1) d (c .before .before .before .before .before .before .before .before .before .before .before .before .before .before .before .before .args .is) _ _ _ (c .before .before .before .before .before .before .before .before .before .before .skip-byte .ensures) (c .before .before .before .before .before .before .before .before .before .next-word .ensures) (c .before .before .before .before .before .before .place .ensures) (c .before .before .before .before .before .before .before .number .ensures ∙ ap known (c .before .before .before .before .before .before .before .before .find-label .ensures .0 sets _ N)) (c .skip-byte2 .ensures ∙ ap (past 41 (c .before .before .before .before .before .before .before .before .before .before .before .before .before .before .before .before .args .line .now)) (c .before .word-end .ensures)) (c .before .before .before .before .set-value .ensures) (c .before .before .set-label .ensures) small few (c .before .before .before .before .before .before .before .before .before .before .before .before .before .loop .inv .2 d sets l N small few),
+      λ d sets l N small few. cell-turn l (c .before .before .before .before .before .before .before .before .before .before .before .before .before .loop .j) _ _ (b .0) (b .1) d (c .before .before .before .before .before .before .before .before .before .before .before .before .before .before .before .before .args .is) _ _ _ (c .before .before .before .before .before .before .before .before .before .before .skip-byte .ensures) (c .before .before .before .before .before .before .before .before .before .cell-label .ensures) (c .before .before .before .before .before .before .place .ensures) (c .before .before .before .before .before .before .before .number .ensures ∙ ap known (c .before .before .before .before .before .before .before .before .find-label .ensures .0 sets _ N)) (c .skip-byte2 .ensures ∙ ap (past 41 (c .before .before .before .before .before .before .before .before .before .before .before .before .before .before .before .before .args .line .now)) (c .before .word-end .ensures)) (c .before .before .before .before .set-value .ensures) (c .before .before .set-label .ensures) small few (c .before .before .before .before .before .before .before .before .before .before .before .before .before .loop .inv .2 d sets l N small few),
     )
 
 returns : tie.Need-returns Inv-loop μ-loop
 returns c d sets l N small few =
-    let e = givens-stop (c .before .before .before .before .before .args .line .now) (c .before .before .loop .j) (λ e. c .if1 .left (c .before .byte-at .ensures ∙ e)) in
-    rowed-all (c .before .before .loop .inv .2 d sets l N small few) (ap (map (λ g. g .attribute .bytes)) e) (ap (map (λ g. known (labelOf d (g .value)))) e)
+    let e = cells-stop (c .before .before .before .before .before .args .line .now) (c .before .before .loop .j) (λ e. c .if1 .left (c .before .byte-at .ensures ∙ e)) in
+    rowed-all (c .before .before .loop .inv .2 d sets l N small few) (ap (map (λ g. g .0 .bytes)) e) (ap (map (λ g. known (labelOf d (g .1)))) e)
 
 pub store-cells-spec : {M : Type 1} → statement M
 store-cells-spec =
@@ -95,7 +97,8 @@ store-cells-spec =
     byte-at-requires
     add-skip-byte
     skip-byte-requires
-    next-word-requires
+    add-cell-label
+    cell-label-requires
     find-label-requires
     number-requires
     place-requires

@@ -16,7 +16,7 @@ use Rattle.tables.specs.TableLine.{columnsBy}
 use Rattle.index.proofs.TableLaws.{tables-counted}
 use Rattle.index.specs.Found.{foundAs}
 use Rattle.index.specs.Tables.{Tables}
-use Rattle.index.specs.TableWords.{columnWords, tableLine}
+use Rattle.form.specs.TableWords.{columnWords, tableLine}
 use Rattle.text.specs.Offending.{repeated}
 use Rattle.text.specs.Words.{wordOf}
 use Rattle.index.specs.declared.found.Found.{Found}

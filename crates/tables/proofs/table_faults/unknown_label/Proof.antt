@@ -4,7 +4,7 @@ use mathlib.Core.Bool.{Bool}
 use mathlib.Core.List.{List}
 use mathlib.Core.Path.{_∙_, ap, sym}
 use Rattle.document.specs.Policy.{Label}
-use Rattle.index.specs.TableWords.{schemeWords}
+use Rattle.form.specs.TableWords.{schemeWords}
 use Rattle.form.specs.Form.{schemeLabels}
 use Rattle.lists.specs.Lists.{findIndex, there}
 use Rattle.text.specs.Offending.{leftmost, missing}

@@ -43,8 +43,8 @@ skip-byte-requires c κs = search needs
 next-word-requires : tie.Need-next-word-requires Inv-loop μ-loop
 next-word-requires c κs = search needs
 
-kind-named-requires : tie.Need-kind-named-requires Inv-loop μ-loop
-kind-named-requires c κs = search needs
+kind-at-requires : tie.Need-kind-at-requires Inv-loop μ-loop
+kind-at-requires c κs = search needs
 
 place-requires : tie.Need-place-requires Inv-loop μ-loop
 place-requires c κs = search needs
@@ -68,7 +68,7 @@ loop-again : tie.Need-loop-again Inv-loop μ-loop
 loop-again c =
     let b = space-here (c .before .before .before .before .before .before .before .before .before .before .before .before .before .args .line .now) (c .before .before .before .before .before .before .before .before .before .before .loop .j) _ (c .before .before .before .before .before .before .before .before .before .byte-at .ensures) (c .before .before .before .before .before .before .before .before .if1 .taken) in (
       omega (arith, b .1, c .before .before .before .before .before .before .before .before .before .before .loop .inv .0, pair-after (c .before .before .before .before .before .before .before .before .before .before .before .before .before .args .line .now) (c .before .before .before .before .before .before .before .before .before .before .loop .j), pair-ends (c .before .before .before .before .before .before .before .before .before .before .before .before .before .args .line .now) (c .before .before .before .before .before .before .before .before .before .before .loop .j + 1) _ _ _ (c .before .before .before .before .before .before .before .skip-byte .ensures) (c .before .before .before .before .before .before .next-word .ensures) (c .skip-byte2 .ensures ∙ ap (past 41 (c .before .before .before .before .before .before .before .before .before .before .before .before .before .args .line .now)) (c .before .word-end .ensures))),
-      λ l small few. plain-turn l (c .before .before .before .before .before .before .before .before .before .before .loop .j) _ _ _ _ _ (b .0) (b .1) (c .before .before .before .before .before .before .before .skip-byte .ensures) (c .before .before .before .before .before .before .next-word .ensures) (c .before .before .before .before .place .ensures) (c .before .before .before .before .before .kind-named .ensures) (c .before .before .before .before .before .before .before .before .before .before .before .before .before .args .cs) (c .skip-byte2 .ensures ∙ ap (past 41 (c .before .before .before .before .before .before .before .before .before .before .before .before .before .args .line .now)) (c .before .word-end .ensures)) (c .before .before .set-column .ensures) small few (c .before .before .before .before .before .before .before .before .before .before .loop .inv .1 l small few),
+      λ l small few. plain-turn l (c .before .before .before .before .before .before .before .before .before .before .loop .j) _ _ _ _ _ (b .0) (b .1) (c .before .before .before .before .before .before .before .skip-byte .ensures) (c .before .before .before .before .before .before .next-word .ensures) (c .before .before .before .before .place .ensures) (c .before .before .before .before .before .kind-at .ensures) (c .before .before .before .before .before .before .before .before .before .before .before .before .before .args .cs) (c .skip-byte2 .ensures ∙ ap (past 41 (c .before .before .before .before .before .before .before .before .before .before .before .before .before .args .line .now)) (c .before .word-end .ensures)) (c .before .before .set-column .ensures) small few (c .before .before .before .before .before .before .before .before .before .before .loop .inv .1 l small few),
     )
 
 returns : tie.Need-returns Inv-loop μ-loop
@@ -87,7 +87,7 @@ store-columns-spec =
     add-skip-byte
     skip-byte-requires
     next-word-requires
-    kind-named-requires
+    kind-at-requires
     place-requires
     set-column-requires
     word-end-requires

@@ -47,8 +47,8 @@ next-word-requires c κs = search needs
 next-word-requires-2 : tie.Need-next-word-requires-2 Inv-loop μ-loop
 next-word-requires-2 c κs = search needs
 
-kind-named-requires : tie.Need-kind-named-requires Inv-loop μ-loop
-kind-named-requires c κs = search needs
+kind-at-requires : tie.Need-kind-at-requires Inv-loop μ-loop
+kind-at-requires c κs = search needs
 
 find-label-requires : tie.Need-find-label-requires Inv-loop μ-loop
 find-label-requires c κs = search needs
@@ -80,7 +80,7 @@ loop-again c =
     let b = space-here (c .before .before .before .before .before .before .before .before .before .before .before .before .before .before .before .before .args .line .now) (c .before .before .before .before .before .before .before .before .before .before .before .before .before .loop .j) _ (c .before .before .before .before .before .before .before .before .before .before .before .before .byte-at .ensures) (c .before .before .before .before .before .before .before .before .before .before .before .if1 .taken) in (
       omega (arith, b .1, c .before .before .before .before .before .before .before .before .before .before .before .before .before .loop .inv .0, triple-after (c .before .before .before .before .before .before .before .before .before .before .before .before .before .before .before .before .args .line .now) (c .before .before .before .before .before .before .before .before .before .before .before .before .before .loop .j), triple-ends (c .before .before .before .before .before .before .before .before .before .before .before .before .before .before .before .before .args .line .now) (c .before .before .before .before .before .before .before .before .before .before .before .before .before .loop .j + 1) _ _ _ (c .before .before .before .before .before .before .before .before .before .before .skip-byte .ensures) (c .before .before .before .before .before .before .before .before .before .next-word .ensures) _ (c .before .before .before .before .before .before .before .before .next-word2 .ensures) (c .skip-byte2 .ensures ∙ ap (past 41 (c .before .before .before .before .before .before .before .before .before .before .before .before .before .before .before .before .args .line .now)) (c .before .word-end .ensures))),
       c .before .before .before .before .before .before .before .before .before .before .before .before .before .loop .inv .1,
-      λ d sets l N small few. labelled-turn l (c .before .before .before .before .before .before .before .before .before .before .before .before .before .loop .j) _ _ _ _ _ (b .0) (b .1) (c .before .before .before .before .before .before .before .before .before .before .skip-byte .ensures) (c .before .before .before .before .before .before .before .before .before .next-word .ensures) (c .before .before .before .before .place .ensures) (c .before .before .before .before .before .before .before .kind-named .ensures) d (c .before .before .before .before .before .before .before .before .before .before .before .before .before .before .before .before .args .cs) _ _ (c .before .before .before .before .before .before .before .before .next-word2 .ensures) (c .skip-byte2 .ensures ∙ ap (past 41 (c .before .before .before .before .before .before .before .before .before .before .before .before .before .before .before .before .args .line .now)) (c .before .word-end .ensures)) (c .before .before .before .before .before .number .ensures ∙ ap known (c .before .before .before .before .before .before .find-label .ensures .0 sets _ N)) (c .before .before .set-column .ensures) small few (c .before .before .before .before .before .before .before .before .before .before .before .before .before .loop .inv .2 d sets l N small few),
+      λ d sets l N small few. labelled-turn l (c .before .before .before .before .before .before .before .before .before .before .before .before .before .loop .j) _ _ _ _ _ (b .0) (b .1) (c .before .before .before .before .before .before .before .before .before .before .skip-byte .ensures) (c .before .before .before .before .before .before .before .before .before .next-word .ensures) (c .before .before .before .before .place .ensures) (c .before .before .before .before .before .before .before .kind-at .ensures) d (c .before .before .before .before .before .before .before .before .before .before .before .before .before .before .before .before .args .cs) _ _ (c .before .before .before .before .before .before .before .before .next-word2 .ensures) (c .skip-byte2 .ensures ∙ ap (past 41 (c .before .before .before .before .before .before .before .before .before .before .before .before .before .before .before .before .args .line .now)) (c .before .word-end .ensures)) (c .before .before .before .before .before .number .ensures ∙ ap known (c .before .before .before .before .before .before .find-label .ensures .0 sets _ N)) (c .before .before .set-column .ensures) small few (c .before .before .before .before .before .before .before .before .before .before .before .before .before .loop .inv .2 d sets l N small few),
     )
 
 returns : tie.Need-returns Inv-loop μ-loop
@@ -101,7 +101,7 @@ store-labelled-columns-spec =
     skip-byte-requires
     next-word-requires
     next-word-requires-2
-    kind-named-requires
+    kind-at-requires
     find-label-requires
     number-requires
     place-requires

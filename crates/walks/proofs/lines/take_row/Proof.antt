@@ -9,7 +9,7 @@ use Rattle.document.specs.NameFaults.{rowLabels}
 use Rattle.document.specs.Policy.{Doc}
 use Rattle.document.specs.ValueFaults.{rowValues}
 use Rattle.index.specs.Tables.{Tables, schemeBy}
-use Rattle.index.specs.declared.tables.SchemeCode.{SchemeCode}
+use Rattle.form.specs.declared.lines.Scheme as coded
 use Rattle.lists.proofs.Tests.{true-not-false}
 use Rattle.walks.proofs.RowLines.{line-taken, name-ends}
 use Rattle.walks.proofs.RowsTaken.{TableTold, table-told}
@@ -27,7 +27,7 @@ room c = c .before .before .before .before .before .before .before .before .befo
 ends : (c : tie.After-table-scheme) → tableEnd (c .before .before .before .before .before .before .before .before .before .before .before .before .args .line .now) ≡ At (c .before .before .before .before .before .before .t .given .0 .0)
 ends c = sym (c .before .before .before .before .before .before .before .before .table-end .ensures) ∙ c .before .before .before .before .before .before .t .given .1
 
-found : (c : tie.After-table-scheme) (d : Doc) {s : SchemeCode} → Tables (c .before .before .before .before .before .before .before .before .before .before .before .before .args .text .now) (c .before .before .before .before .before .before .before .before .before .before .before .before .args .tables .now) (c .before .before .before .before .before .before .before .before .before .before .before .before .args .tables-count) (d .policy .tables) → c .table-scheme .result ≡ s
+found : (c : tie.After-table-scheme) (d : Doc) {s : coded.Scheme} → Tables (c .before .before .before .before .before .before .before .before .before .before .before .before .args .text .now) (c .before .before .before .before .before .before .before .before .before .before .before .before .args .tables .now) (c .before .before .before .before .before .before .before .before .before .before .before .before .args .tables-count) (d .policy .tables) → c .table-scheme .result ≡ s
     → TableTold (c .before .before .before .before .before .before .before .before .before .before .before .before .args .tables .now) (c .before .before .before .before .before .before .before .before .before .before .before .before .args .tables-count) (c .before .before .found .given .0 .0) s (wordOf (c .before .before .before .before .before .before .before .before .before .before .before .before .args .line .now) 5) (d .policy)
 unfolding tableOf wordEndAt
 found c d T told = table-told (wordOf (c .before .before .before .before .before .before .before .before .before .before .before .before .args .line .now) 5) (d .policy) T (c .before .before .found .given .1) (c .before .before .before .before .find-table-to .ensures .0 _ (name-ends (c .before .before .before .before .before .before .before .before .before .before .before .before .args .line .now) (c .before .before .before .before .before .before .t .given .0 .0) (ends c)) T) (c .before .before .before .before .find-table-to .ensures .1) told (c .table-scheme .ensures)

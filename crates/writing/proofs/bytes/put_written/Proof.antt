@@ -1,27 +1,28 @@
--- `writing::bytes::put_word` meets its contract. The loop's invariant: to write the word from the loop's place on comes to
--- the same as to write the whole word at the start. Assumes nothing.
+-- `writing::bytes::put_written` meets its contract. The loop's invariant: to write the value from the loop's place on comes to
+-- the same as to write the whole value at the start. Assumes nothing.
 use Prim.Native.Nat.{_+_, _-_, _<_}
 use Rattle.writing.proofs.Writing as w
 use Rattle.text.proofs.Lefts.{test-of}
 use Rattle.text.proofs.WordLaws.{name-byte-here, word-more, word-stop}
 use Rattle.text.specs.Bytes.{isNameByte}
-use Rattle.text.specs.Words.{wordAt}
+use Rattle.text.specs.Words.{wordAt, writtenAt}
 use borrow.Author.Needs.{needs}
 use lib.ListN.{getD, length}
 use mathlib.Core.Bool.{false, true}
 use mathlib.Core.List.{[], _++_, _∷_}
 use mathlib.Core.Path.{_≡_}
 use native.Mathlib.Omega.{arith}
-use Rattle.writing.proofs.bytes.put_word.Statement.{statement}
-use Rattle.writing.proofs.bytes.put_word.Tie as tie
+use Rattle.writing.proofs.bytes.put_written.Statement.{statement}
+use Rattle.writing.proofs.bytes.put_written.Tie as tie
 
 abbrev Inv-loop : tie.InvT-loop
-Inv-loop out₀ at text start to₀ i₀ out to i = w.Ahead out₀ at (wordAt text start) out to (wordAt text i)
+Inv-loop out₀ at text start to₀ i₀ out to i = w.Ahead out₀ at (writtenAt text start) out to (wordAt text i)
 
 abbrev μ-loop : tie.MeasureT-loop
 μ-loop out₀ at text start to₀ i₀ out to i = length text - i
 
 loop-holds : tie.Need-loop-holds Inv-loop μ-loop
+unfolding writtenAt
 loop-holds c = w.start _ _ _
 
 byte-at-requires : tie.Need-byte-at-requires Inv-loop μ-loop
@@ -63,8 +64,8 @@ returns c =
     let h : isNameByte (getD s (c .before .before .before .loop .i) 0) ≡ false = test-of isNameByte (c .before .before .byte-at .ensures) (c .before .is-name-byte .ensures) (c .if1 .left) in
     w.done (c .before .before .before .loop .inv) (word-stop s (c .before .before .before .loop .i) h)
 
-pub put-word-spec : {M : Type 1} → statement M
-put-word-spec =
+pub put-written-spec : {M : Type 1} → statement M
+put-written-spec =
     tie.close
     (tie.spec
     Inv-loop
