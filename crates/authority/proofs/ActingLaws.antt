@@ -1,6 +1,6 @@
 -- The user form that a user acts in, as the array holds it. Assumes nothing.
-use Prim.Native.Nat.{_+_, _<_, ℕ}
-use lib.ListN.{getD, getElem?}
+use Prim.Native.Nat.{_<_, ℕ}
+use lib.ListN.{getElem?}
 use mathlib.Core.List.{List, map}
 use mathlib.Core.Option.{bind, some}
 use mathlib.Core.Path.{_∙_, _≡_, ap, subst, sym}

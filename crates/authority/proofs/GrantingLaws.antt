@@ -1,6 +1,6 @@
 -- When a grant authorises, by what the arrays hold, and which grant is the first. Assumes nothing.
-use Prim.Native.Nat.{_+_, _<_, _≤_, suc, zero, ℕ}
-use lib.ListN.{getD, getElem?, length}
+use Prim.Native.Nat.{_<_, _≤_, suc, zero, ℕ}
+use lib.ListN.{getElem?, length}
 use mathlib.Core.Bool.{Bool, _&&_, and-false, false, true}
 use mathlib.Core.List.{List, [], _∷_}
 use mathlib.Core.Option.{Option, none, some}

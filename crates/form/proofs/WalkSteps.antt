@@ -5,7 +5,7 @@ use lib.ListN.{getD, length}
 use mathlib.Core.List.{List, [], _∷_}
 use mathlib.Core.Path.{_≡_}
 use native.Mathlib.Omega.{arith}
-use Rattle.form.proofs.WalkLaws.{cell-onward, cell-within, item-onward, item-within, pair-onward, pair-within, triple-onward, triple-within, value-onward, value-within, walk-more, walk-stop}
+use Rattle.form.proofs.WalkLaws.{cell-onward, item-onward, item-within, pair-onward, pair-within, triple-onward, triple-within, value-onward, walk-more, walk-stop}
 use Rattle.form.specs.Walks.{cellAt, cellEndAt, cellsAt, columnAt, columnLabelAt, columnLabelsAt, columnsAt, givenAt, givensAt, itemAt, itemEndAt, itemsAt, labelledColumnsAt, namesAt, pairEndAt, plainAt, tripleEndAt}
 use Rattle.text.proofs.WalkingLaws.{word-forward, word-within}
 use Rattle.text.specs.Walking.{wordEndAt, writtenEndAt}
@@ -35,14 +35,8 @@ module _ (s : List ℕ) (at : ℕ) where
   pub value-after : at < writtenEndAt s (at + 1)
   value-after = omega (arith, value-onward s (at + 1))
 
-  pub value-inside : at < length s → writtenEndAt s (at + 1) ≤ length s
-  value-inside h = value-within s (at + 1) (omega arith)
-
   pub cell-after : at < cellEndAt s (at + 1)
   cell-after = omega (arith, cell-onward s (at + 1))
-
-  pub cell-inside : at < length s → cellEndAt s (at + 1) ≤ length s
-  cell-inside h = cell-within s (at + 1) (omega arith)
 
   pub item-after : at < itemEndAt s (at + 1)
   item-after = omega (arith, item-onward s (at + 1))

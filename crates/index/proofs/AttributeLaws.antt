@@ -1,9 +1,7 @@
 -- Attributes in their array, behind the clock's: one more, what stands at a number, and looking up. Assumes nothing.
 use Prim.Native.Nat.{_+_, _-_, _<_, _≤_, suc, zero, ℕ}
-use borrow.Author.Tests.{ne-eqb}
-use lib.Dec.{eqb}
 use lib.ListN.{getD, getElem?, length}
-use mathlib.Core.Bool.{false, not, true}
+use mathlib.Core.Bool.{false, true}
 use mathlib.Core.List.{List, [], _++_, _∷_, append-assoc}
 use mathlib.Core.Option.{Option, Option·map, Option·some-injective, none, some}
 use mathlib.Core.Path.{_∙_, _≡_, ap, refl, sym}

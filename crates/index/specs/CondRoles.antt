@@ -1,6 +1,6 @@
 -- Contract: how the workspace holds conditional roles: names from 0, roles from 64, the start and the end of the line from 128
 -- and 192, the place of the condition in it from 256.
-use Prim.Native.Nat.{_+_, _-_, _<_, _≤_, ℕ}
+use Prim.Native.Nat.{_+_, _<_, _≤_, ℕ}
 use lib.ListN.{getD}
 use mathlib.Core.Bool.{Bool, true}
 use mathlib.Core.List.{List, []}

@@ -1,6 +1,6 @@
 -- Contract: how the workspace holds rows: tables from 0, the numbers of values from 1,024 and of labels from 2,048; 16 places for
 -- each row: values from 3,072, labels from 19,456.
-use Prim.Native.Nat.{_*_, _+_, _-_, _<_, _≤_, ℕ}
+use Prim.Native.Nat.{_*_, _+_, _<_, _≤_, ℕ}
 use lib.ListN.{getD}
 use mathlib.Core.List.{List, [], _++_, _∷_}
 use mathlib.Core.Path.{_≡_}

@@ -1,6 +1,6 @@
 -- Contract: how the workspace holds tables: names from 0, schemes from 8, the tables' labels from 16, the numbers of columns from
 -- 24; 16 places for each table: the columns' names from 32, types from 160, labels from 288.
-use Prim.Native.Nat.{_*_, _+_, _-_, _<_, _≤_, suc, zero, ℕ}
+use Prim.Native.Nat.{_*_, _+_, _<_, _≤_, suc, zero, ℕ}
 use lib.ListN.{getD}
 use mathlib.Core.List.{List, [], _++_, _∷_}
 use mathlib.Core.Path.{_≡_}

@@ -1,15 +1,13 @@
 -- What the policy has at a table, as the array of the tables holds it: `columns-at` and `scheme-at` of index's TableLaws, and what
 -- find_column finds, said of the policy's columns. Assumes nothing.
-use Prim.Native.Nat.{_+_, _<_, ℕ}
-use lib.ListN.{getD}
+use Prim.Native.Nat.{_<_, ℕ}
 use mathlib.Core.List.{List}
 use mathlib.Core.Option.{Option}
 use mathlib.Core.Path.{_∙_, _≡_, ap, sym}
 use Rattle.document.specs.Lookup.{columnOf, columnsAt}
 use Rattle.document.specs.Policy.{Policy}
 use Rattle.index.proofs.TableLaws.{columns-at}
-use Rattle.index.specs.Tables.{Tables, columnIn, columnsIn}
-use Rattle.index.specs.Listed.{listed}
+use Rattle.index.specs.Tables.{Tables, columnsIn}
 use Rattle.text.specs.Words.{Word}
 
 -- the column that is found in the array is that of the policy

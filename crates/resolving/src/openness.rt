@@ -1,9 +1,9 @@
 // What of a table is closed to a purpose (17).
 use crate::columns::NAMED;
 use crate::offending::Offending;
+use form::lines::Scheme;
 use index::layout::LABELS;
 use index::layout::TABLE_CELLS;
-use form::lines::Scheme;
 use index::tables::column_label;
 use index::tables::table_label;
 use index::tables::table_scheme;

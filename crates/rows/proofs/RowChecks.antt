@@ -1,5 +1,5 @@
 -- The checks of a row by position: labels that are not known, and values of the wrong type, item by item. Assumes nothing.
-use Prim.Native.Nat.{_*_, _+_, _<_, _≤_, suc, zero, ℕ}
+use Prim.Native.Nat.{_+_, _<_, _≤_, suc, zero, ℕ}
 use lib.Dec.{eqb}
 use lib.ListN.{drop, drop-of-length-le, getD, getElem?, length}
 use mathlib.Core.Bool.{Bool, false, true}

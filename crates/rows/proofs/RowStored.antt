@@ -19,7 +19,7 @@ use Rattle.index.proofs.ListedLaws.{length-listed}
 use Rattle.index.proofs.RowLaws.{row-empty, rows-counted}
 use Rattle.index.proofs.TableLaws.{columns-at, scheme-read, tables-counted}
 use Rattle.index.specs.Rows.{FillingRow, LabelStored, Rows}
-use Rattle.index.specs.Tables.{Tables, columnCountIn, columnIn, columnLabelIn, columnLabelsIn, columnsIn, schemeBy, schemeIn, tableLabelIn}
+use Rattle.index.specs.Tables.{Tables, columnCountIn, columnIn, columnLabelIn, columnLabelsIn, schemeBy, schemeIn, tableLabelIn}
 use Rattle.index.specs.Listed.{listed}
 use Rattle.form.specs.declared.lines.Scheme as coded
 use Rattle.lists.proofs.ListLaws.{findIndex-found, holdsOf-some, map-map, there-some}

@@ -1,5 +1,6 @@
 // Storing a row: its values and labels one by one, and then the row.
 use crate::items::cell_label;
+use form::lines::Scheme;
 use index::labels::find_label;
 use index::layout::LABELS;
 use index::layout::ROW_CELLS;
@@ -7,7 +8,6 @@ use index::layout::TABLE_CELLS;
 use index::rows::add_row;
 use index::rows::set_label;
 use index::rows::set_value;
-use form::lines::Scheme;
 use index::tables::find_table;
 use index::tables::table_scheme;
 use stepping::places::number;

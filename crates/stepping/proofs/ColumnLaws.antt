@@ -8,7 +8,7 @@ use Rattle.condition.specs.Kinds.{Kind}
 use Rattle.document.specs.Lookup.{labelOf}
 use Rattle.document.specs.Meaning.{columnMeant}
 use Rattle.document.specs.Policy.{Column, Policy, Table}
-use Rattle.form.proofs.WalkSteps.{column-labels-more, column-labels-stop, columns-more, columns-stop, labelled-columns-more, labelled-columns-stop}
+use Rattle.form.proofs.WalkSteps.{column-labels-more, columns-more, labelled-columns-more}
 use Rattle.form.specs.Walks.{columnAt, columnLabelAt, columnLabelsAt, columnsAt, firstIn, kindAt, labelledColumnsAt, pairEndAt, secondIn, thirdIn, tripleEndAt}
 use Rattle.index.proofs.ListedLaws.{length-listed}
 use Rattle.index.proofs.TableLaws.{table-empty}

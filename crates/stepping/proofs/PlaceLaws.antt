@@ -1,13 +1,13 @@
 -- A line in its text: its words stand there, and it is the bytes from its start to its end. Assumes nothing.
-use Prim.Native.Nat.{_+_, _-_, _<_, _≤_, ℕ}
+use Prim.Native.Nat.{_+_, _-_, _≤_, ℕ}
 use borrow.Author.Tests.{ltb-false, ltb-true}
 use lib.Dec.{ltb}
-use lib.ListN.{drop, drop-of-length-le, getD, length, length-append, length-drop, length-take, take, take-append-drop}
+use lib.ListN.{drop, drop-of-length-le, length, length-drop, length-take, take, take-append-drop}
 use lib.Seq.{drop-append-le, drop-drop, take-at}
-use mathlib.Core.Bool.{Bool, cond, false, true}
+use mathlib.Core.Bool.{cond, false}
 use mathlib.Core.List.{List, [], _++_, _∷_}
 use mathlib.Core.Logic.{⊎-elim}
-use mathlib.Core.Path.{_∙_, _≡_, ap, refl, subst, sym}
+use mathlib.Core.Path.{_∙_, _≡_, ap, refl, sym}
 use native.Mathlib.Omega.{arith}
 use Rattle.index.specs.Cells.{lineIn}
 use Rattle.lists.proofs.Tests.{decide}

@@ -18,7 +18,7 @@ use Rattle.document.specs.TypeFaults.{wrongType}
 use Rattle.document.specs.ValueFaults.{misfit}
 use Rattle.tables.specs.TableLine.{bracketEndBy, columnsBy}
 use Rattle.form.proofs.WalkSteps.{column-labels-more, column-labels-stop, columns-more, columns-stop, labelled-columns-more, labelled-columns-stop, pair-after, pair-inside, triple-after, triple-inside}
-use Rattle.form.specs.Form.{ColumnForm, Form, schemeLabels, table}
+use Rattle.form.specs.Form.{ColumnForm, Form, schemeLabels}
 use Rattle.form.specs.Walks.{columnAt, columnLabelAt, columnLabelsAt, firstIn, secondIn, thirdIn, tripleEndAt}
 use Rattle.lists.proofs.Tests.{or-right}
 use Rattle.lists.specs.Lists.{anyOf, findIndex, there}

@@ -14,8 +14,6 @@ use stepping::step::is_fine;
 ghost use Prim.Native.Nat.{_≤_, ℕ};
 ghost use lib.ListN.{length};
 ghost use mathlib.Core.List.{List};
-ghost use mathlib.Core.Option.{none};
-ghost use mathlib.Core.Path.{_≡_};
 ghost use Rattle.index.specs.Workspace.{Indexed};
 ghost use Rattle.stepping.specs.Follows.{Follows};
 ghost use Rattle.document.specs.Check.{checkForm};
@@ -93,7 +91,19 @@ pub fn step_table(
     let k = c.tables;
     let f = table_fault(text, labels, c.labels, tables, k, line, t, scheme, l, cs);
     if is_fine(f) {
-        store_table(text, labels, c.labels, tables, k, at, line, t, scheme, l, cs);
+        store_table(
+            text,
+            labels,
+            c.labels,
+            tables,
+            k,
+            at,
+            line,
+            t,
+            scheme,
+            l,
+            cs,
+        );
         let mut next = c;
         next.tables = k + 1;
         return Step::Goes(next);

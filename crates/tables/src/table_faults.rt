@@ -1,13 +1,13 @@
 // A table line: its columns are walked through again, in brackets of two words, `(COL num)`, or of three, `(COL num L)`.
+use form::lines::Scheme;
+use form::lines::labels_columns;
 use index::found::Found;
 use index::labels::find_label;
 use index::layout::COLUMNS;
 use index::layout::LABELS;
 use index::layout::TABLE_CELLS;
 use index::layout::TABLES;
-use form::lines::Scheme;
 use index::tables::find_table;
-use form::lines::labels_columns;
 use stepping::fault::Fault;
 use text::bytes::byte_at;
 use text::refusals::Reason;

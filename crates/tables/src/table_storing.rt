@@ -1,11 +1,11 @@
 // Storing a table: its columns one by one, and then the table.
 use condition::kinds::Kind;
+use form::lines::Scheme;
+use form::lines::labels_columns;
 use index::labels::find_label;
 use index::layout::LABELS;
 use index::layout::TABLE_CELLS;
-use form::lines::Scheme;
 use index::tables::add_table;
-use form::lines::labels_columns;
 use index::tables::set_column;
 use stepping::places::number;
 use stepping::places::place;

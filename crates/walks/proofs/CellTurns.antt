@@ -1,8 +1,8 @@
 -- The cells `(v L)` of a row line, taken one by one: what the walk over them keeps, and that one cell more keeps it. Assumes nothing.
-use Prim.Native.Nat.{_*_, _+_, _<_, _≤_, ℕ}
+use Prim.Native.Nat.{_+_, _<_, _≤_, ℕ}
 use borrow.Author.Tests.{eq-eqb}
 use lib.ListN.{getD, length}
-use mathlib.Core.Bool.{Bool, true}
+use mathlib.Core.Bool.{true}
 use mathlib.Core.List.{List, _∷_, map}
 use mathlib.Core.Option.{some}
 use mathlib.Core.Path.{_∙_, _≡_, ap, refl, subst, sym}
@@ -128,7 +128,7 @@ module _ (line : List ℕ) (j e f : ℕ) (opened : getD line (j + 1) 0 ≡ 40) (
       (subst (λ (xs : List (Word × Word)). Rowed text before ws k c c (map (λ g. g .0 .bytes) (cellsAt line is)) (map (λ g. g .0 .bytes) xs) (map (λ g. known (labelOf d (g .1))) (cellsAt line is)) (map (λ g. known (labelOf d (g .1))) xs))
       (cells-more line j space ∙ ap (λ n. cellAt line (j + 1) ∷ cellsAt line n) (sym pair-at)) g)
       small inside s (written-placed l (j + 2) pos (omega arith) placed ∙ ap (writtenAt line) first-at))
-      small inside t (ap (λ n. known (labelOf d (wordOf line n))) second-at)
+      small (omega (arith, inside)) t (ap (λ n. known (labelOf d (wordOf line n))) second-at)
 
 -- ---- one cell more
 

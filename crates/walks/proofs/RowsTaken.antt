@@ -51,7 +51,7 @@ use Rattle.text.specs.Offending.{missing}
 use Rattle.text.specs.Reader.{from}
 use Rattle.text.proofs.WalkingLaws.{written-end}
 use Rattle.text.specs.Walking.{wordEndAt}
-use Rattle.text.specs.Words.{Word, wordAt, wordOf, writtenAt}
+use Rattle.text.specs.Words.{Word, wordOf, writtenAt}
 use Rattle.text.specs.declared.words.End.the-variants.{At}
 
 -- ---- items that were walked to the bracket

@@ -1,6 +1,6 @@
 -- A value of a type, a name or a number: where it ends, that readers read it, and one turn of a walk over items that have such values.
 -- Assumes nothing.
-use Prim.Native.Nat.{_*_, _+_, _<_, ℕ}
+use Prim.Native.Nat.{_+_, _<_, ℕ}
 use borrow.Author.Tests.{eqb-false, eqb-true}
 use lib.Dec.{eqb}
 use lib.ListN.{drop, getD, length}
@@ -21,7 +21,7 @@ use Rattle.form.specs.FormReader.{cellValue, item, labelledItem, plainItem}
 use Rattle.form.specs.Walks.{itemEndAt, itemsAt}
 use Rattle.index.proofs.ListedLaws.{length-listed}
 use Rattle.index.proofs.TableLaws.{columns-at}
-use Rattle.index.specs.Tables.{Cut, Tables, columnCountIn, columnIn, columnKindIn, columnsIn}
+use Rattle.index.specs.Tables.{Cut, Tables, columnCountIn, columnIn, columnKindIn}
 use Rattle.lists.proofs.Tests.{never, or-left, or-right, true-not-false}
 use Rattle.lists.specs.Lists.{there}
 use Rattle.walks.specs.Walked.{ItemsWalked, typedEnd}

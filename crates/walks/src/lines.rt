@@ -2,13 +2,13 @@
 use crate::cells::take_cells;
 use crate::cells::take_label;
 use crate::cells::take_values;
+use form::lines::Scheme;
 use index::found::Found;
 use index::layout::LABELS;
 use index::layout::ROW_CELLS;
 use index::layout::ROWS;
 use index::layout::TABLE_CELLS;
 use index::rows::add_row;
-use form::lines::Scheme;
 use index::tables::find_table_to;
 use index::tables::table_scheme;
 use index::tables::table_width;
@@ -183,9 +183,7 @@ pub fn take_row(
         Scheme::Unlabelled => take_plain(text, at, line, tables, x, rows, k, is),
         Scheme::ByTable => take_plain(text, at, line, tables, x, rows, k, is),
         Scheme::ByColumn => take_plain(text, at, line, tables, x, rows, k, is),
-        Scheme::ByRow => {
-            take_led(text, at, line, labels, labels_count, tables, x, rows, k, is)
-        }
+        Scheme::ByRow => { take_led(text, at, line, labels, labels_count, tables, x, rows, k, is) }
         Scheme::ByCell => {
             take_labelled(text, at, line, labels, labels_count, tables, x, rows, k, is)
         }

@@ -1,9 +1,8 @@
 -- `attributes::attr_storing::store_attr` meets its contract: the role is found by its name. Assumes nothing.
-use mathlib.Core.Option.{none, some}
 use Rattle.lists.specs.Lists.{known}
 use Rattle.document.specs.Lookup.{roleOf}
 use Rattle.text.specs.Words.{wordOf}
-use mathlib.Core.Path.{_∙_, ap, refl, sym}
+use mathlib.Core.Path.{_∙_, ap}
 use Rattle.condition.specs.Answers.{kindOf}
 use Rattle.stepping.proofs.NamedLaws.{attr-stored}
 use borrow.Author.Needs.{needs}

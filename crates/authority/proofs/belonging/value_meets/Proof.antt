@@ -1,6 +1,5 @@
 -- `authority::belonging::value_meets` meets its contract: the value stands where its place is stored. Assumes nothing.
-use mathlib.Core.Bool.{false, true}
-use mathlib.Core.Path.{_∙_, ap, sym}
+use mathlib.Core.Path.{_∙_, ap}
 use native.Mathlib.Omega.{arith}
 use Rattle.authority.proofs.HeldLaws.{attribute-below, user-none, user-some}
 use Rattle.condition.specs.Answers.{kindOf, opOf}

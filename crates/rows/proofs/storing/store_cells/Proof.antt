@@ -2,9 +2,9 @@
 -- left. Assumes nothing.
 use Prim.Native.Nat.{_+_, _-_, _<_, _^_, _≤_, ℕ}
 use borrow.Author.Needs.{needs}
-use lib.ListN.{getD, length}
-use mathlib.Core.List.{List, [], map}
-use mathlib.Core.Path.{_∙_, _≡_, ap, refl, sym}
+use lib.ListN.{length}
+use mathlib.Core.List.{List, map}
+use mathlib.Core.Path.{_∙_, ap}
 use native.Mathlib.Omega.{arith}
 use Rattle.text.proofs.Spaces.{space-here}
 use Rattle.stepping.specs.Stored.{LineAt}

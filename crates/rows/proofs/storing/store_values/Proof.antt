@@ -1,10 +1,10 @@
 -- `rows::storing::store_values` meets its contract. The loop's invariant: the values that were passed are stored, and the others are
 -- left. Assumes nothing.
-use Prim.Native.Nat.{_+_, _-_, _<_, _^_, _≤_, ℕ}
+use Prim.Native.Nat.{_-_, _<_, _^_, _≤_, ℕ}
 use borrow.Author.Needs.{needs}
-use lib.ListN.{getD, length}
+use lib.ListN.{length}
 use mathlib.Core.List.{List, [], map}
-use mathlib.Core.Path.{_∙_, _≡_, ap, refl, sym}
+use mathlib.Core.Path.{_∙_, ap, refl}
 use native.Mathlib.Omega.{arith}
 use Rattle.text.proofs.Spaces.{space-here}
 use Rattle.stepping.specs.Stored.{LineAt}

@@ -1,19 +1,15 @@
 -- `tables::table_storing::store_columns` meets its contract. The loop's invariant: the columns that were passed are stored, and the others are
 -- left. Assumes nothing.
-use Prim.Native.Nat.{_+_, _-_, _<_, _≤_, ℕ}
+use Prim.Native.Nat.{_+_, _-_, _<_, _≤_}
 use borrow.Author.Needs.{needs}
-use lib.ListN.{getD, length}
-use mathlib.Core.List.{List, map}
-use mathlib.Core.Path.{_∙_, _≡_, ap, sym}
+use lib.ListN.{length}
+use mathlib.Core.List.{map}
+use mathlib.Core.Path.{_∙_, ap}
 use native.Mathlib.Omega.{arith}
-use Rattle.document.specs.Lookup.{labelOf}
 use Rattle.document.specs.Meaning.{columnMeant}
-use Rattle.document.specs.Policy.{Policy}
-use Rattle.form.proofs.WalkSteps.{column-labels-stop, columns-stop, labelled-columns-stop, pair-after, triple-after}
-use Rattle.form.specs.Walks.{columnLabelsAt, columnsAt, labelledColumnsAt}
-use Rattle.index.specs.Labels.{Labels}
-use Rattle.lists.specs.Lists.{known}
-use Rattle.stepping.proofs.ColumnLaws.{Columned, columned-all, columned-none, labelled-turn, pair-ends, plain-turn, triple-ends}
+use Rattle.form.proofs.WalkSteps.{columns-stop, pair-after}
+use Rattle.form.specs.Walks.{columnsAt}
+use Rattle.stepping.proofs.ColumnLaws.{Columned, columned-all, columned-none, pair-ends, plain-turn}
 use Rattle.stepping.specs.Stored.{LineAt}
 use Rattle.text.proofs.Spaces.{space-here}
 use Rattle.text.specs.Walking.{past}

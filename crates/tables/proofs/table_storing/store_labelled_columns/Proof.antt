@@ -2,18 +2,18 @@
 -- labels, and the others are left. Assumes nothing.
 use Prim.Native.Nat.{_+_, _-_, _<_, _^_, _≤_, ℕ}
 use borrow.Author.Needs.{needs}
-use lib.ListN.{getD, length}
+use lib.ListN.{length}
 use mathlib.Core.List.{List, map}
-use mathlib.Core.Path.{_∙_, _≡_, ap, sym}
+use mathlib.Core.Path.{_∙_, ap}
 use native.Mathlib.Omega.{arith}
 use Rattle.document.specs.Lookup.{labelOf}
 use Rattle.document.specs.Meaning.{columnMeant}
 use Rattle.document.specs.Policy.{Policy}
-use Rattle.form.proofs.WalkSteps.{column-labels-stop, columns-stop, labelled-columns-stop, pair-after, triple-after}
-use Rattle.form.specs.Walks.{columnLabelsAt, columnsAt, labelledColumnsAt}
+use Rattle.form.proofs.WalkSteps.{column-labels-stop, labelled-columns-stop, triple-after}
+use Rattle.form.specs.Walks.{columnLabelsAt, labelledColumnsAt}
 use Rattle.index.specs.Labels.{Labels}
 use Rattle.lists.specs.Lists.{known}
-use Rattle.stepping.proofs.ColumnLaws.{Columned, columned-all, columned-none, labelled-turn, pair-ends, plain-turn, triple-ends}
+use Rattle.stepping.proofs.ColumnLaws.{Columned, columned-all, columned-none, labelled-turn, triple-ends}
 use Rattle.stepping.specs.Stored.{LineAt}
 use Rattle.text.proofs.Spaces.{space-here}
 use Rattle.text.specs.Walking.{past}
