@@ -1,5 +1,5 @@
 -- Contract: what becomes of a row, what the arrays say of its cells, and the comparisons as they are read before the rows.
-use Prim.Native.Nat.{_*_, _+_, _<_, _≤_, suc, zero, ℕ}
+use Prim.Native.Nat.{_*_, _+_, _<_, _≤_, ℕ}
 use lib.Dec.{eqb}
 use lib.ListN.{getD, getElem?, length, take}
 use mathlib.Core.Bool.{Bool, _&&_, cond, false, true}
@@ -13,10 +13,10 @@ use Rattle.answering.specs.declared.judging.Fate.{Fate}
 use Rattle.answering.specs.declared.judging.Last.the-variants as outcome
 use Rattle.answering.specs.declared.judging.Last.{Last}
 use Rattle.answering.specs.declared.tally.Tally.{Tally}
-use Rattle.condition.specs.Answers.{comparisonsAt, heldRead, operatorOf}
+use Rattle.condition.specs.Answers.{comparisonsAt, heldRead, operatorBy, operatorOf}
 use Rattle.condition.specs.Comparison.{valuesMeet}
 use Rattle.condition.specs.CondForm.{Compared, conditionInForm}
-use Rattle.condition.specs.Kinds.{Kind, Op, eq, ge, gt, le, lt, names, ne, numbers}
+use Rattle.condition.specs.Kinds.{Kind, names, numbers}
 use Rattle.document.specs.Open.{labelOpen}
 use Rattle.document.specs.Policy.{Doc, Policy, Row}
 use Rattle.index.specs.Cells.{kindOfCell}
@@ -56,15 +56,6 @@ truthIn text ts ws t r s op c =
     valuesMeet (kindOfCell (getD ts (160 + 16 * t + c) 0)) (operatorOf (wordAt s op)) (getD (rowIn text ws r .values) c []) (wordAt s (nextWord s (nextWord s op)))
 
 -- ---- the comparisons, as they are read before the rows
-
--- the operator of a code
-unfoldable pub operatorBy : ℕ → Op
-operatorBy zero = eq
-operatorBy (suc zero) = ne
-operatorBy (suc (suc zero)) = lt
-operatorBy (suc (suc (suc zero))) = le
-operatorBy (suc (suc (suc (suc zero)))) = gt
-operatorBy (suc (suc (suc (suc (suc n))))) = ge
 
 -- of the comparison of column c of table t whose operator stands at a place of the query's text s: whether it compares names, the
 -- code of its operator, where its value stands, and the value's rank

@@ -4,6 +4,7 @@ use crate::comparing::store_truths;
 use crate::tally::Tally;
 use condition::conditions::holds_placed;
 use form::lines::Scheme;
+use index::labels::opened_at;
 use index::layout::LABELS;
 use index::layout::ROW_CELLS;
 use index::layout::ROWS;
@@ -51,17 +52,7 @@ fn cell_open(rows: &[usize; ROW_CELLS], opened: &[bool; LABELS], r: usize, c: us
 {
     let n = row_labels(rows, r);
     if c < n {
-        return label_open(opened, row_label(rows, r, c));
-    }
-    false
-}
-
-// Whether the label of this number is open.
-fn label_open(opened: &[bool], l: usize) -> bool
-    ensures { λ x. ⌜ x ≡ getD (now (opened .entry)) l false ⌝ }
-{
-    if l < opened.len() {
-        return opened[l];
+        return opened_at(opened, row_label(rows, r, c));
     }
     false
 }

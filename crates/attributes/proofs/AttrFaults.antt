@@ -17,8 +17,9 @@ use Rattle.document.specs.ValueFaults.{misfit}
 use Rattle.stepping.proofs.FoundLaws.{found-absent, found-there}
 use Rattle.stepping.proofs.Outcomes.{says-bound, says-fine, says-late, says-taken, says-unknown}
 use Rattle.stepping.specs.Judged.{Judges}
-use Rattle.stepping.specs.declared.fault.Fault.{Fault}
-use Rattle.stepping.specs.declared.fault.Fault.the-variants.{Fine, Item, Whole}
+use Rattle.stepping.specs.declared.fault.Fault.the-variants.{Item, Whole}
+use Rattle.stepping.specs.declared.fault.Verdict.{Verdict}
+use Rattle.stepping.specs.declared.fault.Verdict.the-variants.{Faulty, Fine}
 use Rattle.form.specs.Form.{attr}
 use Rattle.index.proofs.IndexLaws.{attributes-length}
 use Rattle.index.specs.Attributes.{Attributes}
@@ -38,10 +39,10 @@ module _ (text roles : List ℕ) (m : ℕ) (ws : List ℕ) (k users : ℕ) (line
   abbrev Placed′ : Type 0
   Placed′ = (r ≤ length line) × (a ≤ length line)
 
-  abbrev Says : Fault → Type 0
+  abbrev Says : Verdict → Type 0
   Says f = Judges Held Placed′ line (attr (wordOf line r) (wordOf line a) t) k 32 f
 
-  pub attr-full : 32 ≤ k → Says (Whole OverBound)
+  pub attr-full : 32 ≤ k → Says (Faulty (Whole OverBound))
   unfolding overBound
   attr-full l =
       says-bound Held Placed′ line (attr (wordOf line r) (wordOf line a) t) k 32
@@ -52,7 +53,7 @@ module _ (text roles : List ℕ) (m : ℕ) (ws : List ℕ) (k users : ℕ) (line
     unfolding overBound
     roomy d h = lt-leb 35 (length (d .policy .attributes)) (omega (arith, attributes-length (h .1), l))
 
-    pub attr-taken : (n : ℕ) → x ≡ At n → Says (Item NameTaken a)
+    pub attr-taken : (n : ℕ) → x ≡ At n → Says (Faulty (Item NameTaken a))
     unfolding taken attributeOf offendingIf
     attr-taken n e =
         says-taken Held Placed′ line (attr (wordOf line r) (wordOf line a) t) k 32 roomy a (λ q. q .1)
@@ -63,7 +64,7 @@ module _ (text roles : List ℕ) (m : ℕ) (ws : List ℕ) (k users : ℕ) (line
       unfolding taken attributeOf offendingIf
       fresh d h = ap (λ b. offendingIf b (wordOf line a)) (found-absent x _ (is (d .policy .attributes) (h .1)) e)
 
-      pub attr-unknown : y ≡ Nothing → Says (Item NameUnknown r)
+      pub attr-unknown : y ≡ Nothing → Says (Faulty (Item NameUnknown r))
       unfolding unknown roleOf unless
       attr-unknown e′ =
           says-unknown Held Placed′ line (attr (wordOf line r) (wordOf line a) t) k 32 roomy fresh r (λ q. q .0)
@@ -74,7 +75,7 @@ module _ (text roles : List ℕ) (m : ℕ) (ws : List ℕ) (k users : ℕ) (line
         unfolding unknown roleOf unless
         role-known d h = ap (λ b. unless b (wordOf line r)) (found-there y _ (is′ (d .policy .roles) (h .0)) n e′)
 
-        pub attr-late : 0 < users → Says (Whole LateAttribute)
+        pub attr-late : 0 < users → Says (Faulty (Whole LateAttribute))
         unfolding lateAttr secondRoot misfit wrongType
         attr-late u =
             says-late Held Placed′ line (attr (wordOf line r) (wordOf line a) t) k 32 roomy fresh role-known (λ d h. refl) (λ d h. refl) (λ d h. refl)

@@ -7,6 +7,7 @@ use index::layout::ATTRIBUTES;
 use index::layout::ROLE_CELLS;
 use index::names::find_role;
 use stepping::fault::Fault;
+use stepping::fault::Verdict;
 use text::refusals::Reason;
 ghost use Prim.Native.Nat.{_≤_};
 ghost use lib.ListN.{length};
@@ -30,20 +31,20 @@ pub fn attr_fault(
     r: usize,
     a: usize,
     kind: Kind,
-) -> Fault
+) -> Verdict
     ensures { λ f. ⌜ Judges (λ d. Nodes 64 (now (text .entry)) (now (roles .entry)) «roles_count» (d .policy .roles) × Attributes (now (text .entry)) (now (attributes .entry)) k (d .policy .attributes) × («users_count» ≡ length (d .policy .users))) ((r ≤ length (now (line .entry))) × (a ≤ length (now (line .entry)))) (now (line .entry)) (attr (wordOf (now (line .entry)) r) (wordOf (now (line .entry)) a) (kindOf kind)) k 32 f ⌝ }
 {
     if ATTRIBUTES <= k {
-        return Fault::Whole(Reason::OverBound);
+        return Verdict::Faulty(Fault::Whole(Reason::OverBound));
     }
     if let Found::At(_) = find_attribute(text, attributes, k, line, a) {
-        return Fault::Item(Reason::NameTaken, a);
+        return Verdict::Faulty(Fault::Item(Reason::NameTaken, a));
     }
     if let Found::Nothing = find_role(text, roles, roles_count, line, r) {
-        return Fault::Item(Reason::NameUnknown, r);
+        return Verdict::Faulty(Fault::Item(Reason::NameUnknown, r));
     }
     if 0 < users_count {
-        return Fault::Whole(Reason::LateAttribute);
+        return Verdict::Faulty(Fault::Whole(Reason::LateAttribute));
     }
-    Fault::Fine
+    Verdict::Fine
 }

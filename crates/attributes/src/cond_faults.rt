@@ -1,6 +1,5 @@
 // A line of a conditional role: its condition is read again, and its comparisons are walked through by the places of their
 // operators.
-use condition::comparisons::Wrong;
 use condition::comparisons::wrong_type;
 use condition::conditions::Read;
 use condition::conditions::read_places;
@@ -17,6 +16,8 @@ use index::layout::ROLE_CELLS;
 use index::names::find_role;
 use index::names::role_below;
 use stepping::fault::Fault;
+use stepping::fault::Verdict;
+use text::offending::Offending;
 use text::refusals::Reason;
 use text::walking::next_word;
 ghost use Prim.Native.Nat.{_<_, _≤_, ℕ};
@@ -29,13 +30,14 @@ ghost use Rattle.document.specs.Lookup.{attributeKind};
 ghost use Rattle.document.specs.NameFaults.{usableFor};
 ghost use Rattle.document.specs.Policy.{Doc, Policy};
 ghost use Rattle.attributes.specs.CondLine.{JudgesCond};
-ghost use Rattle.stepping.specs.Places.{Near, wordFound};
+ghost use Rattle.stepping.specs.Places.{Near};
 ghost use Rattle.index.specs.Attributes.{Attributes};
 ghost use Rattle.index.specs.CondRoles.{CondRoles};
 ghost use Rattle.index.specs.Nodes.{Nodes};
 ghost use Rattle.text.specs.Offending.{leftmost, missing};
 ghost use Rattle.text.specs.Walking.{nextWord};
 ghost use Rattle.text.specs.Words.{wordOf};
+ghost use Rattle.text.specs.CodeEnds.{offendingOf};
 
 // The most comparisons that a condition may have.
 const COMPARISONS: usize = 64;
@@ -75,19 +77,19 @@ fn first_unusable(
     role: usize,
     ops: &[usize; COMPARISONS],
     count: usize,
-) -> Found
+) -> Offending
     requires { ⌜ (count ≤ 64) × (count ≤ length (now ops)) ⌝ }
-    ensures { λ f. ⌜ ((d : Policy) → Nodes 64 (now (text .entry)) (now (roles .entry)) m (d .roles) → Attributes (now (text .entry)) (now (attributes .entry)) n (d .attributes) → wordFound (now (line .entry)) f ≡ missing (usableFor d role) (map (λ p. wordOf (now (line .entry)) (nextWord (now (line .entry)) p)) (take count (now (ops .entry))))) × (((i : ℕ) → i < count → getD (now (ops .entry)) i 0 ≤ length (now (line .entry))) → Near (now (line .entry)) f) ⌝ }
+    ensures { λ f. ⌜ ((d : Policy) → Nodes 64 (now (text .entry)) (now (roles .entry)) m (d .roles) → Attributes (now (text .entry)) (now (attributes .entry)) n (d .attributes) → offendingOf (now (line .entry)) f ≡ missing (usableFor d role) (map (λ p. wordOf (now (line .entry)) (nextWord (now (line .entry)) p)) (take count (now (ops .entry))))) × (((i : ℕ) → i < count → getD (now (ops .entry)) i 0 ≤ length (now (line .entry))) → Near (now (line .entry)) f) ⌝ }
 {
     let mut j = 0;
     while j < count {
         let at = next_word(line, ops[j]);
         if !usable(text, roles, m, attributes, n, line, role, at) {
-            return Found::At(at);
+            return Offending::At(at);
         }
         j += 1;
     }
-    Found::Nothing
+    Offending::Nothing
 }
 
 // The type of the attribute of the name at a position.
@@ -115,21 +117,21 @@ fn first_mistyped(
     line: &[u8],
     ops: &[usize; COMPARISONS],
     count: usize,
-) -> Found
+) -> Offending
     requires { ⌜ (count ≤ 64) × (count ≤ length (now ops)) ⌝ }
-    ensures { λ f. ⌜ ((d : Policy) → Attributes (now (text .entry)) (now (attributes .entry)) n (d .attributes) → wordFound (now (line .entry)) f ≡ leftmost (map (λ p. mistyped (attributeKind d (wordOf (now (line .entry)) (nextWord (now (line .entry)) p))) (comparedAt (now (line .entry)) p)) (take count (now (ops .entry))))) × (((i : ℕ) → i < count → getD (now (ops .entry)) i 0 ≤ length (now (line .entry))) → Near (now (line .entry)) f) ⌝ }
+    ensures { λ f. ⌜ ((d : Policy) → Attributes (now (text .entry)) (now (attributes .entry)) n (d .attributes) → offendingOf (now (line .entry)) f ≡ leftmost (map (λ p. mistyped (attributeKind d (wordOf (now (line .entry)) (nextWord (now (line .entry)) p))) (comparedAt (now (line .entry)) p)) (take count (now (ops .entry))))) × (((i : ℕ) → i < count → getD (now (ops .entry)) i 0 ≤ length (now (line .entry))) → Near (now (line .entry)) f) ⌝ }
 {
     let mut j = 0;
     while j < count {
         let op = ops[j];
         let kind = kind_named(text, attributes, n, line, next_word(line, op));
         let w = wrong_type(line, op, kind);
-        if let Wrong::At(p) = w {
-            return Found::At(p);
+        if let Offending::At(p) = w {
+            return Offending::At(p);
         }
         j += 1;
     }
-    Found::Nothing
+    Offending::Nothing
 }
 
 // What is wrong with the line `(cond-role C ROLE cond)`: C stands at c, the role at r, and the condition's bracket at t. There
@@ -146,35 +148,35 @@ pub fn cond_role_fault(
     c: usize,
     r: usize,
     t: usize,
-) -> Fault
+) -> Verdict
     ensures { λ f. ⌜ JudgesCond (λ (d : Doc). Nodes 64 (now (text .entry)) (now (roles .entry)) m (d .policy .roles) × Attributes (now (text .entry)) (now (attributes .entry)) n (d .policy .attributes) × CondRoles (d .policy) (now (text .entry)) (now (conds .entry)) k (d .policy .condRoles)) ((c ≤ length (now (line .entry))) × (r ≤ length (now (line .entry))) × (t ≤ length (now (line .entry)))) (now (line .entry)) c r t k f ⌝ }
 {
     let mut ops = [0usize; COMPARISONS];
     let read = read_places(line, t, &mut ops);
     let Read::At(_, count) = read else {
-        return Fault::Whole(Reason::WrongForm);
+        return Verdict::Faulty(Fault::Whole(Reason::WrongForm));
     };
     if COND_ROLES <= k {
-        return Fault::Whole(Reason::OverBound);
+        return Verdict::Faulty(Fault::Whole(Reason::OverBound));
     }
     if COMPARISONS < count {
-        return Fault::Whole(Reason::OverBound);
+        return Verdict::Faulty(Fault::Whole(Reason::OverBound));
     }
     let before = find_cond_role(text, conds, k, line, c);
     if let Found::At(_) = before {
-        return Fault::Item(Reason::NameTaken, c);
+        return Verdict::Faulty(Fault::Item(Reason::NameTaken, c));
     }
     let found = find_role(text, roles, m, line, r);
     let Found::At(role) = found else {
-        return Fault::Item(Reason::NameUnknown, r);
+        return Verdict::Faulty(Fault::Item(Reason::NameUnknown, r));
     };
     let unusable = first_unusable(text, roles, m, attributes, n, line, role, &ops, count);
-    if let Found::At(p) = unusable {
-        return Fault::Item(Reason::NameUnknown, p);
+    if let Offending::At(p) = unusable {
+        return Verdict::Faulty(Fault::Item(Reason::NameUnknown, p));
     }
     let mistyped = first_mistyped(text, attributes, n, line, &ops, count);
-    if let Found::At(p) = mistyped {
-        return Fault::Item(Reason::WrongType, p);
+    if let Offending::At(p) = mistyped {
+        return Verdict::Faulty(Fault::Item(Reason::WrongType, p));
     }
-    Fault::Fine
+    Verdict::Fine
 }

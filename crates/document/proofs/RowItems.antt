@@ -8,33 +8,14 @@ use mathlib.Core.Option.{none}
 use mathlib.Core.Path.{_∙_, _≡_, ap}
 use Rattle.document.specs.NameFaults.{leadingName}
 use Rattle.document.specs.ValueFaults.{plainValues, valuesBehindLabel}
-use Rattle.form.proofs.WalkSteps.{items-more, items-stop}
-use Rattle.form.specs.Form.{labelled, plain}
-use Rattle.form.specs.Walks.{cellEndAt, cellLabelIn, firstIn, itemAt, itemEndAt, itemsAt}
+use Rattle.form.proofs.WalkSteps.{item-bracket, item-plain, item-plain-end, items-more, items-stop}
+use Rattle.form.specs.Form.{plain}
+use Rattle.form.specs.Walks.{itemEndAt, itemsAt}
 use Rattle.text.proofs.WalkingLaws.{written-end}
 use Rattle.text.proofs.WordLaws.{written-word}
 use Rattle.text.specs.Names.{isName}
 use Rattle.text.specs.Walking.{wordEndAt, writtenEndAt}
 use Rattle.text.specs.Words.{wordAt, wordOf, writtenOf}
-
--- ---- one item
-
-module _ (s : List ℕ) (at : ℕ) where
-  pub item-bracket : eqb (getD s at 0) 40 ≡ true → itemAt s at ≡ labelled (writtenOf s (firstIn s at)) (wordOf s (cellLabelIn s at))
-  unfolding itemAt
-  item-bracket e = rw e
-
-  pub item-plain : eqb (getD s at 0) 40 ≡ false → itemAt s at ≡ plain (writtenOf s at)
-  unfolding itemAt
-  item-plain e = rw e
-
-  pub item-bracket-end : eqb (getD s at 0) 40 ≡ true → itemEndAt s at ≡ cellEndAt s at
-  unfolding itemEndAt
-  item-bracket-end e = rw e
-
-  pub item-plain-end : eqb (getD s at 0) 40 ≡ false → itemEndAt s at ≡ writtenEndAt s at
-  unfolding itemEndAt
-  item-plain-end e = rw e
 
 -- ---- a row whose first item is its label
 

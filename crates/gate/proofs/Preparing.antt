@@ -25,8 +25,9 @@ use Rattle.query.specs.Asked.{FewTests, TestWithin, Tests, conditionAt, queryWi
 use Rattle.query.specs.Naming.{wordsAt}
 use Rattle.query.specs.Query.{Wanted, closedPart, columnComparison, countsOnly, mistypedQuery, named, openFor, resolved, select, unknownColumn, wantedOf}
 use Rattle.query.specs.QueryForm.{QueryForm, namedWords, selectedWords}
-use Rattle.resolving.specs.Resolved.{Compares, Resolves, offendingIn}
+use Rattle.resolving.specs.Resolved.{Compares, Resolves}
 use Rattle.text.proofs.OffendingLaws.{leftmost-only, missing-none}
+use Rattle.text.specs.CodeEnds.{offendingOf}
 use Rattle.text.specs.Offending.{leftmost, missing, unless}
 use Rattle.text.specs.Reader.{from}
 use Rattle.text.specs.Words.{Word, wordOf}
@@ -39,8 +40,8 @@ use Rattle.index.specs.declared.found.Found.the-variants as found
 use Rattle.query.specs.declared.reading.Head.{Head}
 use Rattle.query.specs.declared.reading.Test.{Test}
 use Rattle.query.specs.declared.reading.Test.the-variants as test
-use Rattle.resolving.specs.declared.offending.Offending.{Offending}
-use Rattle.resolving.specs.declared.offending.Offending.the-variants as offending
+use Rattle.text.specs.declared.offending.Offending.{Offending}
+use Rattle.text.specs.declared.offending.Offending.the-variants as offending
 
 -- ---- the operators of the comparisons
 
@@ -115,7 +116,7 @@ module _ {d : Policy} {q : QueryForm} {t k : ℕ} (table : InTable d q t k) wher
       ∙ leftmost-only (missing (λ w. there (columnOf (columnsAt d t) w)) (namedWords q))
 
   module _ {s : List ℕ} {n : ℕ} {places numbers : List ℕ} {x : Offending} (r : Resolves (columnsAt d t) s n places x numbers) (words : wordsAt s n places ≡ namedWords q) where
-    pub resolves-unknown : offendingIn s x ≡ unknownColumn d q
+    pub resolves-unknown : offendingOf s x ≡ unknownColumn d q
     resolves-unknown = r .offends ∙ ap (missing (λ w. there (columnOf (columnsAt d t) w))) words ∙ sym column-unknown
 
     pub resolves-known : n ≤ 80 → x ≡ offending.Nothing → ColumnsKnown d s q t n places numbers
@@ -185,8 +186,8 @@ module _ {d : Policy} {s : List ℕ} (h : Head) {cs : Option (List Word)} {test 
       ∙ ap (λ ys. leftmost (map (λ x. mistyped (columnKind ys (x .of)) x) (comparisonsIn (conditionAt s test)))) (sym (columns-are table))
 
   pub types-judged : (x : Offending)
-      → (m ≤ 64 → chosen + m ≤ 80 → Compares (columnsAt d t) (map (comparedAt s) (take m ops)) (take m (drop chosen numbers)) → offendingIn s x ≡ leftmost (map (λ x. mistyped (columnKind (columnsAt d t) (x .of)) x) (map (comparedAt s) (take m ops))))
-      → offendingIn s x ≡ mistypedQuery d (asked s h cs test)
+      → (m ≤ 64 → chosen + m ≤ 80 → Compares (columnsAt d t) (map (comparedAt s) (take m ops)) (take m (drop chosen numbers)) → offendingOf s x ≡ leftmost (map (λ x. mistyped (columnKind (columnsAt d t) (x .of)) x) (map (comparedAt s) (take m ops))))
+      → offendingOf s x ≡ mistypedQuery d (asked s h cs test)
   types-judged x f = f (tests .few) (omega (arith, choice .few, tests .few)) compares ∙ types-are
 
   wanted-are : wantedOf (columnsOf d (wordOf s (h .table))) cs ≡ wantedBy selecting (take chosen numbers)
@@ -221,8 +222,8 @@ module _ {d : Policy} {s : List ℕ} (h : Head) (cs : Option (List Word)) (test 
       ∙ ap (λ y. closed purpose-of y (columnsOf d (wordOf s (h .table))) (namedWords (asked s h cs test))) (sym (scheme-is table))
 
   pub parts-judged : (x : Offending) {os : List Bool} → Opened d purpose-of os
-      → (n ≤ 80 → Opened d purpose-of os → take n numbers ≡ map (λ w. known (columnOf (columnsAt d t) w)) (wordsAt s n places) → offendingIn s x ≡ closed purpose-of (schemeAt d t) (columnsAt d t) (wordsAt s n places))
-      → offendingIn s x ≡ closedPart d (asked s h cs test)
+      → (n ≤ 80 → Opened d purpose-of os → take n numbers ≡ map (λ w. known (columnOf (columnsAt d t) w)) (wordsAt s n places) → offendingOf s x ≡ closed purpose-of (schemeAt d t) (columnsAt d t) (wordsAt s n places))
+      → offendingOf s x ≡ closedPart d (asked s h cs test)
   parts-judged x o f = f (columns .few) o (columns .numbered) ∙ parts-are
 
 pub prepared : {text ms ts ws : List ℕ} {c : Counts} {d : Doc} {s : List ℕ} (h : Head) {cs : Option (List Word)} {test : Test} {t n m chosen : ℕ}

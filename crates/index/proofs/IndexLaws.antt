@@ -98,6 +98,7 @@ module _ (d e : Policy) (new : List Attribute) (grown : e .attributes ≡ d .att
     few = n .few;
     are = listed-same (condRoleIn e text ws) (condRoleIn d text ws) k (λ i l. cond-same text ws i (n .known i l)) ∙ n .are;
     known = λ i l. known-grown (conditionIn text ws i) (n .known i l);
+    reads = n .reads;
   }
 
 -- ---- the policy e has the attributes of d
@@ -148,7 +149,7 @@ users-start d text ws = record { few = omega arith; are = refl }
 
 pub conds-start : (d : Policy) (text ws : List ℕ) → CondRoles d text ws 0 []
 unfolding listed
-conds-start d text ws = record { few = omega arith; are = refl; known = below-none _ }
+conds-start d text ws = record { few = omega arith; are = refl; known = below-none _; reads = below-none _ }
 
 -- ---- how many there are
 

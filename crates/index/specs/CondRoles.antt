@@ -18,7 +18,7 @@ use Rattle.text.specs.Reader.{Left, from}
 use Rattle.text.specs.Words.{plainWord, wordAt}
 use Rattle.index.specs.Cells.{lineIn}
 
--- a condition, where none was read: any will do
+-- a condition, where none was read: a default, which `CondRoles` excludes
 unfoldable pub noCondition : Cond Compared
 noCondition = test (record { op = eq; operator = plainWord []; of = plainWord []; value = plainWord [] })
 
@@ -46,10 +46,17 @@ condRoleEndIn ws i = getD ws (192 + i) 0
 -- where its condition stands in the line
 abbrev pub condRolePlaceIn : List ℕ → ℕ → ℕ
 condRolePlaceIn ws i = getD ws (256 + i) 0
+-- a condition can be read there
+unfoldable pub conditionReads : List ℕ → ℕ → ℕ → ℕ → Bool
+conditionReads text a e place = there (conditionInForm (from (lineIn text a e) place))
 
 -- that of the conditional role of number i
 unfoldable pub conditionIn : List ℕ → List ℕ → ℕ → Cond Compared
 conditionIn text ws i = conditionAt text (condRoleStartIn ws i) (condRoleEndIn ws i) (condRolePlaceIn ws i)
+
+-- the condition of the conditional role of number i can be read again
+unfoldable pub readsIn : List ℕ → List ℕ → ℕ → Bool
+readsIn text ws i = conditionReads text (condRoleStartIn ws i) (condRoleEndIn ws i) (condRolePlaceIn ws i)
 
 -- the policy knows the attributes that the condition compares
 unfoldable pub attributesKnown : Policy → Cond Compared → Bool
@@ -66,3 +73,4 @@ pub record CondRoles (d : Policy) (text ws : List ℕ) (k : ℕ) (cs : List Cond
   pub few : k ≤ 64
   pub are : listed (condRoleIn d text ws) k ≡ cs
   pub known : (i : ℕ) → i < k → attributesKnown d (conditionIn text ws i) ≡ true
+  pub reads : (i : ℕ) → i < k → readsIn text ws i ≡ true

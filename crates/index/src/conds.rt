@@ -12,7 +12,7 @@ ghost use mathlib.Core.Path.{_≡_};
 ghost use Rattle.condition.specs.Cond.{mapCond};
 ghost use Rattle.document.specs.Meaning.{attributeComparison};
 ghost use Rattle.document.specs.Policy.{CondRole, Policy};
-ghost use Rattle.index.specs.CondRoles.{CondRoles, attributesKnown, condRoleEndIn, condRolePlaceIn, condRoleRoleIn, condRoleStartIn, conditionAt};
+ghost use Rattle.index.specs.CondRoles.{CondRoles, attributesKnown, condRoleEndIn, condRolePlaceIn, condRoleRoleIn, condRoleStartIn, conditionAt, conditionReads};
 ghost use Rattle.index.specs.Found.{FoundBelow, foundAs};
 ghost use Rattle.lists.specs.Lists.{findIndex};
 ghost use Rattle.text.specs.Words.{isCalled, wordAt, wordOf};
@@ -53,7 +53,7 @@ fn store_cond_role(
     place: usize,
 )
     requires { ⌜ (k < 64) × (256 + k < length (now ws)) ⌝ }
-    ensures { λ r. ⌜ ((d : Policy) (text : List ℕ) (cs : List CondRole) → CondRoles d text (now (ws .entry)) k cs → attributesKnown d (conditionAt text start end place) ≡ true → CondRoles d text (now (ws .exit)) (k + 1) (cs ++ (record { name = wordAt text pos; role = role; condition = mapCond (attributeComparison d) (conditionAt text start end place) } ∷ []))) ⌝ }
+    ensures { λ r. ⌜ ((d : Policy) (text : List ℕ) (cs : List CondRole) → CondRoles d text (now (ws .entry)) k cs → attributesKnown d (conditionAt text start end place) ≡ true → conditionReads text start end place ≡ true → CondRoles d text (now (ws .exit)) (k + 1) (cs ++ (record { name = wordAt text pos; role = role; condition = mapCond (attributeComparison d) (conditionAt text start end place) } ∷ []))) ⌝ }
 {
     ws[k] = pos;
     ws[ROLE_AT + k] = role;
@@ -73,7 +73,7 @@ pub fn add_cond_role(
     end: usize,
     place: usize,
 )
-    ensures { λ r. ⌜ ((d : Policy) (text : List ℕ) (cs : List CondRole) → CondRoles d text (now (ws .entry)) k cs → k < 64 → attributesKnown d (conditionAt text start end place) ≡ true → CondRoles d text (now (ws .exit)) (k + 1) (cs ++ (record { name = wordAt text pos; role = role; condition = mapCond (attributeComparison d) (conditionAt text start end place) } ∷ []))) ⌝ }
+    ensures { λ r. ⌜ ((d : Policy) (text : List ℕ) (cs : List CondRole) → CondRoles d text (now (ws .entry)) k cs → k < 64 → attributesKnown d (conditionAt text start end place) ≡ true → conditionReads text start end place ≡ true → CondRoles d text (now (ws .exit)) (k + 1) (cs ++ (record { name = wordAt text pos; role = role; condition = mapCond (attributeComparison d) (conditionAt text start end place) } ∷ []))) ⌝ }
 {
     if k < COND_ROLES {
         store_cond_role(ws, k, pos, role, start, end, place);

@@ -10,8 +10,9 @@ use purpose::WORDS;
 use purpose::admits;
 use text::words::word_end;
 ghost use Prim.Native.Nat.{_+_, _<_, _≤_, ℕ};
-ghost use lib.ListN.{drop, getElem?, length, take};
+ghost use lib.ListN.{drop, getD, getElem?, length, take};
 ghost use lib.Seq.{paste};
+ghost use mathlib.Core.Bool.{false};
 ghost use mathlib.Core.List.{List, [], _++_, _∷_};
 ghost use mathlib.Core.Option.{some};
 ghost use mathlib.Core.Path.{_≡_};
@@ -157,4 +158,14 @@ pub fn open_labels(closure: Closure, sets: &[u64; SET_WORDS], k: usize, opened: 
     ensures { λ _. ⌜ ((text ws : List ℕ) (d : Policy) (p : ℕ) → Labels text ws (now (sets .entry)) k (d .labels) → ClosureOf (treeOf (d .purposes)) p closure → Opened d p (now (opened .exit))) ⌝ }
 {
     fill_open(closure, sets, k, opened);
+}
+
+// Whether label l is open, by what was stored of each label; one that is not there is closed.
+pub fn opened_at(opened: &[bool], l: usize) -> bool
+    ensures { λ r. ⌜ r ≡ getD (now (opened .entry)) l false ⌝ }
+{
+    if l < opened.len() {
+        return opened[l];
+    }
+    false
 }

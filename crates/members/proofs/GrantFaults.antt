@@ -16,8 +16,9 @@ use Rattle.document.specs.ValueFaults.{misfit}
 use Rattle.stepping.proofs.FoundLaws.{found-absent, found-there}
 use Rattle.stepping.proofs.Outcomes.{says-bound, says-fine, says-unknown}
 use Rattle.stepping.specs.Judged.{Judges}
-use Rattle.stepping.specs.declared.fault.Fault.{Fault}
-use Rattle.stepping.specs.declared.fault.Fault.the-variants.{Fine, Item, Whole}
+use Rattle.stepping.specs.declared.fault.Fault.the-variants.{Item, Whole}
+use Rattle.stepping.specs.declared.fault.Verdict.{Verdict}
+use Rattle.stepping.specs.declared.fault.Verdict.the-variants.{Faulty, Fine}
 use Rattle.form.specs.Form.{grant}
 use Rattle.index.specs.CondRoles.{CondRoles}
 use Rattle.index.specs.Found.{foundAs}
@@ -37,10 +38,10 @@ module _ (text ws : List ℕ) (m : ℕ) (conds : List ℕ) (cn k : ℕ) (line : 
   abbrev Placed′ : Type 0
   Placed′ = (p ≤ length line) × (c ≤ length line)
 
-  abbrev Says : Fault → Type 0
+  abbrev Says : Verdict → Type 0
   Says f = Judges Held Placed′ line (grant (wordOf line p) (wordOf line c)) k 128 f
 
-  pub grant-full : 128 ≤ k → Says (Whole OverBound)
+  pub grant-full : 128 ≤ k → Says (Faulty (Whole OverBound))
   unfolding overBound
   grant-full l =
       says-bound Held Placed′ line (grant (wordOf line p) (wordOf line c)) k 128
@@ -55,7 +56,7 @@ module _ (text ws : List ℕ) (m : ℕ) (conds : List ℕ) (cn k : ℕ) (line : 
     unfolding taken
     untaken d h = refl
 
-    pub grant-purpose : x ≡ Nothing → Says (Item NameUnknown p)
+    pub grant-purpose : x ≡ Nothing → Says (Faulty (Item NameUnknown p))
     unfolding unknown purposeOf condRoleOf
     grant-purpose e =
         says-unknown Held Placed′ line (grant (wordOf line p) (wordOf line c)) k 128 roomy untaken p (λ q. q .0)
@@ -63,7 +64,7 @@ module _ (text ws : List ℕ) (m : ℕ) (conds : List ℕ) (cn k : ℕ) (line : 
 
     module _ (n : ℕ) (e : x ≡ At n)
         (y : Found) (is′ : (d : Policy) (cs : List CondRole) → CondRoles d text conds cn cs → foundAs y ≡ findIndex (λ z. isCalled (wordOf line c) (z .name)) cs) where
-      pub grant-cond : y ≡ Nothing → Says (Item NameUnknown c)
+      pub grant-cond : y ≡ Nothing → Says (Faulty (Item NameUnknown c))
       unfolding unknown purposeOf condRoleOf
       grant-cond e′ =
           says-unknown Held Placed′ line (grant (wordOf line p) (wordOf line c)) k 128 roomy untaken c (λ q. q .1)

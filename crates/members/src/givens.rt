@@ -1,6 +1,9 @@
 // The values of a user line, `(A v) (B w) ..`: walking through them again, and what is wrong with them.
 use condition::kinds::Kind;
 use condition::kinds::has_kind;
+use form::walks::first_in;
+use form::walks::pair_end;
+use form::walks::second_in;
 use index::attributes::attribute_kind;
 use index::attributes::attribute_role;
 use index::attributes::find_attribute;
@@ -10,10 +13,8 @@ use index::layout::ATTRIBUTES;
 use index::layout::ROLE_CELLS;
 use index::names::role_below;
 use text::bytes::byte_at;
-use text::walking::next_word;
-use text::walking::skip_byte;
+use text::offending::Offending;
 use text::words::same_name;
-use text::words::word_end;
 ghost use Prim.Native.Nat.{ℕ};
 ghost use lib.ListN.{getElem?, length, take};
 ghost use mathlib.Core.List.{List, map};
@@ -23,8 +24,8 @@ ghost use Rattle.condition.specs.Kinds.{hasKind};
 ghost use Rattle.document.specs.Lookup.{attributeKind, attributeOf, hasAttribute};
 ghost use Rattle.document.specs.Policy.{Attribute, Policy};
 ghost use Rattle.document.specs.ValueFaults.{givesAll, isAttributeOf};
-ghost use Rattle.stepping.specs.Places.{Near, wordFound};
-ghost use Rattle.form.specs.Walks.{firstIn, givensAt, pairEndAt, secondIn};
+ghost use Rattle.stepping.specs.Places.{Near};
+ghost use Rattle.form.specs.Walks.{givensAt};
 ghost use Rattle.index.specs.Attributes.{Attributes};
 ghost use Rattle.index.specs.Nodes.{Nodes};
 ghost use Rattle.lists.specs.Distinct.{NoTwoSame};
@@ -32,28 +33,7 @@ ghost use Rattle.lists.specs.Lists.{allOf, anyOf, countOf, there};
 ghost use Rattle.text.specs.Names.{sameName};
 ghost use Rattle.text.specs.Offending.{leftmost, missing, repeated, unless};
 ghost use Rattle.text.specs.Words.{isCalled, wordAt, wordOf};
-
-// Where the first word stands in a bracket that opens at a place.
-fn first_in(line: &[u8], at: usize) -> usize
-    ensures { λ r. ⌜ r ≡ firstIn (now (line .entry)) at ⌝ }
-{
-    skip_byte(line, at, b'(')
-}
-
-// Where its second word stands.
-fn second_in(line: &[u8], at: usize) -> usize
-    ensures { λ r. ⌜ r ≡ secondIn (now (line .entry)) at ⌝ }
-{
-    next_word(line, skip_byte(line, at, b'('))
-}
-
-// Where a bracket of two words ends.
-fn pair_end(line: &[u8], at: usize) -> usize
-    ensures { λ r. ⌜ r ≡ pairEndAt (now (line .entry)) at ⌝ }
-{
-    let v = second_in(line, at);
-    skip_byte(line, word_end(line, v), b')')
-}
+ghost use Rattle.text.specs.CodeEnds.{offendingOf};
 
 // Whether the name at a place is an attribute.
 fn attribute_known(
@@ -79,18 +59,18 @@ pub(crate) fn first_unknown_given(
     k: usize,
     line: &[u8],
     gs: usize,
-) -> Found
-    ensures { λ r. ⌜ ((d : Policy) → Attributes (now (text .entry)) (now (attributes .entry)) k (d .attributes) → wordFound (now (line .entry)) r ≡ missing (λ w. there (attributeOf d w)) (map (λ g. g .attribute) (givensAt (now (line .entry)) gs))) × Near (now (line .entry)) r ⌝ }
+) -> Offending
+    ensures { λ r. ⌜ ((d : Policy) → Attributes (now (text .entry)) (now (attributes .entry)) k (d .attributes) → offendingOf (now (line .entry)) r ≡ missing (λ w. there (attributeOf d w)) (map (λ g. g .attribute) (givensAt (now (line .entry)) gs))) × Near (now (line .entry)) r ⌝ }
 {
     let mut j = gs;
     while byte_at(line, j) == b' ' {
         let a = first_in(line, j + 1);
         if !attribute_known(text, attributes, k, line, a) {
-            return Found::At(a);
+            return Offending::At(a);
         }
         j = pair_end(line, j + 1);
     }
-    Found::Nothing
+    Offending::Nothing
 }
 
 // Whether the name at w is among the attributes of the first n values.
@@ -278,17 +258,17 @@ pub(crate) fn first_mistyped_given(
     k: usize,
     line: &[u8],
     gs: usize,
-) -> Found
-    ensures { λ r. ⌜ ((d : Policy) → Attributes (now (text .entry)) (now (attributes .entry)) k (d .attributes) → wordFound (now (line .entry)) r ≡ leftmost (map (λ g. unless (hasKind (attributeKind d (g .attribute)) (g .value .bytes)) (g .value)) (givensAt (now (line .entry)) gs))) × Near (now (line .entry)) r ⌝ }
+) -> Offending
+    ensures { λ r. ⌜ ((d : Policy) → Attributes (now (text .entry)) (now (attributes .entry)) k (d .attributes) → offendingOf (now (line .entry)) r ≡ leftmost (map (λ g. unless (hasKind (attributeKind d (g .attribute)) (g .value .bytes)) (g .value)) (givensAt (now (line .entry)) gs))) × Near (now (line .entry)) r ⌝ }
 {
     let mut j = gs;
     while byte_at(line, j) == b' ' {
         let a = first_in(line, j + 1);
         let v = second_in(line, j + 1);
         if !value_fits(text, attributes, k, line, a, v) {
-            return Found::At(v);
+            return Offending::At(v);
         }
         j = pair_end(line, j + 1);
     }
-    Found::Nothing
+    Offending::Nothing
 }

@@ -6,6 +6,7 @@ use index::layout::GRANTS;
 use index::layout::PURPOSE_CELLS;
 use index::names::find_purpose;
 use stepping::fault::Fault;
+use stepping::fault::Verdict;
 use text::refusals::Reason;
 ghost use Prim.Native.Nat.{_≤_};
 ghost use lib.ListN.{length};
@@ -28,17 +29,17 @@ pub fn grant_fault(
     line: &[u8],
     p: usize,
     c: usize,
-) -> Fault
+) -> Verdict
     ensures { λ r. ⌜ Judges (λ d. Nodes limit (now (text .entry)) (now (purposes .entry)) «purposes_count» (d .policy .purposes) × CondRoles (d .policy) (now (text .entry)) (now (conds .entry)) «conds_count» (d .policy .condRoles) × (k ≡ length (d .policy .grants))) ((p ≤ length (now (line .entry))) × (c ≤ length (now (line .entry)))) (now (line .entry)) (grant (wordOf (now (line .entry)) p) (wordOf (now (line .entry)) c)) k 128 r ⌝ }
 {
     if GRANTS <= k {
-        return Fault::Whole(Reason::OverBound);
+        return Verdict::Faulty(Fault::Whole(Reason::OverBound));
     }
     if let Found::Nothing = find_purpose(text, purposes, purposes_count, line, p) {
-        return Fault::Item(Reason::NameUnknown, p);
+        return Verdict::Faulty(Fault::Item(Reason::NameUnknown, p));
     }
     if let Found::Nothing = find_cond_role(text, conds, conds_count, line, c) {
-        return Fault::Item(Reason::NameUnknown, c);
+        return Verdict::Faulty(Fault::Item(Reason::NameUnknown, c));
     }
-    Fault::Fine
+    Verdict::Fine
 }

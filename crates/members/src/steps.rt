@@ -10,8 +10,8 @@ use index::layout::GRANT_CELLS;
 use index::layout::PURPOSE_CELLS;
 use index::layout::ROLE_CELLS;
 use index::layout::USER_CELLS;
+use stepping::fault::Verdict;
 use stepping::step::Step;
-use stepping::step::is_fine;
 ghost use Prim.Native.Nat.{_≤_, ℕ};
 ghost use lib.ListN.{length};
 ghost use mathlib.Core.List.{List};
@@ -55,13 +55,13 @@ pub fn step_user(
         r,
         gs,
     );
-    if is_fine(f) {
-        store_user(text, roles, c.roles, users, k, at, line, u, r, gs);
-        let mut next = c;
-        next.users = k + 1;
-        return Step::Goes(next);
+    if let Verdict::Faulty(wrong) = f {
+        return Step::Fails(wrong);
     }
-    Step::Fails(f)
+    store_user(text, roles, c.roles, users, k, at, line, u, r, gs);
+    let mut next = c;
+    next.users = k + 1;
+    Step::Goes(next)
 }
 
 // A grant of the purpose at p to the conditional role at h.
@@ -80,22 +80,22 @@ pub fn step_grant(
 {
     let k = c.grants;
     let f = grant_fault(text, purposes, c.purposes, conds, c.conds, k, line, p, h);
-    if is_fine(f) {
-        store_grant(
-            text,
-            purposes,
-            c.purposes,
-            conds,
-            c.conds,
-            grants,
-            k,
-            line,
-            p,
-            h,
-        );
-        let mut next = c;
-        next.grants = k + 1;
-        return Step::Goes(next);
+    if let Verdict::Faulty(wrong) = f {
+        return Step::Fails(wrong);
     }
-    Step::Fails(f)
+    store_grant(
+        text,
+        purposes,
+        c.purposes,
+        conds,
+        c.conds,
+        grants,
+        k,
+        line,
+        p,
+        h,
+    );
+    let mut next = c;
+    next.grants = k + 1;
+    Step::Goes(next)
 }

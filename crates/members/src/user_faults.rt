@@ -10,6 +10,8 @@ use index::layout::USERS;
 use index::names::find_role;
 use index::users::find_user;
 use stepping::fault::Fault;
+use stepping::fault::Verdict;
+use text::offending::Offending;
 use text::refusals::Reason;
 ghost use Prim.Native.Nat.{_≤_};
 ghost use lib.ListN.{length};
@@ -35,30 +37,30 @@ pub fn user_fault(
     u: usize,
     r: usize,
     gs: usize,
-) -> Fault
+) -> Verdict
     ensures { λ f. ⌜ Judges (λ d. Nodes 64 (now (text .entry)) (now (roles .entry)) rcount (d .policy .roles) × Attributes (now (text .entry)) (now (attributes .entry)) acount (d .policy .attributes) × Users (d .policy) (now (text .entry)) (now (users .entry)) k (d .policy .users) × UniqueNames (d .policy)) ((u ≤ length (now (line .entry))) × (r ≤ length (now (line .entry))) × (gs ≤ length (now (line .entry)))) (now (line .entry)) (user (wordOf (now (line .entry)) u) (wordOf (now (line .entry)) r) (givensAt (now (line .entry)) gs)) k 256 f ⌝ }
 {
     if USERS <= k {
-        return Fault::Whole(Reason::OverBound);
+        return Verdict::Faulty(Fault::Whole(Reason::OverBound));
     }
     let role = find_role(text, roles, rcount, line, r);
     let Found::At(n) = role else {
-        return Fault::Item(Reason::NameUnknown, r);
+        return Verdict::Faulty(Fault::Item(Reason::NameUnknown, r));
     };
     let twice = find_user(text, users, k, line, u, n);
     let Found::Nothing = twice else {
-        return Fault::Item(Reason::NameTaken, r);
+        return Verdict::Faulty(Fault::Item(Reason::NameTaken, r));
     };
     let unknown = first_unknown_given(text, attributes, acount, line, gs);
-    if let Found::At(v) = unknown {
-        return Fault::Item(Reason::NameUnknown, v);
+    if let Offending::At(v) = unknown {
+        return Verdict::Faulty(Fault::Item(Reason::NameUnknown, v));
     }
     if !gives_all(text, roles, rcount, attributes, acount, n, line, gs) {
-        return Fault::Whole(Reason::WrongValues);
+        return Verdict::Faulty(Fault::Whole(Reason::WrongValues));
     }
     let wrong = first_mistyped_given(text, attributes, acount, line, gs);
     match wrong {
-        Found::At(v) => Fault::Item(Reason::WrongType, v),
-        Found::Nothing => Fault::Fine,
+        Offending::At(v) => Verdict::Faulty(Fault::Item(Reason::WrongType, v)),
+        Offending::Nothing => Verdict::Fine,
     }
 }

@@ -26,8 +26,9 @@ use Rattle.purpose.specs.Members.{limit}
 use Rattle.text.proofs.OffendingLaws.{missing-here, missing-next, missing-nil}
 use Rattle.text.specs.Offending.{missing, offendingIf}
 use Rattle.text.specs.Words.{Word, isCalled, wordOf}
-use Rattle.stepping.specs.declared.fault.Fault.{Fault}
-use Rattle.stepping.specs.declared.fault.Fault.the-variants.{Fine, Item, Whole}
+use Rattle.stepping.specs.declared.fault.Fault.the-variants.{Item, Whole}
+use Rattle.stepping.specs.declared.fault.Verdict.{Verdict}
+use Rattle.stepping.specs.declared.fault.Verdict.the-variants.{Faulty, Fine}
 use Rattle.index.specs.declared.found.Found.{Found}
 use Rattle.index.specs.declared.found.Found.the-variants.{At, Nothing}
 use Rattle.text.specs.declared.refusals.Reason.the-variants.{NameTaken, NameUnknown, OverBound, SecondRoot}
@@ -88,10 +89,10 @@ module _ (nodes : Policy → List Node) (form : Word → Option Word → Form) (
   Held d = Nodes room text ws k (nodes (d .policy))
 
   module _ (p : Option Word) (Placed : Type 0) where
-    abbrev Says : Fault → Type 0
+    abbrev Says : Verdict → Type 0
     Says r = Judges Held Placed line (form (wordOf line n) p) k room r
 
-    pub node-full : room ≤ k → Says (Whole OverBound)
+    pub node-full : room ≤ k → Says (Faulty (Whole OverBound))
     node-full l =
         says-bound Held Placed line (form (wordOf line n) p) k room
         (λ d h. kind .bound d (wordOf line n) p ∙ le-leb room (length (nodes (d .policy))) (omega (arith, nodes-length h, l)))
@@ -100,7 +101,7 @@ module _ (nodes : Policy → List Node) (form : Word → Option Word → Form) (
       roomy : (d : Doc) → Held d → overBound d (form (wordOf line n) p) ≡ false
       roomy d h = kind .bound d (wordOf line n) p ∙ lt-leb room (length (nodes (d .policy))) (omega (arith, nodes-length h, l))
 
-      pub node-taken : (x : ℕ) → r ≡ At x → (Placed → n ≤ length line) → Says (Item NameTaken n)
+      pub node-taken : (x : ℕ) → r ≡ At x → (Placed → n ≤ length line) → Says (Faulty (Item NameTaken n))
       unfolding offendingIf
       node-taken x e q =
           says-taken Held Placed line (form (wordOf line n) p) k room roomy n q
@@ -111,7 +112,7 @@ module _ (nodes : Policy → List Node) (form : Word → Option Word → Form) (
         unfolding offendingIf
         fresh d h = kind .taken (d .policy) (wordOf line n) p ∙ ap (λ b. offendingIf b (wordOf line n)) (found-absent r _ (is (nodes (d .policy)) h) e)
 
-        pub node-second : p ≡ none → ((d : Doc) → Held d → secondRoot (d .policy) (form (wordOf line n) p) ≡ true) → Says (Whole SecondRoot)
+        pub node-second : p ≡ none → ((d : Doc) → Held d → secondRoot (d .policy) (form (wordOf line n) p) ≡ true) → Says (Faulty (Whole SecondRoot))
         node-second q s =
             says-root Held Placed line (form (wordOf line n) p) k room roomy fresh
             (λ d h. kind .unknown (d .policy) (wordOf line n) p ∙ ap (λ o. missing (isNode (nodes (d .policy))) (listed o)) q ∙ no-name (nodes (d .policy))) s
@@ -126,7 +127,7 @@ module _ (nodes : Policy → List Node) (form : Word → Option Word → Form) (
             l
             (λ d h. kind .early (d .policy) (wordOf line n) p)
 
-        pub node-unknown : (v : ℕ) → (Placed → v ≤ length line) → ((d : Doc) → Held d → missing (isNode (nodes (d .policy))) (listed p) ≡ some (wordOf line v)) → Says (Item NameUnknown v)
+        pub node-unknown : (v : ℕ) → (Placed → v ≤ length line) → ((d : Doc) → Held d → missing (isNode (nodes (d .policy))) (listed p) ≡ some (wordOf line v)) → Says (Faulty (Item NameUnknown v))
         node-unknown v q u =
             says-unknown Held Placed line (form (wordOf line n) p) k room roomy fresh v q
             (λ d h. kind .unknown (d .policy) (wordOf line n) p ∙ u d h)
@@ -135,7 +136,7 @@ module _ (nodes : Policy → List Node) (form : Word → Option Word → Form) (
   module _ (v : ℕ) (Placed : Type 0) (l : k < room)
       (r : Found) (is : (ns : List Node) → Nodes room text ws k ns → foundAs r ≡ findIndex (λ x. isCalled (wordOf line n) (x .name)) ns) (e : r ≡ Nothing)
       (r′ : Found) (is′ : (ns : List Node) → Nodes room text ws k ns → foundAs r′ ≡ findIndex (λ x. isCalled (wordOf line v) (x .name)) ns) where
-    pub below-unknown : r′ ≡ Nothing → (Placed → v ≤ length line) → Says (some (wordOf line v)) Placed (Item NameUnknown v)
+    pub below-unknown : r′ ≡ Nothing → (Placed → v ≤ length line) → Says (some (wordOf line v)) Placed (Faulty (Item NameUnknown v))
     below-unknown e′ q =
         node-unknown (some (wordOf line v)) Placed l r is e v q
         (λ d h. one-unknown (nodes (d .policy)) (wordOf line v) (found-absent r′ _ (is′ (nodes (d .policy)) h) e′))

@@ -7,6 +7,7 @@ use index::layout::ROLES;
 use index::names::find_purpose;
 use index::names::find_role;
 use stepping::fault::Fault;
+use stepping::fault::Verdict;
 use text::refusals::Reason;
 ghost use Prim.Native.Nat.{_≤_};
 ghost use lib.ListN.{length};
@@ -24,19 +25,19 @@ pub fn purpose_root_fault(
     k: usize,
     line: &[u8],
     n: usize,
-) -> Fault
+) -> Verdict
     ensures { λ r. ⌜ Judges (λ d. Nodes limit (now (text .entry)) (now (purposes .entry)) k (d .policy .purposes)) (n ≤ length (now (line .entry))) (now (line .entry)) (purpose (wordOf (now (line .entry)) n) none) k limit r ⌝ }
 {
     if PURPOSES <= k {
-        return Fault::Whole(Reason::OverBound);
+        return Verdict::Faulty(Fault::Whole(Reason::OverBound));
     }
     if let Found::At(_) = find_purpose(text, purposes, k, line, n) {
-        return Fault::Item(Reason::NameTaken, n);
+        return Verdict::Faulty(Fault::Item(Reason::NameTaken, n));
     }
     if 0 < k {
-        return Fault::Whole(Reason::SecondRoot);
+        return Verdict::Faulty(Fault::Whole(Reason::SecondRoot));
     }
-    Fault::Fine
+    Verdict::Fine
 }
 
 // A purpose below the one whose name stands at p.
@@ -47,19 +48,19 @@ pub fn purpose_below_fault(
     line: &[u8],
     n: usize,
     p: usize,
-) -> Fault
+) -> Verdict
     ensures { λ r. ⌜ Judges (λ d. Nodes limit (now (text .entry)) (now (purposes .entry)) k (d .policy .purposes)) ((n ≤ length (now (line .entry))) × (p ≤ length (now (line .entry)))) (now (line .entry)) (purpose (wordOf (now (line .entry)) n) (some (wordOf (now (line .entry)) p))) k limit r ⌝ }
 {
     if PURPOSES <= k {
-        return Fault::Whole(Reason::OverBound);
+        return Verdict::Faulty(Fault::Whole(Reason::OverBound));
     }
     if let Found::At(_) = find_purpose(text, purposes, k, line, n) {
-        return Fault::Item(Reason::NameTaken, n);
+        return Verdict::Faulty(Fault::Item(Reason::NameTaken, n));
     }
     if let Found::Nothing = find_purpose(text, purposes, k, line, p) {
-        return Fault::Item(Reason::NameUnknown, p);
+        return Verdict::Faulty(Fault::Item(Reason::NameUnknown, p));
     }
-    Fault::Fine
+    Verdict::Fine
 }
 
 // A root role, whose name stands at n of the line, behind k roles.
@@ -69,16 +70,16 @@ pub fn role_root_fault(
     k: usize,
     line: &[u8],
     n: usize,
-) -> Fault
+) -> Verdict
     ensures { λ r. ⌜ Judges (λ d. Nodes 64 (now (text .entry)) (now (roles .entry)) k (d .policy .roles)) (n ≤ length (now (line .entry))) (now (line .entry)) (role (wordOf (now (line .entry)) n) none) k 64 r ⌝ }
 {
     if ROLES <= k {
-        return Fault::Whole(Reason::OverBound);
+        return Verdict::Faulty(Fault::Whole(Reason::OverBound));
     }
     if let Found::At(_) = find_role(text, roles, k, line, n) {
-        return Fault::Item(Reason::NameTaken, n);
+        return Verdict::Faulty(Fault::Item(Reason::NameTaken, n));
     }
-    Fault::Fine
+    Verdict::Fine
 }
 
 // A role below the one whose name stands at p.
@@ -89,17 +90,17 @@ pub fn role_below_fault(
     line: &[u8],
     n: usize,
     p: usize,
-) -> Fault
+) -> Verdict
     ensures { λ r. ⌜ Judges (λ d. Nodes 64 (now (text .entry)) (now (roles .entry)) k (d .policy .roles)) ((n ≤ length (now (line .entry))) × (p ≤ length (now (line .entry)))) (now (line .entry)) (role (wordOf (now (line .entry)) n) (some (wordOf (now (line .entry)) p))) k 64 r ⌝ }
 {
     if ROLES <= k {
-        return Fault::Whole(Reason::OverBound);
+        return Verdict::Faulty(Fault::Whole(Reason::OverBound));
     }
     if let Found::At(_) = find_role(text, roles, k, line, n) {
-        return Fault::Item(Reason::NameTaken, n);
+        return Verdict::Faulty(Fault::Item(Reason::NameTaken, n));
     }
     if let Found::Nothing = find_role(text, roles, k, line, p) {
-        return Fault::Item(Reason::NameUnknown, p);
+        return Verdict::Faulty(Fault::Item(Reason::NameUnknown, p));
     }
-    Fault::Fine
+    Verdict::Fine
 }

@@ -10,8 +10,8 @@ use crate::storing::store_role_root;
 use index::counts::Counts;
 use index::layout::PURPOSE_CELLS;
 use index::layout::ROLE_CELLS;
+use stepping::fault::Verdict;
 use stepping::step::Step;
-use stepping::step::is_fine;
 ghost use Prim.Native.Nat.{_≤_, ℕ};
 ghost use lib.ListN.{length};
 ghost use mathlib.Core.List.{List};
@@ -37,13 +37,13 @@ pub fn step_purpose_root(
 {
     let k = c.purposes;
     let f = purpose_root_fault(text, purposes, k, line, n);
-    if is_fine(f) {
-        store_purpose_root(text, purposes, k, at, line, n);
-        let mut next = c;
-        next.purposes = k + 1;
-        return Step::Goes(next);
+    if let Verdict::Faulty(wrong) = f {
+        return Step::Fails(wrong);
     }
-    Step::Fails(f)
+    store_purpose_root(text, purposes, k, at, line, n);
+    let mut next = c;
+    next.purposes = k + 1;
+    Step::Goes(next)
 }
 
 // A purpose below the one whose name stands at p.
@@ -60,13 +60,13 @@ pub fn step_purpose_below(
 {
     let k = c.purposes;
     let f = purpose_below_fault(text, purposes, k, line, n, p);
-    if is_fine(f) {
-        store_purpose_below(text, purposes, k, at, line, n, p);
-        let mut next = c;
-        next.purposes = k + 1;
-        return Step::Goes(next);
+    if let Verdict::Faulty(wrong) = f {
+        return Step::Fails(wrong);
     }
-    Step::Fails(f)
+    store_purpose_below(text, purposes, k, at, line, n, p);
+    let mut next = c;
+    next.purposes = k + 1;
+    Step::Goes(next)
 }
 
 // A root role, whose name stands at n.
@@ -82,13 +82,13 @@ pub fn step_role_root(
 {
     let k = c.roles;
     let f = role_root_fault(text, roles, k, line, n);
-    if is_fine(f) {
-        store_role_root(text, roles, k, at, line, n);
-        let mut next = c;
-        next.roles = k + 1;
-        return Step::Goes(next);
+    if let Verdict::Faulty(wrong) = f {
+        return Step::Fails(wrong);
     }
-    Step::Fails(f)
+    store_role_root(text, roles, k, at, line, n);
+    let mut next = c;
+    next.roles = k + 1;
+    Step::Goes(next)
 }
 
 // A role below the one whose name stands at p.
@@ -105,11 +105,11 @@ pub fn step_role_below(
 {
     let k = c.roles;
     let f = role_below_fault(text, roles, k, line, n, p);
-    if is_fine(f) {
-        store_role_below(text, roles, k, at, line, n, p);
-        let mut next = c;
-        next.roles = k + 1;
-        return Step::Goes(next);
+    if let Verdict::Faulty(wrong) = f {
+        return Step::Fails(wrong);
     }
-    Step::Fails(f)
+    store_role_below(text, roles, k, at, line, n, p);
+    let mut next = c;
+    next.roles = k + 1;
+    Step::Goes(next)
 }

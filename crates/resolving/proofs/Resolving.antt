@@ -17,7 +17,7 @@ use Rattle.resolving.specs.Resolved.{Resolves}
 use Rattle.text.proofs.OffendingLaws.{missing-here, missing-next, missing-nil}
 use Rattle.text.specs.Offending.{missing}
 use Rattle.text.specs.Words.{Word, wordOf}
-use Rattle.resolving.specs.declared.offending.Offending.the-variants as offending
+use Rattle.text.specs.declared.offending.Offending.the-variants as offending
 
 -- one of the columns has this name
 abbrev has : List Column → Word → Bool

@@ -3,27 +3,21 @@ use Prim.Native.Nat.{ℕ}
 use lib.ListN.{take}
 use mathlib.Core.Bool.{true}
 use mathlib.Core.List.{List, map}
-use mathlib.Core.Option.{Option, none, some}
 use mathlib.Core.Path.{_≡_}
 use Rattle.condition.specs.CondForm.{Compared}
 use Rattle.document.specs.Lookup.{columnOf}
 use Rattle.document.specs.Policy.{Column}
 use Rattle.lists.specs.Lists.{allOf, known, there}
 use Rattle.query.specs.Naming.{wordsAt}
+use Rattle.text.specs.CodeEnds.{offendingOf}
 use Rattle.text.specs.Offending.{missing}
-use Rattle.text.specs.Words.{Word, wordOf}
-use Rattle.resolving.specs.declared.offending.Offending.{Offending}
-use Rattle.resolving.specs.declared.offending.Offending.the-variants as offending
-
--- the word at the place that the code's answer names, if it names one
-abbrev pub offendingIn : List ℕ → Offending → Option Word
-offendingIn s offending.Nothing = none
-offendingIn s (offending.At at) = some (wordOf s at)
+use Rattle.text.specs.declared.offending.Offending.{Offending}
+use Rattle.text.specs.declared.offending.Offending.the-variants as offending
 
 -- the first n words name columns: the answer names the first that none of the columns has, and where there is none the first n
 -- numbers are those of the columns
 pub record Resolves (cs : List Column) (s : List ℕ) (n : ℕ) (places : List ℕ) (r : Offending) (numbers : List ℕ) : Type 0 where
-  pub offends : offendingIn s r ≡ missing (λ w. there (columnOf cs w)) (wordsAt s n places)
+  pub offends : offendingOf s r ≡ missing (λ w. there (columnOf cs w)) (wordsAt s n places)
   pub numbered : r ≡ offending.Nothing → take n numbers ≡ map (λ w. known (columnOf cs w)) (wordsAt s n places)
 
 -- the numbers are those of the columns that the comparisons name, and all of these are there

@@ -1,8 +1,8 @@
 // The columns that a query names, by number (15).
-use crate::offending::Offending;
 use index::found::Found;
 use index::layout::TABLE_CELLS;
 use index::tables::find_column;
+use text::offending::Offending;
 ghost use Prim.Native.Nat.{_<_, _≤_, ℕ};
 ghost use lib.ListN.{length};
 ghost use Rattle.document.specs.Lookup.{columnsAt};

@@ -1,6 +1,5 @@
 // The names of a query resolved against a document, and what is wrong with them: 12, 13 and 15 to 17.
 pub mod columns;
-pub mod offending;
 pub mod openness;
 pub mod parties;
 pub mod types;

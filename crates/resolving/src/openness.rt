@@ -1,13 +1,14 @@
 // What of a table is closed to a purpose (17).
 use crate::columns::NAMED;
-use crate::offending::Offending;
 use form::lines::Scheme;
+use index::labels::opened_at;
 use index::layout::LABELS;
 use index::layout::TABLE_CELLS;
 use index::tables::column_label;
 use index::tables::table_label;
 use index::tables::table_scheme;
 use index::tables::table_width;
+use text::offending::Offending;
 ghost use Prim.Native.Nat.{_<_, _≤_, ℕ};
 ghost use lib.ListN.{getD, getElem?, length, take};
 ghost use mathlib.Core.Bool.{false};
@@ -21,19 +22,9 @@ ghost use Rattle.index.specs.Tables.{Tables, columnLabelIn};
 ghost use Rattle.index.specs.Listed.{listed};
 ghost use Rattle.lists.specs.Lists.{known};
 ghost use Rattle.query.specs.Naming.{wordsAt};
-ghost use Rattle.resolving.specs.Resolved.{offendingIn};
+ghost use Rattle.text.specs.CodeEnds.{offendingOf};
 ghost use Rattle.text.specs.Offending.{leftmost, missing, unless};
 ghost use Rattle.text.specs.Words.{wordOf};
-
-// Whether the label of this number is open; one that is not there is closed.
-fn label_is_open(opened: &[bool], l: usize) -> bool
-    ensures { λ r. ⌜ r ≡ getD (now (opened .entry)) l false ⌝ }
-{
-    if l < opened.len() {
-        return opened[l];
-    }
-    false
-}
 
 // Whether the table is open, as a whole.
 fn table_open(tables: &[usize; TABLE_CELLS], t: usize, opened: &[bool]) -> bool
@@ -42,7 +33,7 @@ fn table_open(tables: &[usize; TABLE_CELLS], t: usize, opened: &[bool]) -> bool
     let scheme = table_scheme(tables, t);
     match scheme {
         Scheme::Unlabelled => true,
-        Scheme::ByTable => label_is_open(opened, table_label(tables, t)),
+        Scheme::ByTable => opened_at(opened, table_label(tables, t)),
         Scheme::ByColumn => true,
         Scheme::ByRow => true,
         Scheme::ByCell => true,
@@ -54,7 +45,7 @@ fn column_open(tables: &[usize; TABLE_CELLS], t: usize, opened: &[bool], c: usiz
     ensures { λ r. ⌜ ((d : Policy) (text : List ℕ) (k p : ℕ) → Tables text (now (tables .entry)) k (d .tables) → t < k → Opened d p (now (opened .entry)) → r ≡ labelOpen d p (getElem? (listed (columnLabelIn (now (tables .entry)) t) (length (columnsAt d t))) c)) ⌝ }
 {
     if c < table_width(tables, t) {
-        return label_is_open(opened, column_label(tables, t, c));
+        return opened_at(opened, column_label(tables, t, c));
     }
     false
 }
@@ -68,7 +59,7 @@ fn first_closed(
     n: usize,
     columns: &[usize],
 ) -> Offending
-    ensures { λ x. ⌜ ((d : Policy) (text s : List ℕ) (k p : ℕ) → Tables text (now (tables .entry)) k (d .tables) → t < k → n ≤ length (now (places .entry)) → n ≤ length (now (columns .entry)) → Opened d p (now (opened .entry)) → take n (now (columns .entry)) ≡ map (λ w. known (columnOf (columnsAt d t) w)) (wordsAt s n (now (places .entry))) → offendingIn s x ≡ missing (λ w. labelOpen d p (getElem? (listed (columnLabelIn (now (tables .entry)) t) (length (columnsAt d t))) (known (columnOf (columnsAt d t) w)))) (wordsAt s n (now (places .entry)))) ⌝ }
+    ensures { λ x. ⌜ ((d : Policy) (text s : List ℕ) (k p : ℕ) → Tables text (now (tables .entry)) k (d .tables) → t < k → n ≤ length (now (places .entry)) → n ≤ length (now (columns .entry)) → Opened d p (now (opened .entry)) → take n (now (columns .entry)) ≡ map (λ w. known (columnOf (columnsAt d t) w)) (wordsAt s n (now (places .entry))) → offendingOf s x ≡ missing (λ w. labelOpen d p (getElem? (listed (columnLabelIn (now (tables .entry)) t) (length (columnsAt d t))) (known (columnOf (columnsAt d t) w)))) (wordsAt s n (now (places .entry)))) ⌝ }
 {
     let mut i = 0;
     while i < n {
@@ -95,7 +86,7 @@ fn closed_column(
     n: usize,
     columns: &[usize],
 ) -> Offending
-    ensures { λ x. ⌜ ((d : Policy) (text s : List ℕ) (k p : ℕ) → Tables text (now (tables .entry)) k (d .tables) → t < k → n ≤ length (now (places .entry)) → n ≤ length (now (columns .entry)) → Opened d p (now (opened .entry)) → take n (now (columns .entry)) ≡ map (λ w. known (columnOf (columnsAt d t) w)) (wordsAt s n (now (places .entry))) → offendingIn s x ≡ missing (λ w. columnOpen (labelOpen d p) (schemeAt d t) (known (columnOf (columnsAt d t) w))) (wordsAt s n (now (places .entry)))) ⌝ }
+    ensures { λ x. ⌜ ((d : Policy) (text s : List ℕ) (k p : ℕ) → Tables text (now (tables .entry)) k (d .tables) → t < k → n ≤ length (now (places .entry)) → n ≤ length (now (columns .entry)) → Opened d p (now (opened .entry)) → take n (now (columns .entry)) ≡ map (λ w. known (columnOf (columnsAt d t) w)) (wordsAt s n (now (places .entry))) → offendingOf s x ≡ missing (λ w. columnOpen (labelOpen d p) (schemeAt d t) (known (columnOf (columnsAt d t) w))) (wordsAt s n (now (places .entry)))) ⌝ }
 {
     let scheme = table_scheme(tables, t);
     match scheme {
@@ -118,7 +109,7 @@ pub fn closed_part(
     n: usize,
     columns: &[usize; NAMED],
 ) -> Offending
-    ensures { λ x. ⌜ ((d : Policy) (text : List ℕ) (k p : ℕ) → Tables text (now (tables .entry)) k (d .tables) → t < k → n ≤ 80 → Opened d p (now (opened .entry)) → take n (now (columns .entry)) ≡ map (λ w. known (columnOf (columnsAt d t) w)) (wordsAt (now (query .entry)) n (now (places .entry))) → offendingIn (now (query .entry)) x ≡ leftmost (unless (tableOpen (labelOpen d p) (schemeAt d t)) (wordOf (now (query .entry)) at) ∷ missing (λ w. columnOpen (labelOpen d p) (schemeAt d t) (known (columnOf (columnsAt d t) w))) (wordsAt (now (query .entry)) n (now (places .entry))) ∷ [])) ⌝ }
+    ensures { λ x. ⌜ ((d : Policy) (text : List ℕ) (k p : ℕ) → Tables text (now (tables .entry)) k (d .tables) → t < k → n ≤ 80 → Opened d p (now (opened .entry)) → take n (now (columns .entry)) ≡ map (λ w. known (columnOf (columnsAt d t) w)) (wordsAt (now (query .entry)) n (now (places .entry))) → offendingOf (now (query .entry)) x ≡ leftmost (unless (tableOpen (labelOpen d p) (schemeAt d t)) (wordOf (now (query .entry)) at) ∷ missing (λ w. columnOpen (labelOpen d p) (schemeAt d t) (known (columnOf (columnsAt d t) w))) (wordsAt (now (query .entry)) n (now (places .entry))) ∷ [])) ⌝ }
 {
     if !table_open(tables, t, opened) {
         return Offending::At(at);

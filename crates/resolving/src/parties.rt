@@ -1,5 +1,4 @@
 // The user, the role and the purpose of a query.
-use crate::offending::Offending;
 use index::found::Found;
 use index::layout::PURPOSE_CELLS;
 use index::layout::ROLE_CELLS;
@@ -9,6 +8,7 @@ use index::names::find_role;
 use index::users::find_user;
 use index::users::user_named;
 use query::reading::Head;
+use text::offending::Offending;
 ghost use mathlib.Core.List.{List};
 ghost use mathlib.Core.Option.{Option};
 ghost use mathlib.Core.Path.{_≡_};
@@ -22,7 +22,7 @@ ghost use Rattle.index.specs.Users.{Users};
 ghost use Rattle.purpose.specs.Members.{limit};
 ghost use Rattle.query.specs.Asked.{queryWith};
 ghost use Rattle.query.specs.Query.{unknownParty};
-ghost use Rattle.resolving.specs.Resolved.{offendingIn};
+ghost use Rattle.text.specs.CodeEnds.{offendingOf};
 ghost use Rattle.text.specs.Words.{Word, wordOf};
 
 // The first of user, role and purpose that the document does not know (12).
@@ -37,7 +37,7 @@ pub fn unknown_party(
     query: &[u8],
     h: Head,
 ) -> Offending
-    ensures { λ x. ⌜ ((d : Policy) (cs : Option (List Word)) (c : Option (Cond Compared)) → Nodes limit (now (text .entry)) (now (purposes .entry)) pcount (d .purposes) → Nodes 64 (now (text .entry)) (now (roles .entry)) rcount (d .roles) → Users d (now (text .entry)) (now (users .entry)) ucount (d .users) → offendingIn (now (query .entry)) x ≡ unknownParty d (queryWith (now (query .entry)) h cs c)) ⌝ }
+    ensures { λ x. ⌜ ((d : Policy) (cs : Option (List Word)) (c : Option (Cond Compared)) → Nodes limit (now (text .entry)) (now (purposes .entry)) pcount (d .purposes) → Nodes 64 (now (text .entry)) (now (roles .entry)) rcount (d .roles) → Users d (now (text .entry)) (now (users .entry)) ucount (d .users) → offendingOf (now (query .entry)) x ≡ unknownParty d (queryWith (now (query .entry)) h cs c)) ⌝ }
 {
     if !user_named(text, users, ucount, query, h.user) {
         return Offending::At(h.user);

@@ -1,10 +1,9 @@
 // The types of a query's condition (16).
 use crate::columns::NAMED;
-use crate::offending::Offending;
-use condition::comparisons::Wrong;
 use condition::comparisons::wrong_type;
 use index::layout::TABLE_CELLS;
 use index::tables::column_kind;
+use text::offending::Offending;
 ghost use Prim.Native.Nat.{_+_, _<_, _≤_, ℕ};
 ghost use lib.ListN.{drop, length, take};
 ghost use mathlib.Core.List.{List, map};
@@ -14,7 +13,8 @@ ghost use Rattle.condition.specs.CondForm.{mistyped};
 ghost use Rattle.document.specs.Lookup.{columnKind, columnsAt};
 ghost use Rattle.document.specs.Policy.{Policy};
 ghost use Rattle.index.specs.Tables.{Tables};
-ghost use Rattle.resolving.specs.Resolved.{Compares, offendingIn};
+ghost use Rattle.resolving.specs.Resolved.{Compares};
+ghost use Rattle.text.specs.CodeEnds.{offendingOf};
 ghost use Rattle.text.specs.Offending.{leftmost};
 
 // What mistyped_comparison finds, by places and numbers in lists of any length: of a slice the proof knows the length.
@@ -27,7 +27,7 @@ fn first_mistyped(
     columns: &[usize],
     base: usize,
 ) -> Offending
-    ensures { λ x. ⌜ ((d : Policy) (text : List ℕ) (k : ℕ) → Tables text (now (tables .entry)) k (d .tables) → t < k → m ≤ length (now (ops .entry)) → base + m ≤ length (now (columns .entry)) → Compares (columnsAt d t) (map (comparedAt (now (query .entry))) (take m (now (ops .entry)))) (take m (drop base (now (columns .entry)))) → offendingIn (now (query .entry)) x ≡ leftmost (map (λ x. mistyped (columnKind (columnsAt d t) (x .of)) x) (map (comparedAt (now (query .entry))) (take m (now (ops .entry)))))) ⌝ }
+    ensures { λ x. ⌜ ((d : Policy) (text : List ℕ) (k : ℕ) → Tables text (now (tables .entry)) k (d .tables) → t < k → m ≤ length (now (ops .entry)) → base + m ≤ length (now (columns .entry)) → Compares (columnsAt d t) (map (comparedAt (now (query .entry))) (take m (now (ops .entry)))) (take m (drop base (now (columns .entry)))) → offendingOf (now (query .entry)) x ≡ leftmost (map (λ x. mistyped (columnKind (columnsAt d t) (x .of)) x) (map (comparedAt (now (query .entry))) (take m (now (ops .entry)))))) ⌝ }
 {
     let mut j = 0;
     let mut c = base;
@@ -40,7 +40,7 @@ fn first_mistyped(
         }
         let kind = column_kind(tables, t, columns[c]);
         let w = wrong_type(query, ops[j], kind);
-        if let Wrong::At(p) = w {
+        if let Offending::At(p) = w {
             return Offending::At(p);
         }
         j += 1;
@@ -60,7 +60,7 @@ pub fn mistyped_comparison(
     columns: &[usize; NAMED],
     base: usize,
 ) -> Offending
-    ensures { λ x. ⌜ ((d : Policy) (text : List ℕ) (k : ℕ) → Tables text (now (tables .entry)) k (d .tables) → t < k → m ≤ 64 → base + m ≤ 80 → Compares (columnsAt d t) (map (comparedAt (now (query .entry))) (take m (now (ops .entry)))) (take m (drop base (now (columns .entry)))) → offendingIn (now (query .entry)) x ≡ leftmost (map (λ x. mistyped (columnKind (columnsAt d t) (x .of)) x) (map (comparedAt (now (query .entry))) (take m (now (ops .entry)))))) ⌝ }
+    ensures { λ x. ⌜ ((d : Policy) (text : List ℕ) (k : ℕ) → Tables text (now (tables .entry)) k (d .tables) → t < k → m ≤ 64 → base + m ≤ 80 → Compares (columnsAt d t) (map (comparedAt (now (query .entry))) (take m (now (ops .entry)))) (take m (drop base (now (columns .entry)))) → offendingOf (now (query .entry)) x ≡ leftmost (map (λ x. mistyped (columnKind (columnsAt d t) (x .of)) x) (map (comparedAt (now (query .entry))) (take m (now (ops .entry)))))) ⌝ }
 {
     first_mistyped(tables, t, query, ops, m, columns, base)
 }

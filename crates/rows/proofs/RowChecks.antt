@@ -8,14 +8,13 @@ use mathlib.Core.Option.{Option, Option·none-ne-some, Option·some-injective, n
 use mathlib.Core.Path.{_∙_, _≡_, ap, refl, subst, sym}
 use native.Mathlib.Numerals.{add-one}
 use Rattle.condition.specs.Kinds.{Kind, hasKind}
-use Rattle.document.proofs.RowItems.{item-bracket, item-plain}
 use Rattle.document.specs.Lookup.{columnsAt}
 use Rattle.document.specs.NameFaults.{bracketLabels}
 use Rattle.document.specs.Policy.{Column, Policy}
 use Rattle.document.specs.TypeFaults.{mistypedValue}
 use Rattle.rows.proofs.RowItems.{values-more, values-stop}
 use Rattle.rows.specs.RowWords.{labelAt, valueAt, valuesAt}
-use Rattle.form.proofs.WalkSteps.{items-more, items-stop}
+use Rattle.form.proofs.WalkSteps.{item-bracket, item-plain, items-more, items-stop}
 use Rattle.form.specs.Form.{Item, labelled, plain}
 use Rattle.form.specs.Walks.{cellLabelIn, firstIn, itemAt, itemEndAt, itemsAt}
 use Rattle.index.proofs.TableLaws.{column-at, column-inside, table-inside, width-read}

@@ -8,11 +8,10 @@ use mathlib.Core.List.{List, [], _∷_}
 use mathlib.Core.Option.{Option, Option·map, Option·none-ne-some, Option·some-injective, none, some}
 use mathlib.Core.Path.{_∙_, _≡_, ap, refl, sym}
 use native.Mathlib.Omega.{arith}
-use Rattle.document.proofs.RowItems.{item-bracket, item-plain}
 use Rattle.document.specs.ValueFaults.{bracketValues, plainValues, valuesBehindLabel}
 use Rattle.rows.specs.RowWords.{shapedValues, valueAt, valuesAt}
 use Rattle.form.proofs.WalkLaws.{item-onward, walk-more, walk-stop}
-use Rattle.form.proofs.WalkSteps.{items-more, items-stop}
+use Rattle.form.proofs.WalkSteps.{item-bracket, item-plain, items-more, items-stop}
 use Rattle.form.specs.Form.{Item, labelled, plain}
 use Rattle.form.specs.Walks.{firstIn, itemAt, itemEndAt, itemsAt, listAt, listUpTo}
 use Rattle.lists.proofs.ListLaws.{map-inv}

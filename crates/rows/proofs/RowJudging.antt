@@ -18,7 +18,6 @@ use Rattle.document.specs.TypeFaults.{mistypedValue, wrongType}
 use Rattle.document.specs.ValueFaults.{misfit, rowValues}
 use Rattle.stepping.proofs.Judging.{judge-bound, judge-fine, judge-type, judge-unknown, judge-values}
 use Rattle.rows.proofs.RowItems.{width-fits}
-use Rattle.stepping.specs.Places.{Near, wordFound}
 use Rattle.rows.specs.RowWords.{valuesAt}
 use Rattle.form.specs.Form.{Item, Scheme, row}
 use Rattle.index.proofs.TableLaws.{scheme-read, width-read}
@@ -27,17 +26,16 @@ use Rattle.index.specs.Tables.{Cut, Tables, columnCountIn, columnLabelIn, colum
 use Rattle.index.specs.Listed.{listed}
 use Rattle.index.specs.declared.found.Found.{Found}
 use Rattle.index.specs.declared.found.Found.the-variants as found
+use Rattle.text.specs.declared.offending.Offending.{Offending}
+use Rattle.text.specs.declared.offending.Offending.the-variants as offending
 use Rattle.form.specs.declared.lines.Scheme as coded
 use Rattle.lists.proofs.ListLaws.{holdsOf-some}
 use Rattle.lists.specs.Lists.{known, there}
 use Rattle.text.proofs.OffendingLaws.{leftmost-fail, leftmost-on}
+use Rattle.text.specs.CodeEnds.{offendingOf}
 use Rattle.text.specs.Offending.{leftmost, missing, unless}
 use Rattle.text.specs.Refusal.{accepted, document, pointing, pointingAll, refused}
 use Rattle.text.specs.Words.{Word, wordOf}
-
--- a place that was found lies in the line
-pub near-at : (s : List ℕ) (r : Found) (v : ℕ) → r ≡ found.At v → Near s r → v ≤ length s
-near-at s r v e n = subst (Near s) e n
 
 -- a number that was found is below k
 below-at : (r : Found) (x k : ℕ) → r ≡ found.At x → FoundBelow r k → x < k
@@ -118,7 +116,7 @@ module _ (d : Doc) (line : List ℕ) (w : Word) (is : List Item) (k : ℕ) (coun
 module _ (text tables line : List ℕ) (n k t : ℕ) (is : List Item) (d : Doc) (h : Tables text tables n (d .policy .tables)) (counted : k ≡ length (d .rows)) (room : k < 1024)
     (r : Found) (lookup : foundAs r ≡ tableOf (d .policy) (wordOf line t)) (below : FoundBelow r n) (x : ℕ) (told : r ≡ found.At x)
     (s : coded.Scheme) (reads : x < 8 → schemeIn tables x ≡ schemeBy s (tableLabelIn tables x) (columnLabelsIn tables x))
-    (u : Found) (label : (l : ℕ) (ls : List ℕ) → wordFound line u ≡ missing (λ w. there (labelOf (d .policy) w)) (rowLabels (schemeBy s l ls) is)) where
+    (u : Offending) (label : (l : ℕ) (ls : List ℕ) → offendingOf line u ≡ missing (λ w. there (labelOf (d .policy) w)) (rowLabels (schemeBy s l ls) is)) where
   abbrev schemeRead : Scheme ℕ
   schemeRead = schemeBy s (tableLabelIn tables x) (listed (columnLabelIn tables x) (length (columnsAt (d .policy) x)))
 
@@ -131,16 +129,16 @@ module _ (text tables line : List ℕ) (n k t : ℕ) (is : List Item) (d : Doc) 
   scheme-of : schemeAt (d .policy) x ≡ schemeRead
   scheme-of = scheme-read text tables n x (d .policy) h inside s reads
 
-  label-is : wordFound line u ≡ missing (λ w. there (labelOf (d .policy) w)) (rowLabels schemeRead is)
+  label-is : offendingOf line u ≡ missing (λ w. there (labelOf (d .policy) w)) (rowLabels schemeRead is)
   label-is = label (tableLabelIn tables x) (listed (columnLabelIn tables x) (length (columnsAt (d .policy) x)))
 
-  pub found-unknown : (p : ℕ) → u ≡ found.At p → checkForm d line (row (wordOf line t) is) ≡ refused (pointing 5 document (wordOf line p))
-  found-unknown p e = row-unknown d line (wordOf line t) is k counted room x table-is schemeRead scheme-of (wordOf line p) (sym label-is ∙ ap (wordFound line) e)
+  pub found-unknown : (p : ℕ) → u ≡ offending.At p → checkForm d line (row (wordOf line t) is) ≡ refused (pointing 5 document (wordOf line p))
+  found-unknown p e = row-unknown d line (wordOf line t) is k counted room x table-is schemeRead scheme-of (wordOf line p) (sym label-is ∙ ap (offendingOf line) e)
 
-  module _ (none-unknown : u ≡ found.Nothing) (width : ℕ) (wide : Cut 16 x 8 (columnCountIn tables x) width)
+  module _ (none-unknown : u ≡ offending.Nothing) (width : ℕ) (wide : Cut 16 x 8 (columnCountIn tables x) width)
       (b : Bool) (fits : (l : ℕ) (ls : List ℕ) → b ≡ width-fits width (rowValues (schemeBy s l ls) is)) where
     labelled-all : missing (λ w. there (labelOf (d .policy) w)) (rowLabels schemeRead is) ≡ none
-    labelled-all = sym label-is ∙ ap (wordFound line) none-unknown
+    labelled-all = sym label-is ∙ ap (offendingOf line) none-unknown
 
     fits-is : width-fits (length (columnsAt (d .policy) x)) (rowValues schemeRead is) ≡ b
     fits-is =
@@ -151,21 +149,21 @@ module _ (text tables line : List ℕ) (n k t : ℕ) (is : List Item) (d : Doc) 
     found-misfit e = row-misfit d line (wordOf line t) is k counted room x table-is schemeRead scheme-of labelled-all (fits-is ∙ e)
 
     module _ (fit : b ≡ true) (start : ℕ) (values : (l : ℕ) (ls : List ℕ) (ws : List Word) → rowValues (schemeBy s l ls) is ≡ some ws → valuesAt line start ≡ ws)
-        (m : Found) (types : x < n → wordFound line m ≡ mistypedValue (columnsAt (d .policy) x) (valuesAt line start)) where
+        (m : Offending) (types : x < n → offendingOf line m ≡ mistypedValue (columnsAt (d .policy) x) (valuesAt line start)) where
       found-values : (ws : List Word) × (rowValues schemeRead is ≡ some ws) × (eqb (length ws) (length (columnsAt (d .policy) x)) ≡ true)
       found-values = holdsOf-some (λ ws. eqb (length ws) (length (columnsAt (d .policy) x))) (rowValues schemeRead is) (fits-is ∙ fit)
 
-      types-of : wordFound line m ≡ mistypedValue (columnsAt (d .policy) x) (found-values .0)
+      types-of : offendingOf line m ≡ mistypedValue (columnsAt (d .policy) x) (found-values .0)
       types-of =
           types inside
           ∙ ap (mistypedValue (columnsAt (d .policy) x)) (values (tableLabelIn tables x) (listed (columnLabelIn tables x) (length (columnsAt (d .policy) x))) (found-values .0) (found-values .1))
 
-      pub found-mistyped : (p : ℕ) → m ≡ found.At p → checkForm d line (row (wordOf line t) is) ≡ refused (pointing 8 document (wordOf line p))
+      pub found-mistyped : (p : ℕ) → m ≡ offending.At p → checkForm d line (row (wordOf line t) is) ≡ refused (pointing 8 document (wordOf line p))
       found-mistyped p e =
           row-mistyped d line (wordOf line t) is k counted room x table-is schemeRead scheme-of labelled-all (fits-is ∙ fit) (found-values .0) (found-values .1) (wordOf line p)
-          (sym types-of ∙ ap (wordFound line) e)
+          (sym types-of ∙ ap (offendingOf line) e)
 
-      pub found-fine : m ≡ found.Nothing → checkForm d line (row (wordOf line t) is) ≡ accepted (add d (row (wordOf line t) is))
+      pub found-fine : m ≡ offending.Nothing → checkForm d line (row (wordOf line t) is) ≡ accepted (add d (row (wordOf line t) is))
       found-fine e =
           row-fine d line (wordOf line t) is k counted room x table-is schemeRead scheme-of labelled-all (fits-is ∙ fit) (found-values .0) (found-values .1)
-          (sym types-of ∙ ap (wordFound line) e)
+          (sym types-of ∙ ap (offendingOf line) e)

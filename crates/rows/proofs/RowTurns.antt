@@ -17,8 +17,8 @@ use Rattle.stepping.proofs.PlaceLaws.{written-placed}
 use Rattle.stepping.specs.Stored.{LineAt, RowFilled}
 use Rattle.text.proofs.WalkingLaws.{past-within}
 use Rattle.text.specs.Numbers.{Value}
-use Rattle.text.specs.Walking.{past, wordEndAt, writtenEndAt}
-use Rattle.text.specs.Words.{Word, wordAt, wordOf, writtenAt, writtenOf}
+use Rattle.text.specs.Walking.{writtenEndAt}
+use Rattle.text.specs.Words.{Word, wordOf, writtenAt, writtenOf}
 
 -- of all the values and labels some were stored, and the others are left
 pub record Rowed (text before after : List ℕ) (k c m : ℕ) (all left : List Value) (labels behind : List ℕ) : Type 0 where
@@ -96,11 +96,6 @@ rowed-all {text} {before} {after} {k} {c} {m} g e f = record {
 
 -- ---- one turn of the loops
 
--- where the bracket of a value and a label ends, as the code finds it
-pub cell-ends : (s : List ℕ) (p q e : ℕ) → q ≡ cellLabelIn s p → e ≡ past 41 s (q + length (wordAt s q)) → e ≡ cellEndAt s p
-unfolding cellEndAt wordEndAt
-cell-ends s p q e second h = h ∙ ap (λ n. past 41 s (n + length (wordAt s n))) second
-
 module _ {text : List ℕ} {at : ℕ} {line : List ℕ} (l : LineAt text at line) (j e pos : ℕ) (space : getD line j 0 ≡ 32) (inside : j < length line) where
   pub value-turn : {before ws after : List ℕ} {k c m : ℕ} {ls : List ℕ} (is : ℕ) → (at + (j + 1) ≤ length text → pos ≡ at + (j + 1)) → e ≡ j + 1 + length (writtenAt line (j + 1)) → ValueStored ws after k c pos → k < 1024 → length (plainAt line is) ≤ 16
       → Rowed text before ws k c m (map (λ w. w .bytes) (plainAt line is)) (map (λ w. w .bytes) (plainAt line j)) ls []
@@ -112,8 +107,8 @@ module _ {text : List ℕ} {at : ℕ} {line : List ℕ} (l : LineAt text at line
       (plain-more line j space ∙ ap (λ n. writtenOf line (j + 1) ∷ plainAt line n) (sym ends)) g)
       small (subst (λ n. n ≤ 16) (sym (length-map (plainAt line is) (λ (w : Word). w .bytes))) few) s (written-placed l (j + 1) pos (omega arith) placed)
 
-  pub cell-turn : {before ws mid after : List ℕ} {k c : ℕ} (d : Policy) (is w q label : ℕ) → w ≡ past 40 line (j + 1) → q ≡ cellLabelIn line (j + 1) → (at + w ≤ length text → pos ≡ at + w) → label ≡ known (labelOf d (wordOf line q))
-      → e ≡ past 41 line (q + length (wordAt line q)) → ValueStored ws mid k c pos → LabelStored mid after k c label → k < 1024 → length (cellsAt line is) ≤ 16
+  pub cell-turn : {before ws mid after : List ℕ} {k c : ℕ} (d : Policy) (is w q label : ℕ) → w ≡ firstIn line (j + 1) → q ≡ cellLabelIn line (j + 1) → (at + w ≤ length text → pos ≡ at + w) → label ≡ known (labelOf d (wordOf line q))
+      → e ≡ cellEndAt line (j + 1) → ValueStored ws mid k c pos → LabelStored mid after k c label → k < 1024 → length (cellsAt line is) ≤ 16
       → Rowed text before ws k c c (map (λ g. g .0 .bytes) (cellsAt line is)) (map (λ g. g .0 .bytes) (cellsAt line j)) (map (λ g. known (labelOf d (g .1))) (cellsAt line is)) (map (λ g. known (labelOf d (g .1))) (cellsAt line j))
       → Rowed text before after k (c + 1) (c + 1) (map (λ g. g .0 .bytes) (cellsAt line is)) (map (λ g. g .0 .bytes) (cellsAt line e)) (map (λ g. known (labelOf d (g .1))) (cellsAt line is)) (map (λ g. known (labelOf d (g .1))) (cellsAt line e))
   unfolding cellAt firstIn
@@ -122,7 +117,7 @@ module _ {text : List ℕ} {at : ℕ} {line : List ℕ} (l : LineAt text at line
       rowed-label (known (labelOf d (wordOf line (cellLabelIn line (j + 1)))))
       (rowed-value (writtenAt line (firstIn line (j + 1)))
       (subst (λ (xs : List (Word × Word)). Rowed text before ws k c c (map (λ g. g .0 .bytes) (cellsAt line is)) (map (λ g. g .0 .bytes) xs) (map (λ g. known (labelOf d (g .1))) (cellsAt line is)) (map (λ g. known (labelOf d (g .1))) xs))
-      (cells-more line j space ∙ ap (λ n. cellAt line (j + 1) ∷ cellsAt line n) (sym (cell-ends line (j + 1) q e second ends))) g)
+      (cells-more line j space ∙ ap (λ n. cellAt line (j + 1) ∷ cellsAt line n) (sym ends)) g)
       small (subst (λ n. n ≤ 16) (sym (length-map (cellsAt line is) (λ (g : Word × Word). g .0 .bytes))) few) s (written-placed l w pos within placed ∙ ap (writtenAt line) first))
       small (subst (λ n. n ≤ 16) (sym (length-map (cellsAt line is) (λ (g : Word × Word). known (labelOf d (g .1))))) few) t
       (named ∙ ap (λ n. known (labelOf d (wordOf line n))) second)

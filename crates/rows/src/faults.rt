@@ -1,13 +1,14 @@
 // What is wrong with a row form.
 use crate::items::behind_first;
-use crate::items::cell_label;
-use crate::items::item_end_at;
 use crate::items::leads;
 use crate::items::led_values_fit;
 use crate::items::values_fit;
 use condition::kinds::Kind;
 use condition::kinds::has_kind;
 use form::lines::Scheme;
+use form::walks::cell_label;
+use form::walks::first_in;
+use form::walks::item_end_at;
 use index::found::Found;
 use index::labels::find_label;
 use index::layout::LABELS;
@@ -18,9 +19,10 @@ use index::tables::find_table;
 use index::tables::table_scheme;
 use index::tables::table_width;
 use stepping::fault::Fault;
+use stepping::fault::Verdict;
 use text::bytes::byte_at;
+use text::offending::Offending;
 use text::refusals::Reason;
-use text::walking::skip_byte;
 ghost use Prim.Native.Nat.{_+_, _<_, _≤_, ℕ};
 ghost use lib.Dec.{eqb};
 ghost use lib.ListN.{length};
@@ -35,7 +37,7 @@ ghost use Rattle.document.specs.Policy.{Policy};
 ghost use Rattle.document.specs.TypeFaults.{mistypedValue};
 ghost use Rattle.document.specs.ValueFaults.{rowValues};
 ghost use Rattle.stepping.specs.Judged.{Judges};
-ghost use Rattle.stepping.specs.Places.{Near, wordFound};
+ghost use Rattle.stepping.specs.Places.{Near};
 ghost use Rattle.rows.specs.RowWords.{labelAt, valuesAt};
 ghost use Rattle.form.specs.Form.{row};
 ghost use Rattle.form.specs.Walks.{itemAt, itemsAt};
@@ -44,6 +46,7 @@ ghost use Rattle.index.specs.Tables.{Tables, schemeBy};
 ghost use Rattle.lists.specs.Lists.{holdsOf, there};
 ghost use Rattle.text.specs.Offending.{missing, unless};
 ghost use Rattle.text.specs.Words.{Word, wordOf, writtenAt};
+ghost use Rattle.text.specs.CodeEnds.{offendingOf};
 
 // Whether the items from a position on are shaped for the scheme, with as many values as this.
 fn row_fits(scheme: Scheme, line: &[u8], at: usize, width: usize) -> bool
@@ -79,25 +82,25 @@ fn typed(line: &[u8], at: usize, kind: Kind) -> bool
 }
 
 // The first value of the items from a position on that is not of its column's type.
-fn first_mistyped(tables: &[usize; TABLE_CELLS], t: usize, line: &[u8], at: usize) -> Found
-    ensures { λ r. ⌜ ((text : List ℕ) (k : ℕ) (d : Policy) → Tables text (now (tables .entry)) k (d .tables) → t < k → wordFound (now (line .entry)) r ≡ mistypedValue (columnsAt d t) (valuesAt (now (line .entry)) at)) × Near (now (line .entry)) r ⌝ }
+fn first_mistyped(tables: &[usize; TABLE_CELLS], t: usize, line: &[u8], at: usize) -> Offending
+    ensures { λ r. ⌜ ((text : List ℕ) (k : ℕ) (d : Policy) → Tables text (now (tables .entry)) k (d .tables) → t < k → offendingOf (now (line .entry)) r ≡ mistypedValue (columnsAt d t) (valuesAt (now (line .entry)) at)) × Near (now (line .entry)) r ⌝ }
 {
     let n = table_width(tables, t);
     let mut c = 0;
     let mut i = at;
     while c < n {
         if byte_at(line, i) != b' ' {
-            return Found::Nothing;
+            return Offending::Nothing;
         }
-        let v = skip_byte(line, i + 1, b'(');
+        let v = first_in(line, i + 1);
         let kind = column_kind(tables, t, c);
         if !typed(line, v, kind) {
-            return Found::At(v);
+            return Offending::At(v);
         }
         c += 1;
         i = item_end_at(line, i + 1);
     }
-    Found::Nothing
+    Offending::Nothing
 }
 
 // Whether the label of the item at a position is known; where it has none, there is nothing to know.
@@ -121,30 +124,36 @@ fn first_unknown_label(
     k: usize,
     line: &[u8],
     at: usize,
-) -> Found
-    ensures { λ r. ⌜ ((sets : List ℕ) (d : Policy) → Labels (now (text .entry)) (now (labels .entry)) sets k (d .labels) → wordFound (now (line .entry)) r ≡ missing (λ w. there (labelOf d w)) (bracketLabels (itemsAt (now (line .entry)) at))) × Near (now (line .entry)) r ⌝ }
+) -> Offending
+    ensures { λ r. ⌜ ((sets : List ℕ) (d : Policy) → Labels (now (text .entry)) (now (labels .entry)) sets k (d .labels) → offendingOf (now (line .entry)) r ≡ missing (λ w. there (labelOf d w)) (bracketLabels (itemsAt (now (line .entry)) at))) × Near (now (line .entry)) r ⌝ }
 {
     let mut i = at;
     while byte_at(line, i) == b' ' {
         if !label_known(text, labels, k, line, i + 1) {
-            return Found::At(cell_label(line, i + 1));
+            return Offending::At(cell_label(line, i + 1));
         }
         i = item_end_at(line, i + 1);
     }
-    Found::Nothing
+    Offending::Nothing
 }
 
 // The first item, if it is a name without a bracket and no known label.
-fn leading_unknown(text: &[u8], labels: &[usize; LABELS], k: usize, line: &[u8], at: usize) -> Found
-    ensures { λ r. ⌜ ((sets : List ℕ) (d : Policy) → Labels (now (text .entry)) (now (labels .entry)) sets k (d .labels) → wordFound (now (line .entry)) r ≡ missing (λ w. there (labelOf d w)) (leadingName (itemsAt (now (line .entry)) at))) × Near (now (line .entry)) r ⌝ }
+fn leading_unknown(
+    text: &[u8],
+    labels: &[usize; LABELS],
+    k: usize,
+    line: &[u8],
+    at: usize,
+) -> Offending
+    ensures { λ r. ⌜ ((sets : List ℕ) (d : Policy) → Labels (now (text .entry)) (now (labels .entry)) sets k (d .labels) → offendingOf (now (line .entry)) r ≡ missing (λ w. there (labelOf d w)) (leadingName (itemsAt (now (line .entry)) at))) × Near (now (line .entry)) r ⌝ }
 {
     if !leads(line, at) {
-        return Found::Nothing;
+        return Offending::Nothing;
     }
     let f = find_label(text, labels, k, line, at + 1);
     match f {
-        Found::At(_) => Found::Nothing,
-        Found::Nothing => Found::At(at + 1),
+        Found::At(_) => Offending::Nothing,
+        Found::Nothing => Offending::At(at + 1),
     }
 }
 
@@ -156,13 +165,13 @@ fn unknown_label(
     k: usize,
     line: &[u8],
     at: usize,
-) -> Found
-    ensures { λ r. ⌜ ((sets : List ℕ) (d : Policy) (l : ℕ) (ls : List ℕ) → Labels (now (text .entry)) (now (labels .entry)) sets k (d .labels) → wordFound (now (line .entry)) r ≡ missing (λ w. there (labelOf d w)) (rowLabels (schemeBy scheme l ls) (itemsAt (now (line .entry)) at))) × Near (now (line .entry)) r ⌝ }
+) -> Offending
+    ensures { λ r. ⌜ ((sets : List ℕ) (d : Policy) (l : ℕ) (ls : List ℕ) → Labels (now (text .entry)) (now (labels .entry)) sets k (d .labels) → offendingOf (now (line .entry)) r ≡ missing (λ w. there (labelOf d w)) (rowLabels (schemeBy scheme l ls) (itemsAt (now (line .entry)) at))) × Near (now (line .entry)) r ⌝ }
 {
     match scheme {
-        Scheme::Unlabelled => Found::Nothing,
-        Scheme::ByTable => Found::Nothing,
-        Scheme::ByColumn => Found::Nothing,
+        Scheme::Unlabelled => Offending::Nothing,
+        Scheme::ByTable => Offending::Nothing,
+        Scheme::ByColumn => Offending::Nothing,
         Scheme::ByRow => leading_unknown(text, labels, k, line, at),
         Scheme::ByCell => first_unknown_label(text, labels, k, line, at),
     }
@@ -179,27 +188,27 @@ pub fn row_fault(
     line: &[u8],
     t: usize,
     is: usize,
-) -> Fault
+) -> Verdict
     ensures { λ r. ⌜ Judges (λ d. ((sets : List ℕ) × Labels (now (text .entry)) (now (labels .entry)) sets «labels_count» (d .policy .labels)) × Tables (now (text .entry)) (now (tables .entry)) «tables_count» (d .policy .tables) × (k ≡ length (d .rows))) ((t ≤ length (now (line .entry))) × (is ≤ length (now (line .entry)))) (now (line .entry)) (row (wordOf (now (line .entry)) t) (itemsAt (now (line .entry)) is)) k 1024 r ⌝ }
 {
     if ROWS <= k {
-        return Fault::Whole(Reason::OverBound);
+        return Verdict::Faulty(Fault::Whole(Reason::OverBound));
     }
     let found = find_table(text, tables, tables_count, line, t);
     let Found::At(x) = found else {
-        return Fault::Item(Reason::NameUnknown, t);
+        return Verdict::Faulty(Fault::Item(Reason::NameUnknown, t));
     };
     let scheme = table_scheme(tables, x);
     let unknown = unknown_label(scheme, text, labels, labels_count, line, is);
-    if let Found::At(p) = unknown {
-        return Fault::Item(Reason::NameUnknown, p);
+    if let Offending::At(p) = unknown {
+        return Verdict::Faulty(Fault::Item(Reason::NameUnknown, p));
     }
     if !row_fits(scheme, line, is, table_width(tables, x)) {
-        return Fault::Whole(Reason::WrongValues);
+        return Verdict::Faulty(Fault::Whole(Reason::WrongValues));
     }
     let wrong = first_mistyped(tables, x, line, values_start(scheme, line, is));
     match wrong {
-        Found::At(p) => Fault::Item(Reason::WrongType, p),
-        Found::Nothing => Fault::Fine,
+        Offending::At(p) => Verdict::Faulty(Fault::Item(Reason::WrongType, p)),
+        Offending::Nothing => Verdict::Fine,
     }
 }

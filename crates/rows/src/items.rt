@@ -1,10 +1,9 @@
-// The items of a row, by their places in the line: where each ends, whether they are shaped for a scheme, and how many there are.
+// The items of a row, by their places in the line: whether they are shaped for a scheme, and how many there are.
+use form::walks::item_end_at;
 use text::bytes::byte_at;
-use text::walking::skip_byte;
 use text::words::End;
 use text::words::name_end;
 use text::words::word_end;
-use text::words::written_end;
 ghost use Prim.Native.Nat.{_+_};
 ghost use lib.Dec.{eqb};
 ghost use lib.ListN.{getD, length};
@@ -15,27 +14,10 @@ ghost use mathlib.Core.Path.{_≡_};
 ghost use Rattle.document.specs.NameFaults.{leadingName};
 ghost use Rattle.document.specs.ValueFaults.{valuesBehindLabel};
 ghost use Rattle.rows.specs.RowWords.{shapedValues, valuesAt};
-ghost use Rattle.form.specs.Walks.{cellLabelIn, itemEndAt, itemsAt};
+ghost use Rattle.form.specs.Walks.{itemsAt};
 ghost use Rattle.lists.specs.Lists.{holdsOf};
 ghost use Rattle.text.specs.Names.{isName};
 ghost use Rattle.text.specs.Words.{Word, wordAt};
-
-// Where the label stands in the `(v L)` at a position.
-pub(crate) fn cell_label(line: &[u8], at: usize) -> usize
-    ensures { λ r. ⌜ r ≡ cellLabelIn (now (line .entry)) at ⌝ }
-{
-    skip_byte(line, written_end(line, skip_byte(line, at, b'(')), b' ')
-}
-
-// Where the item at a position ends.
-pub fn item_end_at(line: &[u8], at: usize) -> usize
-    ensures { λ r. ⌜ r ≡ itemEndAt (now (line .entry)) at ⌝ }
-{
-    if byte_at(line, at) == b'(' {
-        return skip_byte(line, word_end(line, cell_label(line, at)), b')');
-    }
-    written_end(line, at)
-}
 
 // Whether the item at a position is a bracket, where brackets are wanted, and else is none.
 fn item_fits(line: &[u8], at: usize, bracketed: bool) -> bool

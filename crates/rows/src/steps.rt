@@ -5,8 +5,8 @@ use index::counts::Counts;
 use index::layout::LABELS;
 use index::layout::ROW_CELLS;
 use index::layout::TABLE_CELLS;
+use stepping::fault::Verdict;
 use stepping::step::Step;
-use stepping::step::is_fine;
 ghost use Prim.Native.Nat.{_≤_, ℕ};
 ghost use lib.ListN.{length};
 ghost use mathlib.Core.List.{List};
@@ -36,23 +36,23 @@ pub fn step_row(
 {
     let k = c.rows;
     let f = row_fault(text, labels, c.labels, tables, c.tables, k, line, t, items);
-    if is_fine(f) {
-        store_row(
-            text,
-            labels,
-            c.labels,
-            tables,
-            c.tables,
-            rows,
-            k,
-            at,
-            line,
-            t,
-            items,
-        );
-        let mut next = c;
-        next.rows = k + 1;
-        return Step::Goes(next);
+    if let Verdict::Faulty(wrong) = f {
+        return Step::Fails(wrong);
     }
-    Step::Fails(f)
+    store_row(
+        text,
+        labels,
+        c.labels,
+        tables,
+        c.tables,
+        rows,
+        k,
+        at,
+        line,
+        t,
+        items,
+    );
+    let mut next = c;
+    next.rows = k + 1;
+    Step::Goes(next)
 }

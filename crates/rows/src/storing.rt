@@ -1,6 +1,8 @@
 // Storing a row: its values and labels one by one, and then the row.
-use crate::items::cell_label;
 use form::lines::Scheme;
+use form::walks::cell_end;
+use form::walks::cell_label;
+use form::walks::first_in;
 use index::labels::find_label;
 use index::layout::LABELS;
 use index::layout::ROW_CELLS;
@@ -13,7 +15,6 @@ use index::tables::table_scheme;
 use stepping::places::number;
 use stepping::places::place;
 use text::bytes::byte_at;
-use text::walking::skip_byte;
 use text::words::word_end;
 use text::words::written_end;
 ghost use Prim.Native.Nat.{_+_, _<_, _≤_, ℕ};
@@ -74,13 +75,13 @@ fn store_cells(
     let mut c: usize = 0;
     let mut j = is;
     while byte_at(line, j) == b' ' {
-        let w = skip_byte(line, j + 1, b'(');
+        let w = first_in(line, j + 1);
         let q = cell_label(line, j + 1);
         let label = number(find_label(text, labels, labels_count, line, q));
         let pos = place(text, at, w);
         set_value(rows, k, c, pos);
         set_label(rows, k, c, label);
-        j = skip_byte(line, word_end(line, q), b')');
+        j = cell_end(line, j + 1);
         c += 1;
     }
     c

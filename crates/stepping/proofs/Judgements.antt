@@ -1,55 +1,35 @@
 -- What a fault finder's answer says of a line: that it passes, with room for one more, or that it is refused. Assumes nothing.
 use Prim.Native.Nat.{_<_, ℕ}
-use mathlib.Core.Bool.{false, true}
 use mathlib.Core.List.{List}
 use mathlib.Core.Option.{none, some}
-use mathlib.Core.Path.{_∙_, _≡_, refl, subst}
+use mathlib.Core.Path.{_∙_, _≡_, ap, subst}
 use native.Mathlib.Omega.{arith}
-use Rattle.stepping.specs.Follows.{Follows, Grows, Refuses, isFine, refusalIn}
+use Rattle.stepping.specs.Follows.{Follows, Grows, Refuses}
 use Rattle.document.specs.Check.{checkForm, checkLine}
 use Rattle.document.specs.Meaning.{add}
 use Rattle.document.specs.Policy.{Doc}
-use Rattle.stepping.specs.Judged.{Judges, RoomFor, judged}
+use Rattle.stepping.specs.Judged.{Judges, ReachesBy, RoomFor, judged}
 use Rattle.form.specs.Form.{Form}
 use Rattle.form.specs.FormReader.{formOf}
-use Rattle.lists.proofs.Tests.{true-not-false}
 use Rattle.text.specs.Refusal.{Result, _>>=_, accepted, document, need, pointingAll, refused}
 use Rattle.index.specs.declared.counts.Counts.{Counts}
 use Rattle.stepping.specs.declared.step.Step.{Step}
 use Rattle.stepping.specs.declared.step.Step.the-variants.{Fails, Goes}
 use Rattle.stepping.specs.declared.fault.Fault.{Fault}
-use Rattle.stepping.specs.declared.fault.Fault.the-variants.{Fine, Item, Whole}
+use Rattle.stepping.specs.declared.fault.Verdict.{Verdict}
+use Rattle.stepping.specs.declared.fault.Verdict.the-variants.{Faulty, Fine}
 
-module _ (d : Doc) (line : List ℕ) (f : Form) where
-  judged-fine : (r : Fault) → isFine r ≡ true → judged d line f r ≡ accepted (add d f)
-  unfolding isFine
-  judged-fine Fine h = refl
-  judged-fine (Whole x) h = true-not-false h refl
-  judged-fine (Item x at) h = true-not-false h refl
-
-  judged-wrong : (r : Fault) → isFine r ≡ false → judged d line f r ≡ refused (refusalIn line r)
-  unfolding isFine refusalIn
-  judged-wrong Fine h = true-not-false refl h
-  judged-wrong (Whole x) h = refl
-  judged-wrong (Item x at) h = refl
-
-room-fine : (r : Fault) (k room : ℕ) → isFine r ≡ true → RoomFor r k room → k < room
-unfolding isFine
-room-fine Fine k room h q = q
-room-fine (Whole x) k room h q = true-not-false h refl
-room-fine (Item x at) k room h q = true-not-false h refl
-
-module _ {Held : Doc → Type 0} {Inside : Type 0} {line : List ℕ} {f : Form} {k room : ℕ} {r : Fault} (j : Judges Held Inside line f k room r) where
+module _ {Held : Doc → Type 0} {Inside : Type 0} {line : List ℕ} {f : Form} {k room : ℕ} {r : Verdict} (j : Judges Held Inside line f k room r) where
   -- nothing is wrong: there is room, and the form passes
-  pub has-room : isFine r ≡ true → k < room
-  has-room h = room-fine r k room h (j .roomy)
+  pub has-room : r ≡ Fine → k < room
+  has-room h = subst (λ (x : Verdict). RoomFor x k room) h (j .roomy)
 
-  pub passes : isFine r ≡ true → (d : Doc) → Held d → checkForm d line f ≡ accepted (add d f)
-  passes h d held = j .is d held ∙ judged-fine d line f r h
+  pub passes : r ≡ Fine → (d : Doc) → Held d → checkForm d line f ≡ accepted (add d f)
+  passes h d held = j .is d held ∙ ap (judged d line f) h
 
   -- something is wrong
-  pub refuses : isFine r ≡ false → (d : Doc) → Held d → Inside → Refuses line (checkForm d line f) r
-  refuses h d held p = record { is = j .is d held ∙ judged-wrong d line f r h; reaches = j .reaches p }
+  pub refuses : {x : Fault} → r ≡ Faulty x → (d : Doc) → Held d → Inside → Refuses line (checkForm d line f) x
+  refuses h d held p = record { is = j .is d held ∙ ap (judged d line f) h; reaches = subst (ReachesBy line) h (j .reaches p) }
 
 -- a line that is a form, and one that is none
 pub line-form : (d : Doc) (line : List ℕ) (f : Form) → formOf line ≡ some f → checkLine d line ≡ checkForm d line f
@@ -80,5 +60,5 @@ pub follows-as : {Held : Counts → Doc → Type 0} {line : List ℕ} {o p : Res
 follows-as {Held} {line} {o} {p} {s} e f = subst (λ (x : Result Doc). Follows Held line x s) e f
 
 -- the same for a form that equals it
-pub judges-as : {Held : Doc → Type 0} {Inside : Type 0} {line : List ℕ} {f g : Form} {k room : ℕ} {r : Fault} → f ≡ g → Judges Held Inside line f k room r → Judges Held Inside line g k room r
+pub judges-as : {Held : Doc → Type 0} {Inside : Type 0} {line : List ℕ} {f g : Form} {k room : ℕ} {r : Verdict} → f ≡ g → Judges Held Inside line f k room r → Judges Held Inside line g k room r
 judges-as {Held} {Inside} {line} {f} {g} {k} {room} {r} e j = subst (λ (x : Form). Judges Held Inside line x k room r) e j

@@ -23,7 +23,7 @@ use Rattle.index.proofs.IndexLaws.{attributes-length, conds-length, conds-same,
 use Rattle.index.specs.Hash.{hashOf}
 use Rattle.index.specs.Attributes.{Attributes}
 use Rattle.index.specs.Cells.{lineIn}
-use Rattle.index.specs.CondRoles.{CondRoles, attributesKnown, conditionAt, conditionRead}
+use Rattle.index.specs.CondRoles.{CondRoles, attributesKnown, conditionAt, conditionRead, conditionReads}
 use Rattle.index.specs.Grants.{Grants, grantIn}
 use Rattle.index.specs.Nodes.{Nodes}
 use Rattle.index.specs.Users.{Users}
@@ -116,18 +116,21 @@ module _ {text : List ℕ} {at : ℕ} {line : List ℕ} (l : LineAt text at line
       (more (subst (λ (m : ℕ). m < 256) (users-length N) room)))
 
   pub cond-stored : {ws ws′ : List ℕ} {k : ℕ} (r : Word) (t number end : ℕ) → CondRoles (d .policy) text ws k (d .policy .condRoles) → Passes d line (condRole (wordOf line n) r (conditionRead (conditionInForm (from line t))))
-      → number ≡ known (roleOf (d .policy) r) → (at + length line ≤ length text → end ≡ at + length line)
-      → ((k < 64) → attributesKnown (d .policy) (conditionAt text at end t) ≡ true → CondRoles (d .policy) text ws′ (k + 1) (d .policy .condRoles ++ (record { name = wordAt text pos; role = number; condition = mapCond (attributeComparison (d .policy)) (conditionAt text at end t) } ∷ [])))
+      → number ≡ known (roleOf (d .policy) r) → (at + length line ≤ length text → end ≡ at + length line) → there (conditionInForm (from line t)) ≡ true
+      → ((k < 64) → attributesKnown (d .policy) (conditionAt text at end t) ≡ true → conditionReads text at end t ≡ true → CondRoles (d .policy) text ws′ (k + 1) (d .policy .condRoles ++ (record { name = wordAt text pos; role = number; condition = mapCond (attributeComparison (d .policy)) (conditionAt text at end t) } ∷ [])))
       → CondRoles (add d (condRole (wordOf line n) r (conditionRead (conditionInForm (from line t)))) .policy) text ws′ (k + 1) (add d (condRole (wordOf line n) r (conditionRead (conditionInForm (from line t)))) .policy .condRoles)
   unfolding add define overBound unknown
-  cond-stored {ws} {ws′} {k} r t number end N ok q f more =
+  cond-stored {ws} {ws′} {k} r t number end N ok q f read more =
       let p : Passed d (condRole (wordOf line n) r (conditionRead (conditionInForm (from line t)))) = passed d line _ ok in
       let room : length (d .policy .condRoles) < 64 = leb-false 64 _ (neither-left _ _ (p .room)) in
       conds-same (d .policy) (add d (condRole (wordOf line n) r (conditionRead (conditionInForm (from line t)))) .policy) refl
       (subst (λ (x : CondRole). CondRoles (d .policy) text ws′ (k + 1) (d .policy .condRoles ++ (x ∷ [])))
       (λ j. record { name = word-placed l n pos h e j; role = q j; condition = mapCond (attributeComparison (d .policy)) (same j) })
-      (more (subst (λ (m : ℕ). m < 64) (conds-length N) room) (ap (attributesKnown (d .policy)) same ∙ compared (leftmost-head _ _ (leftmost-tail _ _ (p .knows))))))
+      (more (subst (λ (m : ℕ). m < 64) (conds-length N) room) (ap (attributesKnown (d .policy)) same ∙ compared (leftmost-head _ _ (leftmost-tail _ _ (p .knows)))) (reads ∙ read)))
     where
+      reads : conditionReads text at end t ≡ there (conditionInForm (from line t))
+      reads = unfold conditionReads in ap (λ s. there (conditionInForm (from s t))) (line-placed l end f)
+
       same : conditionAt text at end t ≡ conditionRead (conditionInForm (from line t))
       same = unfold conditionAt in ap (λ s. conditionRead (conditionInForm (from s t))) (line-placed l end f)
 

@@ -26,8 +26,8 @@ use Rattle.text.proofs.OffendingLaws.{leftmost-only, missing-here, missing-next
 use Rattle.text.proofs.WalkingLaws.{next-within, past-within}
 use Rattle.text.specs.Offending.{leftmost, missing, offendingIf, repeated, repeatedAfter}
 use Rattle.text.specs.Words.{Word, isCalled, wordOf}
-use Rattle.text.specs.declared.refusals.Reason.{Reason}
-use Rattle.stepping.specs.declared.fault.Fault.the-variants.{Fine, Item, Whole}
+use Rattle.stepping.specs.declared.fault.Fault.{Fault}
+use Rattle.stepping.specs.declared.fault.Verdict.the-variants.{Faulty, Fine}
 use Rattle.form.specs.TableWords.{columnWords, labelsColumns, schemeWords, tableLine}
 use Rattle.form.specs.declared.lines.Scheme as coded
 use Rattle.form.specs.declared.lines.Scheme.the-variants as code
@@ -201,12 +201,9 @@ module _ (s : List ℕ) (at : ℕ) (h : at < length s) where
 
 -- ---- the check of the line
 
--- a fault is not `Fine`
-pub fine-apart-whole : (x : Reason) {A : Type 0} → Whole x ≡ Fine → A
-fine-apart-whole x {A} h = let z : _≡_ {A = ℕ} 0 1 = cc in absurd (omega arith)
-
-pub fine-apart-item : (x : Reason) (at : ℕ) {A : Type 0} → Item x at ≡ Fine → A
-fine-apart-item x at {A} h = let z : _≡_ {A = ℕ} 0 1 = cc in absurd (omega arith)
+-- where there is a fault, not all is fine
+pub fine-apart : (x : Fault) {A : Type 0} → Faulty x ≡ Fine → A
+fine-apart x {A} h = let z : _≡_ {A = ℕ} 0 1 = cc in absurd (omega arith)
 
 module _ (d : Doc) (line : List ℕ) (t : ℕ) (scheme : coded.Scheme) (l cs : ℕ) where
   abbrev form : Form

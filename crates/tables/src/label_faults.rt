@@ -6,6 +6,8 @@ use index::labels::find_label;
 use index::layout::LABELS;
 use index::layout::PURPOSE_CELLS;
 use stepping::fault::Fault;
+use stepping::fault::Verdict;
+use text::offending::Offending;
 use text::refusals::Reason;
 ghost use Prim.Native.Nat.{_≤_, ℕ};
 ghost use lib.ListN.{length};
@@ -29,26 +31,26 @@ pub fn label_fault(
     l: usize,
     allowed: usize,
     denied: usize,
-) -> Fault
+) -> Verdict
     ensures { λ r. ⌜ Judges (λ d. Nodes limit (now (text .entry)) (now (purposes .entry)) «purposes_count» (d .policy .purposes) × ((sets : List ℕ) × Labels (now (text .entry)) (now (labels .entry)) sets k (d .policy .labels))) (l ≤ length (now (line .entry))) (now (line .entry)) (label (wordOf (now (line .entry)) l) (namesAt (now (line .entry)) allowed) (namesAt (now (line .entry)) denied)) k 64 r ⌝ }
 {
     if LABELS <= k {
-        return Fault::Whole(Reason::OverBound);
+        return Verdict::Faulty(Fault::Whole(Reason::OverBound));
     }
     if let Found::At(_) = find_label(text, labels, k, line, l) {
-        return Fault::Item(Reason::NameTaken, l);
+        return Verdict::Faulty(Fault::Item(Reason::NameTaken, l));
     }
-    if let Found::At(v) = first_repeat(line, allowed) {
-        return Fault::Item(Reason::NameTaken, v);
+    if let Offending::At(v) = first_repeat(line, allowed) {
+        return Verdict::Faulty(Fault::Item(Reason::NameTaken, v));
     }
-    if let Found::At(v) = first_repeat(line, denied) {
-        return Fault::Item(Reason::NameTaken, v);
+    if let Offending::At(v) = first_repeat(line, denied) {
+        return Verdict::Faulty(Fault::Item(Reason::NameTaken, v));
     }
-    if let Found::At(v) = first_unknown_purpose(text, purposes, purposes_count, line, allowed) {
-        return Fault::Item(Reason::NameUnknown, v);
+    if let Offending::At(v) = first_unknown_purpose(text, purposes, purposes_count, line, allowed) {
+        return Verdict::Faulty(Fault::Item(Reason::NameUnknown, v));
     }
-    if let Found::At(v) = first_unknown_purpose(text, purposes, purposes_count, line, denied) {
-        return Fault::Item(Reason::NameUnknown, v);
+    if let Offending::At(v) = first_unknown_purpose(text, purposes, purposes_count, line, denied) {
+        return Verdict::Faulty(Fault::Item(Reason::NameUnknown, v));
     }
-    Fault::Fine
+    Verdict::Fine
 }

@@ -9,8 +9,8 @@ use index::layout::LABELS;
 use index::layout::PURPOSE_CELLS;
 use index::layout::SET_WORDS;
 use index::layout::TABLE_CELLS;
+use stepping::fault::Verdict;
 use stepping::step::Step;
-use stepping::step::is_fine;
 ghost use Prim.Native.Nat.{_≤_, ℕ};
 ghost use lib.ListN.{length};
 ghost use mathlib.Core.List.{List};
@@ -52,25 +52,25 @@ pub fn step_label(
         allowed,
         denied,
     );
-    if is_fine(f) {
-        store_label(
-            text,
-            purposes,
-            c.purposes,
-            labels,
-            sets,
-            k,
-            at,
-            line,
-            l,
-            allowed,
-            denied,
-        );
-        let mut next = c;
-        next.labels = k + 1;
-        return Step::Goes(next);
+    if let Verdict::Faulty(wrong) = f {
+        return Step::Fails(wrong);
     }
-    Step::Fails(f)
+    store_label(
+        text,
+        purposes,
+        c.purposes,
+        labels,
+        sets,
+        k,
+        at,
+        line,
+        l,
+        allowed,
+        denied,
+    );
+    let mut next = c;
+    next.labels = k + 1;
+    Step::Goes(next)
 }
 
 // A table, whose name stands at t, of this scheme, with its label at l, if it has one, and its columns from cs on.
@@ -90,23 +90,11 @@ pub fn step_table(
 {
     let k = c.tables;
     let f = table_fault(text, labels, c.labels, tables, k, line, t, scheme, l, cs);
-    if is_fine(f) {
-        store_table(
-            text,
-            labels,
-            c.labels,
-            tables,
-            k,
-            at,
-            line,
-            t,
-            scheme,
-            l,
-            cs,
-        );
-        let mut next = c;
-        next.tables = k + 1;
-        return Step::Goes(next);
+    if let Verdict::Faulty(wrong) = f {
+        return Step::Fails(wrong);
     }
-    Step::Fails(f)
+    store_table(text, labels, c.labels, tables, k, at, line, t, scheme, l, cs);
+    let mut next = c;
+    next.tables = k + 1;
+    Step::Goes(next)
 }

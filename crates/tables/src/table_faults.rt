@@ -1,6 +1,10 @@
 // A table line: its columns are walked through again, in brackets of two words, `(COL num)`, or of three, `(COL num L)`.
 use form::lines::Scheme;
 use form::lines::labels_columns;
+use form::walks::first_in;
+use form::walks::pair_end;
+use form::walks::third_in;
+use form::walks::triple_end;
 use index::found::Found;
 use index::labels::find_label;
 use index::layout::COLUMNS;
@@ -9,18 +13,17 @@ use index::layout::TABLE_CELLS;
 use index::layout::TABLES;
 use index::tables::find_table;
 use stepping::fault::Fault;
+use stepping::fault::Verdict;
 use text::bytes::byte_at;
+use text::offending::Offending;
 use text::refusals::Reason;
-use text::walking::next_word;
-use text::walking::skip_byte;
 use text::words::same_name;
-use text::words::word_end;
 ghost use Prim.Native.Nat.{_≤_, ℕ};
 ghost use lib.ListN.{length, take};
 ghost use mathlib.Core.List.{List, [], _∷_, map};
 ghost use mathlib.Core.Path.{_≡_};
 ghost use Rattle.document.specs.Policy.{Doc, Label};
-ghost use Rattle.stepping.specs.Places.{Near, wordFound};
+ghost use Rattle.stepping.specs.Places.{Near};
 ghost use Rattle.tables.specs.TableLine.{JudgesTable, bracketEndBy, columnsBy};
 ghost use Rattle.form.specs.Form.{schemeLabels};
 ghost use Rattle.form.specs.Walks.{columnLabelsAt};
@@ -30,18 +33,16 @@ ghost use Rattle.form.specs.TableWords.{schemeWords};
 ghost use Rattle.lists.specs.Lists.{anyOf, findIndex, there};
 ghost use Rattle.text.specs.Offending.{missing, repeated};
 ghost use Rattle.text.specs.Words.{isCalled, wordOf};
+ghost use Rattle.text.specs.CodeEnds.{offendingOf};
 
 // Where the bracket of two or three words at a position ends.
 fn bracket_end(s: &[u8], at: usize, triple: bool) -> usize
     ensures { λ r. ⌜ r ≡ bracketEndBy triple (now (s .entry)) at ⌝ }
 {
-    let first = skip_byte(s, at, b'(');
-    let second = next_word(s, first);
     if triple {
-        let third = next_word(s, second);
-        return skip_byte(s, word_end(s, third), b')');
+        return triple_end(s, at);
     }
-    skip_byte(s, word_end(s, second), b')')
+    pair_end(s, at)
 }
 
 // How many columns stand from a position on.
@@ -67,7 +68,7 @@ fn stands_among(s: &[u8], at: usize, n: usize, triple: bool, p: usize) -> bool
         if left == 0 {
             return false;
         }
-        if same_name(s, p, s, skip_byte(s, j + 1, b'(')) {
+        if same_name(s, p, s, first_in(s, j + 1)) {
             return true;
         }
         j = bracket_end(s, j + 1, triple);
@@ -77,20 +78,20 @@ fn stands_among(s: &[u8], at: usize, n: usize, triple: bool, p: usize) -> bool
 }
 
 // The first of the columns from a position on whose name stood before.
-fn first_repeat(s: &[u8], at: usize, triple: bool) -> Found
-    ensures { λ r. ⌜ (wordFound (now (s .entry)) r ≡ repeated (map (λ x. x .name) (columnsBy triple (now (s .entry)) at))) × Near (now (s .entry)) r ⌝ }
+fn first_repeat(s: &[u8], at: usize, triple: bool) -> Offending
+    ensures { λ r. ⌜ (offendingOf (now (s .entry)) r ≡ repeated (map (λ x. x .name) (columnsBy triple (now (s .entry)) at))) × Near (now (s .entry)) r ⌝ }
 {
     let mut j = at;
     let mut n: usize = 0;
     while byte_at(s, j) == b' ' {
-        let p = skip_byte(s, j + 1, b'(');
+        let p = first_in(s, j + 1);
         if stands_among(s, at, n, triple, p) {
-            return Found::At(p);
+            return Offending::At(p);
         }
         j = bracket_end(s, j + 1, triple);
         n += 1;
     }
-    Found::Nothing
+    Offending::Nothing
 }
 
 // Whether there is a label of the name at p.
@@ -111,20 +112,18 @@ fn first_unknown_label(
     m: usize,
     line: &[u8],
     at: usize,
-) -> Found
-    ensures { λ r. ⌜ ((sets : List ℕ) (ls : List Label) → Labels (now (text .entry)) (now (labels .entry)) sets m ls → wordFound (now (line .entry)) r ≡ missing (λ w. there (findIndex (λ x. isCalled w (x .name)) ls)) (columnLabelsAt (now (line .entry)) at)) × Near (now (line .entry)) r ⌝ }
+) -> Offending
+    ensures { λ r. ⌜ ((sets : List ℕ) (ls : List Label) → Labels (now (text .entry)) (now (labels .entry)) sets m ls → offendingOf (now (line .entry)) r ≡ missing (λ w. there (findIndex (λ x. isCalled w (x .name)) ls)) (columnLabelsAt (now (line .entry)) at)) × Near (now (line .entry)) r ⌝ }
 {
     let mut j = at;
     while byte_at(line, j) == b' ' {
-        let first = skip_byte(line, j + 1, b'(');
-        let second = next_word(line, first);
-        let third = next_word(line, second);
+        let third = third_in(line, j + 1);
         if !is_label(text, labels, m, line, third) {
-            return Found::At(third);
+            return Offending::At(third);
         }
         j = bracket_end(line, j + 1, true);
     }
-    Found::Nothing
+    Offending::Nothing
 }
 
 // The label of the table, if it is not known.
@@ -134,13 +133,13 @@ fn unknown_table_label(
     m: usize,
     line: &[u8],
     l: usize,
-) -> Found
-    ensures { λ r. ⌜ ((sets : List ℕ) (ls : List Label) → Labels (now (text .entry)) (now (labels .entry)) sets m ls → wordFound (now (line .entry)) r ≡ missing (λ w. there (findIndex (λ x. isCalled w (x .name)) ls)) (wordOf (now (line .entry)) l ∷ [])) × (l ≤ length (now (line .entry)) → Near (now (line .entry)) r) ⌝ }
+) -> Offending
+    ensures { λ r. ⌜ ((sets : List ℕ) (ls : List Label) → Labels (now (text .entry)) (now (labels .entry)) sets m ls → offendingOf (now (line .entry)) r ≡ missing (λ w. there (findIndex (λ x. isCalled w (x .name)) ls)) (wordOf (now (line .entry)) l ∷ [])) × (l ≤ length (now (line .entry)) → Near (now (line .entry)) r) ⌝ }
 {
     if is_label(text, labels, m, line, l) {
-        return Found::Nothing;
+        return Offending::Nothing;
     }
-    Found::At(l)
+    Offending::At(l)
 }
 
 // The first of the labels that the scheme names that is not known.
@@ -152,15 +151,15 @@ fn unknown_label(
     scheme: Scheme,
     l: usize,
     cs: usize,
-) -> Found
-    ensures { λ r. ⌜ ((sets : List ℕ) (ls : List Label) → Labels (now (text .entry)) (now (labels .entry)) sets m ls → wordFound (now (line .entry)) r ≡ missing (λ w. there (findIndex (λ x. isCalled w (x .name)) ls)) (schemeLabels (schemeWords (now (line .entry)) scheme l cs))) × (l ≤ length (now (line .entry)) → Near (now (line .entry)) r) ⌝ }
+) -> Offending
+    ensures { λ r. ⌜ ((sets : List ℕ) (ls : List Label) → Labels (now (text .entry)) (now (labels .entry)) sets m ls → offendingOf (now (line .entry)) r ≡ missing (λ w. there (findIndex (λ x. isCalled w (x .name)) ls)) (schemeLabels (schemeWords (now (line .entry)) scheme l cs))) × (l ≤ length (now (line .entry)) → Near (now (line .entry)) r) ⌝ }
 {
     match scheme {
-        Scheme::Unlabelled => Found::Nothing,
+        Scheme::Unlabelled => Offending::Nothing,
         Scheme::ByTable => unknown_table_label(text, labels, m, line, l),
         Scheme::ByColumn => first_unknown_label(text, labels, m, line, cs),
-        Scheme::ByRow => Found::Nothing,
-        Scheme::ByCell => Found::Nothing,
+        Scheme::ByRow => Offending::Nothing,
+        Scheme::ByCell => Offending::Nothing,
     }
 }
 
@@ -177,27 +176,27 @@ pub fn table_fault(
     scheme: Scheme,
     l: usize,
     cs: usize,
-) -> Fault
+) -> Verdict
     ensures { λ r. ⌜ JudgesTable (λ (d : Doc). ((sets : List ℕ) × Labels (now (text .entry)) (now (labels .entry)) sets m (d .policy .labels)) × Tables (now (text .entry)) (now (tables .entry)) k (d .policy .tables)) ((t ≤ length (now (line .entry))) × (l ≤ length (now (line .entry))) × (cs ≤ length (now (line .entry)))) (now (line .entry)) t scheme l cs k r ⌝ }
 {
     if TABLES <= k {
-        return Fault::Whole(Reason::OverBound);
+        return Verdict::Faulty(Fault::Whole(Reason::OverBound));
     }
     let triple = labels_columns(scheme);
     if COLUMNS < count_columns(line, cs, triple) {
-        return Fault::Whole(Reason::OverBound);
+        return Verdict::Faulty(Fault::Whole(Reason::OverBound));
     }
     let before = find_table(text, tables, k, line, t);
     if let Found::At(_) = before {
-        return Fault::Item(Reason::NameTaken, t);
+        return Verdict::Faulty(Fault::Item(Reason::NameTaken, t));
     }
     let again = first_repeat(line, cs, triple);
-    if let Found::At(p) = again {
-        return Fault::Item(Reason::NameTaken, p);
+    if let Offending::At(p) = again {
+        return Verdict::Faulty(Fault::Item(Reason::NameTaken, p));
     }
     let unknown = unknown_label(text, labels, m, line, scheme, l, cs);
-    if let Found::At(p) = unknown {
-        return Fault::Item(Reason::NameUnknown, p);
+    if let Offending::At(p) = unknown {
+        return Verdict::Faulty(Fault::Item(Reason::NameUnknown, p));
     }
-    Fault::Fine
+    Verdict::Fine
 }

@@ -3,19 +3,21 @@ use index::found::Found;
 use index::layout::PURPOSE_CELLS;
 use index::names::find_purpose;
 use text::bytes::byte_at;
+use text::offending::Offending;
 use text::words::same_name;
 use text::words::word_end;
 ghost use lib.ListN.{take};
 ghost use mathlib.Core.List.{List};
 ghost use mathlib.Core.Path.{_≡_};
 ghost use Rattle.document.specs.Policy.{Node};
-ghost use Rattle.stepping.specs.Places.{Near, wordFound};
+ghost use Rattle.stepping.specs.Places.{Near};
 ghost use Rattle.form.specs.Walks.{namesAt};
 ghost use Rattle.index.specs.Nodes.{Nodes};
 ghost use Rattle.lists.specs.Lists.{anyOf, findIndex, there};
 ghost use Rattle.purpose.specs.Members.{limit};
 ghost use Rattle.text.specs.Offending.{missing, repeated};
 ghost use Rattle.text.specs.Words.{isCalled, wordOf};
+ghost use Rattle.text.specs.CodeEnds.{offendingOf};
 
 // Whether the name at w is one of the first k names from `at` on.
 pub fn among_first(line: &[u8], at: usize, k: usize, w: usize) -> bool
@@ -38,20 +40,20 @@ pub fn among_first(line: &[u8], at: usize, k: usize, w: usize) -> bool
 }
 
 // The first name from `at` on that stands earlier among them.
-pub fn first_repeat(line: &[u8], at: usize) -> Found
-    ensures { λ r. ⌜ (wordFound (now (line .entry)) r ≡ repeated (namesAt (now (line .entry)) «at»)) × Near (now (line .entry)) r ⌝ }
+pub fn first_repeat(line: &[u8], at: usize) -> Offending
+    ensures { λ r. ⌜ (offendingOf (now (line .entry)) r ≡ repeated (namesAt (now (line .entry)) «at»)) × Near (now (line .entry)) r ⌝ }
 {
     let mut j = at;
     let mut k = 0;
     while byte_at(line, j) == b' ' {
         let v = j + 1;
         if among_first(line, at, k, v) {
-            return Found::At(v);
+            return Offending::At(v);
         }
         j = word_end(line, v);
         k += 1;
     }
-    Found::Nothing
+    Offending::Nothing
 }
 
 // The first name from `at` on that is none of the k purposes.
@@ -61,16 +63,16 @@ pub fn first_unknown_purpose(
     k: usize,
     line: &[u8],
     at: usize,
-) -> Found
-    ensures { λ r. ⌜ ((ns : List Node) → Nodes limit (now (text .entry)) (now (purposes .entry)) k ns → wordFound (now (line .entry)) r ≡ missing (λ w. there (findIndex (λ x. isCalled w (x .name)) ns)) (namesAt (now (line .entry)) «at»)) × Near (now (line .entry)) r ⌝ }
+) -> Offending
+    ensures { λ r. ⌜ ((ns : List Node) → Nodes limit (now (text .entry)) (now (purposes .entry)) k ns → offendingOf (now (line .entry)) r ≡ missing (λ w. there (findIndex (λ x. isCalled w (x .name)) ns)) (namesAt (now (line .entry)) «at»)) × Near (now (line .entry)) r ⌝ }
 {
     let mut j = at;
     while byte_at(line, j) == b' ' {
         let v = j + 1;
         if let Found::Nothing = find_purpose(text, purposes, k, line, v) {
-            return Found::At(v);
+            return Offending::At(v);
         }
         j = word_end(line, v);
     }
-    Found::Nothing
+    Offending::Nothing
 }

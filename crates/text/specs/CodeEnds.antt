@@ -3,16 +3,19 @@
 use Prim.Native.Nat.{_^_, ℕ}
 use lib.Dec.{eqb, leb}
 use mathlib.Core.Bool.{cond}
+use mathlib.Core.List.{List}
 use mathlib.Core.Option.{Option, none, some}
 use Rattle.text.specs.Ends.{endOf}
 use Rattle.text.specs.Reader.{Left, byte}
-use Rattle.text.specs.Words.{Word}
+use Rattle.text.specs.Words.{Word, wordOf}
 use Rattle.text.specs.declared.brackets.Optional.{Optional}
 use Rattle.text.specs.declared.brackets.Optional.the-variants as optionalName
 use Rattle.text.specs.declared.numbers.Amount.{Amount}
 use Rattle.text.specs.declared.numbers.Amount.the-variants as amount
 use Rattle.text.specs.declared.numbers.Number.{Number}
 use Rattle.text.specs.declared.numbers.Number.the-variants as number
+use Rattle.text.specs.declared.offending.Offending.{Offending}
+use Rattle.text.specs.declared.offending.Offending.the-variants as offending
 use Rattle.text.specs.declared.words.End.{End}
 use Rattle.text.specs.declared.words.End.the-variants.{At, Nothing}
 
@@ -53,3 +56,8 @@ endedAt e (amount.Is n) = number.At e n
 abbrev pub numberOf : Option (ℕ × Left) → Number
 numberOf none = number.Nothing
 numberOf (some r) = number.At (r .1 .at) (r .0)
+
+-- the word of a text at the place that the code's answer names, if it names one
+abbrev pub offendingOf : List ℕ → Offending → Option Word
+offendingOf s offending.Nothing = none
+offendingOf s (offending.At at) = some (wordOf s at)

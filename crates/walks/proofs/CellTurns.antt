@@ -8,12 +8,11 @@ use mathlib.Core.Option.{some}
 use mathlib.Core.Path.{_∙_, _≡_, ap, refl, subst, sym}
 use native.Mathlib.Omega.{arith}
 use Rattle.condition.specs.Kinds.{Kind, hasKind}
-use Rattle.document.proofs.RowItems.{item-bracket-end}
 use Rattle.document.specs.Lookup.{columnsAt, labelOf}
 use Rattle.document.specs.NameFaults.{bracketLabels}
 use Rattle.document.specs.Policy.{Column, Policy}
 use Rattle.rows.proofs.RowChecks.{bracket-known, labels-on}
-use Rattle.form.proofs.WalkSteps.{cells-more}
+use Rattle.form.proofs.WalkSteps.{cells-more, item-bracket-end}
 use Rattle.form.specs.Form.{labelled}
 use Rattle.form.specs.FormReader.{cellValue, item, labelledItem, plainItem}
 use Rattle.form.specs.Walks.{cellAt, cellEndAt, cellLabelIn, cellsAt, firstIn, itemEndAt, itemsAt}

@@ -6,11 +6,10 @@ use mathlib.Core.Bool.{false}
 use mathlib.Core.List.{List, [], _∷_, map}
 use mathlib.Core.Path.{_∙_, _≡_, ap, refl, subst, sym}
 use native.Mathlib.Omega.{arith}
-use Rattle.document.proofs.RowItems.{item-plain-end}
 use Rattle.condition.specs.Kinds.{Kind}
 use Rattle.document.specs.Lookup.{columnsAt}
 use Rattle.document.specs.Policy.{Column, Policy}
-use Rattle.form.proofs.WalkSteps.{plain-more}
+use Rattle.form.proofs.WalkSteps.{item-plain-end, plain-more}
 use Rattle.form.specs.Walks.{plainAt}
 use Rattle.index.proofs.TableLaws.{column-inside}
 use Rattle.index.specs.Rows.{FillingRow, ValueStored}

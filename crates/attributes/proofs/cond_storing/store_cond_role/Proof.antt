@@ -1,9 +1,8 @@
 -- `attributes::cond_storing::store_cond_role` meets its contract: the line is kept by its start and end. Assumes nothing.
-use mathlib.Core.Option.{none, some}
 use Rattle.lists.specs.Lists.{known}
 use Rattle.document.specs.Lookup.{roleOf}
 use Rattle.text.specs.Words.{wordOf}
-use mathlib.Core.Path.{_∙_, ap, refl, sym}
+use mathlib.Core.Path.{_∙_, ap}
 use Rattle.stepping.proofs.NamedLaws.{cond-stored}
 use borrow.Author.Needs.{needs}
 use Rattle.attributes.proofs.cond_storing.store_cond_role.Statement.{statement}
@@ -26,10 +25,10 @@ add-cond-role-requires c κs = search needs
 
 returns : tie.Need-returns
 unfolding roleOf
-returns c d l R N ok h =
+returns c d l R N ok read h =
     let a = c .before .before .before .before .before .before .before .before .args in
     cond-stored l d (a .c) _ h (c .before .before .before .place .ensures) (wordOf (a .line .now) (a .r)) (a .t) _ _ N ok
-    (c .before .before .before .before .number .ensures ∙ ap known (c .before .before .before .before .before .find-role .ensures .0 _ R)) (c .before .before .place2 .ensures)
+    (c .before .before .before .before .number .ensures ∙ ap known (c .before .before .before .before .before .find-role .ensures .0 _ R)) (c .before .before .place2 .ensures) read
     (c .add-cond-role .ensures (d .policy) (a .text .now) _ N)
 
 pub store-cond-role-spec : {M : Type 1} → statement M

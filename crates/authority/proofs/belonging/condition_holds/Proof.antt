@@ -1,9 +1,10 @@
 -- `authority::belonging::condition_holds` meets its contract: by its comparisons where it can be read. Assumes nothing.
-use lib.ListN.{length}
-use mathlib.Core.Path.{_∙_, refl, sym}
+use mathlib.Core.Path.{_∙_, ap, sym}
 use native.Mathlib.Omega.{arith}
-use Rattle.authority.proofs.HeldLaws.{read-few, read-holds, read-known, unread-holds, unread-known}
+use Rattle.authority.proofs.HeldLaws.{read-few, read-holds, read-known}
 use Rattle.condition.proofs.ReadLaws.{condition-at, condition-none}
+use Rattle.lists.proofs.Tests.{true-not-false}
+use Rattle.lists.specs.Lists.{there}
 use Rattle.query.specs.Asked.{clockOf}
 use borrow.Author.Needs.{needs}
 use Rattle.authority.proofs.belonging.condition_holds.Statement.{statement}
@@ -16,7 +17,7 @@ enum-known-c : tie.Need-enum-known-c
 enum-known-c c = search needs
 
 returns : tie.Need-returns
-returns c d u t k few = let a = c .before .before .before .before .before .before .before .before .before .args in
+returns c d u t read k few = let a = c .before .before .before .before .before .before .before .before .before .args in
     let got = condition-at (a .line .now) (a .place) _ _ (sym (c .before .before .before .before .read-places .ensures .reads) ∙ c .before .before .c .given .1) in
     absurd (omega (arith, read-few d (clockOf (a .clock)) u (a .line .now) (a .place) (got .what) _ (got .is) _ (got .made) (a .line .now) few))
 
@@ -29,11 +30,8 @@ holds-condition-requires c κs = search needs
 enum-told : tie.Need-enum-told
 enum-told c = search needs
 
-words-meet-requires : tie.Need-words-meet-requires
-words-meet-requires c κs = search needs
-
 returns-2 : tie.Need-returns-2
-returns-2 c d u t k few = let a = c .before .before .before .before .before .before .before .before .before .before .before .before .before .before .args in
+returns-2 c d u t read k few = let a = c .before .before .before .before .before .before .before .before .before .before .before .before .before .before .args in
     let placed = c .before .before .before .before .before .before .before .before .before .read-places .ensures in
     let got = condition-at (a .line .now) (a .place) _ _ (sym (placed .reads) ∙ c .before .before .before .before .before .before .before .c .given .1) in
     let small = read-few d (clockOf (a .clock)) u (a .line .now) (a .place) (got .what) _ (got .is) _ (got .made) (a .line .now) few in
@@ -41,9 +39,10 @@ returns-2 c d u t k few = let a = c .before .before .before .before .before .bef
     (c .before .before .store-truths .ensures small d u t (read-known d (clockOf (a .clock)) u (a .line .now) (a .place) (got .what) _ (got .is) _ (got .made) _ _ placed small k))
 
 returns-3 : tie.Need-returns-3
-returns-3 c d u t k few = let a = c .before .before .before .before .before .before .before .before .args in
-    let h = condition-none (a .line .now) (a .place) (sym (c .before .before .before .read-places .ensures .reads) ∙ c .before .enum-told .given .1) in
-    unread-holds d (clockOf (a .clock)) u (a .line .now) (a .place) h (length (a .line .now)) refl _ (c .words-meet .ensures d u t (unread-known d (clockOf (a .clock)) u (a .line .now) (a .place) h (length (a .line .now)) refl k))
+unfolding there
+returns-3 c d u t read k few =
+    let h = condition-none (c .before .before .before .before .before .before .before .args .line .now) (c .before .before .before .before .before .before .before .args .place) (sym (c .before .before .read-places .ensures .reads) ∙ c .enum-told .given .1) in
+    true-not-false read (ap there h)
 
 pub condition-holds-spec : {M : Type 1} → statement M
 condition-holds-spec =
@@ -55,6 +54,5 @@ condition-holds-spec =
     store-truths-requires
     holds-condition-requires
     enum-told
-    words-meet-requires
     returns-2
     returns-3)

@@ -2,7 +2,7 @@
 use lib.ListN.{length}
 use mathlib.Core.Path.{_∙_, ap}
 use native.Mathlib.Omega.{arith}
-use Rattle.authority.proofs.HeldLaws.{role-few, role-is, role-read}
+use Rattle.authority.proofs.HeldLaws.{role-few, role-is, role-read, role-reads}
 use Rattle.authority.specs.Held.{comparisonHolds}
 use Rattle.condition.specs.Cond.{comparisons, holds}
 use Rattle.index.specs.CondRoles.{attributesKnown}
@@ -29,7 +29,8 @@ condition-holds-requires c κs = search needs
 returns : tie.Need-returns
 returns c d u k rs t h l few = let a = c .before .before .before .before .before .before .before .args in
     let same = role-read (a .text .now) (a .conds .now) (a .i) (c .before .before .before .before .cond-role-start .result) (c .before .before .before .cond-role-end .result) (c .before .cond-role-place .result) (c .before .before .line-of .result .now) (c .before .before .before .before .cond-role-start .ensures (omega (arith, l, h .few))) (c .before .before .before .cond-role-end .ensures (omega (arith, l, h .few))) (c .before .cond-role-place .ensures (omega (arith, l, h .few))) (c .before .before .line-of .ensures) in
-    c .condition-holds .ensures d u t (ap (attributesKnown d) same ∙ h .known (a .i) l) (omega (arith, ap (λ x. length (comparisons x)) same, role-few d (clockOf (a .clock)) u (a .text .now) (a .conds .now) (a .i) few))
+    let reads = role-reads (a .text .now) (a .conds .now) (a .i) (c .before .before .before .before .cond-role-start .result) (c .before .before .before .cond-role-end .result) (c .before .cond-role-place .result) (c .before .before .line-of .result .now) (c .before .before .before .before .cond-role-start .ensures (omega (arith, l, h .few))) (c .before .before .before .cond-role-end .ensures (omega (arith, l, h .few))) (c .before .cond-role-place .ensures (omega (arith, l, h .few))) (c .before .before .line-of .ensures) in
+    c .condition-holds .ensures d u t (reads ∙ h .reads (a .i) l) (ap (attributesKnown d) same ∙ h .known (a .i) l) (omega (arith, ap (λ x. length (comparisons x)) same, role-few d (clockOf (a .clock)) u (a .text .now) (a .conds .now) (a .i) few))
     ∙ ap (holds (comparisonHolds d (clockOf (a .clock)) u)) same
     ∙ role-is d (clockOf (a .clock)) u (a .text .now) (a .conds .now) (a .i)
 

@@ -5,17 +5,13 @@ use lib.ListN.{length}
 use mathlib.Core.Path.{_∙_, _≡_, ap, subst, sym}
 use native.Mathlib.Omega.{arith}
 use Rattle.checker.proofs.Turns.{whole-moved}
-use Rattle.stepping.specs.Follows.{refusalIn}
-use Rattle.stepping.specs.Judged.{Reaches}
+use Rattle.stepping.specs.Judged.{Reaches, refusalIn}
 use Rattle.text.specs.Reasons.{numberOf}
 use Rattle.text.specs.Refusal.{Refusal, document, moved, pointing}
 use Rattle.text.specs.Words.{wordAt}
 use Rattle.stepping.specs.declared.fault.Fault.{Fault}
 use Rattle.checker.proofs.loading.refusal_of.Statement.{statement}
 use Rattle.checker.proofs.loading.refusal_of.Tie as tie
-
-enum-told : tie.Need-enum-told
-enum-told c = search needs
 
 enum-known-f : tie.Need-enum-known-f
 enum-known-f c = search needs
@@ -30,23 +26,18 @@ word-end-requires c κs = tt
 reached : (c : tie.After-word-end) → c .before .before .f2 .given .0 .1 .0 ≤ length (c .before .before .before .before .before .args .line .now)
 reached c = subst (Reaches (c .before .before .before .before .before .args .line .now)) (c .before .before .f2 .given .1) (c .before .before .before .before .before .pre .1)
 
-add-t15 : tie.Need-add-t15
-add-t15 c = omega (arith, reached c, c .before .before .before .before .before .pre .0)
+add-t12 : tie.Need-add-t12
+add-t12 c = omega (arith, reached c, c .before .before .before .before .before .pre .0)
 
-sub-t16 : tie.Need-sub-t16
-sub-t16 c = search needs
+sub-t13 : tie.Need-sub-t13
+sub-t13 c = search needs
 
 returns : tie.Need-returns
-unfolding refusalIn
-returns c = sym (ap (λ (f : Fault). moved (c .before .before .before .args .at) (refusalIn (c .before .before .before .args .line .now) f)) (c .enum-told .given .1) ∙ whole-moved (c .before .before .before .args .at) 2 (c .before .before .before .args .line .now))
+returns c = sym (ap (λ (f : Fault). moved (c .before .before .before .before .args .at) (refusalIn (c .before .before .before .before .args .line .now) f)) (c .before .f .given .1) ∙ whole-moved (c .before .before .before .before .args .at) (numberOf (c .before .f .given .0 .0)) (c .before .before .before .before .args .line .now))
 
 returns-2 : tie.Need-returns-2
-unfolding refusalIn
-returns-2 c = sym (ap (λ (f : Fault). moved (c .before .before .before .before .args .at) (refusalIn (c .before .before .before .before .args .line .now) f)) (c .before .f .given .1) ∙ whole-moved (c .before .before .before .before .args .at) (numberOf (c .before .f .given .0 .0)) (c .before .before .before .before .args .line .now))
-
-returns-3 : tie.Need-returns-3
-unfolding refusalIn moved pointing
-returns-3 c =
+unfolding moved pointing
+returns-2 c =
     let a = c .before .before .before .before .before .args in
     let w = c .before .before .f2 .given .0 .1 .0 in
     let q : c .word-end .result - w ≡ length (wordAt (a .line .now) w) = omega (arith, c .word-end .ensures) in
@@ -57,12 +48,10 @@ pub refusal-of-spec : {M : Type 1} → statement M
 refusal-of-spec =
     tie.close
     (tie.spec
-    enum-told
     enum-known-f
     enum-known-f-2
     word-end-requires
-    add-t15
-    sub-t16
+    add-t12
+    sub-t13
     returns
-    returns-2
-    returns-3)
+    returns-2)

@@ -2,7 +2,6 @@
 use borrow.Author.Needs.{needs}
 use mathlib.Core.Path.{_∙_, ap, subst, sym}
 use Rattle.stepping.proofs.Judgements.{follows-as, follows-fails, line-form, line-none}
-use Rattle.stepping.specs.Follows.{refusalIn}
 use Rattle.form.specs.Places.{Within, lineAt}
 use Rattle.checker.proofs.steps.step_form.Statement.{statement}
 use Rattle.checker.proofs.steps.step_form.Tie as tie
@@ -80,7 +79,7 @@ step-row-requires : tie.Need-step-row-requires
 step-row-requires c κs = tt
 
 returns : tie.Need-returns
-unfolding lineAt refusalIn
+unfolding lineAt
 returns c =
     λ d a I U.
     follows-fails (record { is = line-none d (c .before .before .before .before .before .args .line .now) (c .before .before .read-line .ensures .is ∙ ap (lineAt (c .before .before .before .before .before .args .line .now)) (c .enum-told .given .1)); reaches = tt })

@@ -52,9 +52,9 @@ same-length : tie.Need-same-length
 same-length c = search needs
 
 returns : tie.Need-returns
-returns c d text cs n h =
+returns c d text cs n h r =
     let a = c .args in
-    conds-pushed text (a .ws .now) (a .k) (a .pos) (a .role) (a .start) (a .end) (a .place) (c .pre .0) (c .pre .1) d cs n h
+    conds-pushed text (a .ws .now) (a .k) (a .pos) (a .role) (a .start) (a .end) (a .place) (c .pre .0) (c .pre .1) d cs n h r
 
 pub store-cond-role-spec : {M : Type 1} → statement M
 store-cond-role-spec =

@@ -5,10 +5,11 @@ use mathlib.Core.Path.{_∙_, ap, subst, sym}
 use native.Mathlib.Omega.{arith}
 use Rattle.document.specs.Lookup.{roleOf}
 use Rattle.members.proofs.UserFaults.{user-attribute, user-fine, user-no-role, user-over, user-twice, user-type, user-values, users-length}
-use Rattle.stepping.specs.Places.{Near, wordFound}
+use Rattle.stepping.specs.Places.{Near}
 use Rattle.form.specs.Walks.{givensAt}
 use Rattle.index.specs.Found.{foundAs}
 use Rattle.lists.specs.Lists.{there}
+use Rattle.text.specs.CodeEnds.{offendingOf}
 use Rattle.text.specs.Words.{wordOf}
 use Rattle.members.proofs.user_faults.user_fault.Statement.{statement}
 use Rattle.members.proofs.user_faults.user_fault.Tie as tie
@@ -64,7 +65,7 @@ enum-known-unknown c = search needs
 returns-4 : tie.Need-returns-4
 unfolding roleOf there
 returns-4 c = record {
-  is = λ d h. user-attribute d (c .before .before .before .before .before .before .before .before .before .before .before .before .before .before .args .line .now) (wordOf (c .before .before .before .before .before .before .before .before .before .before .before .before .before .before .args .line .now) (c .before .before .before .before .before .before .before .before .before .before .before .before .before .before .args .u)) (wordOf (c .before .before .before .before .before .before .before .before .before .before .before .before .before .before .args .line .now) (c .before .before .before .before .before .before .before .before .before .before .before .before .before .before .args .r)) (givensAt (c .before .before .before .before .before .before .before .before .before .before .before .before .before .before .args .line .now) (c .before .before .before .before .before .before .before .before .before .before .before .before .before .before .args .gs)) (omega (arith, users-length (h .2))) (c .before .before .before .before .before .before .before .before .role .given .0 .0) (sym (c .before .before .before .before .before .before .before .before .before .before .find-role .ensures .0 (d .policy .roles) (h .0)) ∙ ap foundAs (c .before .before .before .before .before .before .before .before .role .given .1)) (sym (ap there (c .before .before .before .before .before .before .find-user .ensures .0 (d .policy) (d .policy .users) (h .2))) ∙ ap (λ f. there (foundAs f)) (c .before .before .before .before .enum-told2 .given .1)) (wordOf (c .before .before .before .before .before .before .before .before .before .before .before .before .before .before .args .line .now) (c .before .unknown .given .0 .0)) (sym (c .before .before .before .first-unknown-given .ensures .0 (d .policy) (h .1)) ∙ ap (wordFound (c .before .before .before .before .before .before .before .before .before .before .before .before .before .before .args .line .now)) (c .before .unknown .given .1));
+  is = λ d h. user-attribute d (c .before .before .before .before .before .before .before .before .before .before .before .before .before .before .args .line .now) (wordOf (c .before .before .before .before .before .before .before .before .before .before .before .before .before .before .args .line .now) (c .before .before .before .before .before .before .before .before .before .before .before .before .before .before .args .u)) (wordOf (c .before .before .before .before .before .before .before .before .before .before .before .before .before .before .args .line .now) (c .before .before .before .before .before .before .before .before .before .before .before .before .before .before .args .r)) (givensAt (c .before .before .before .before .before .before .before .before .before .before .before .before .before .before .args .line .now) (c .before .before .before .before .before .before .before .before .before .before .before .before .before .before .args .gs)) (omega (arith, users-length (h .2))) (c .before .before .before .before .before .before .before .before .role .given .0 .0) (sym (c .before .before .before .before .before .before .before .before .before .before .find-role .ensures .0 (d .policy .roles) (h .0)) ∙ ap foundAs (c .before .before .before .before .before .before .before .before .role .given .1)) (sym (ap there (c .before .before .before .before .before .before .find-user .ensures .0 (d .policy) (d .policy .users) (h .2))) ∙ ap (λ f. there (foundAs f)) (c .before .before .before .before .enum-told2 .given .1)) (wordOf (c .before .before .before .before .before .before .before .before .before .before .before .before .before .before .args .line .now) (c .before .unknown .given .0 .0)) (sym (c .before .before .before .first-unknown-given .ensures .0 (d .policy) (h .1)) ∙ ap (offendingOf (c .before .before .before .before .before .before .before .before .before .before .before .before .before .before .args .line .now)) (c .before .unknown .given .1));
   roomy = tt;
   reaches = λ p. subst (Near (c .before .before .before .before .before .before .before .before .before .before .before .before .before .before .args .line .now)) (c .before .unknown .given .1) (c .before .before .before .first-unknown-given .ensures .1);
 }
@@ -78,7 +79,7 @@ gives-all-requires c κs = search needs
 returns-5 : tie.Need-returns-5
 unfolding roleOf there
 returns-5 c = record {
-  is = λ d h. user-values d (c .before .before .before .before .before .before .before .before .before .before .before .before .before .before .before .args .line .now) (wordOf (c .before .before .before .before .before .before .before .before .before .before .before .before .before .before .before .args .line .now) (c .before .before .before .before .before .before .before .before .before .before .before .before .before .before .before .args .u)) (wordOf (c .before .before .before .before .before .before .before .before .before .before .before .before .before .before .before .args .line .now) (c .before .before .before .before .before .before .before .before .before .before .before .before .before .before .before .args .r)) (givensAt (c .before .before .before .before .before .before .before .before .before .before .before .before .before .before .before .args .line .now) (c .before .before .before .before .before .before .before .before .before .before .before .before .before .before .before .args .gs)) (omega (arith, users-length (h .2))) (c .before .before .before .before .before .before .before .before .before .role .given .0 .0) (sym (c .before .before .before .before .before .before .before .before .before .before .before .find-role .ensures .0 (d .policy .roles) (h .0)) ∙ ap foundAs (c .before .before .before .before .before .before .before .before .before .role .given .1)) (sym (ap there (c .before .before .before .before .before .before .before .find-user .ensures .0 (d .policy) (d .policy .users) (h .2))) ∙ ap (λ f. there (foundAs f)) (c .before .before .before .before .before .enum-told2 .given .1)) (sym (c .before .before .before .before .first-unknown-given .ensures .0 (d .policy) (h .1)) ∙ ap (wordFound (c .before .before .before .before .before .before .before .before .before .before .before .before .before .before .before .args .line .now)) (c .before .before .enum-told4 .given .1)) (sym (c .before .gives-all .ensures (d .policy) (h .0) (h .1) (h .3 .attributes)) ∙ not-true _ (c .if2 .taken));
+  is = λ d h. user-values d (c .before .before .before .before .before .before .before .before .before .before .before .before .before .before .before .args .line .now) (wordOf (c .before .before .before .before .before .before .before .before .before .before .before .before .before .before .before .args .line .now) (c .before .before .before .before .before .before .before .before .before .before .before .before .before .before .before .args .u)) (wordOf (c .before .before .before .before .before .before .before .before .before .before .before .before .before .before .before .args .line .now) (c .before .before .before .before .before .before .before .before .before .before .before .before .before .before .before .args .r)) (givensAt (c .before .before .before .before .before .before .before .before .before .before .before .before .before .before .before .args .line .now) (c .before .before .before .before .before .before .before .before .before .before .before .before .before .before .before .args .gs)) (omega (arith, users-length (h .2))) (c .before .before .before .before .before .before .before .before .before .role .given .0 .0) (sym (c .before .before .before .before .before .before .before .before .before .before .before .find-role .ensures .0 (d .policy .roles) (h .0)) ∙ ap foundAs (c .before .before .before .before .before .before .before .before .before .role .given .1)) (sym (ap there (c .before .before .before .before .before .before .before .find-user .ensures .0 (d .policy) (d .policy .users) (h .2))) ∙ ap (λ f. there (foundAs f)) (c .before .before .before .before .before .enum-told2 .given .1)) (sym (c .before .before .before .before .first-unknown-given .ensures .0 (d .policy) (h .1)) ∙ ap (offendingOf (c .before .before .before .before .before .before .before .before .before .before .before .before .before .before .before .args .line .now)) (c .before .before .enum-told4 .given .1)) (sym (c .before .gives-all .ensures (d .policy) (h .0) (h .1) (h .3 .attributes)) ∙ not-true _ (c .if2 .taken));
   roomy = tt;
   reaches = λ p. tt;
 }
@@ -95,7 +96,7 @@ enum-told-5 c = search needs
 returns-6 : tie.Need-returns-6
 unfolding roleOf there
 returns-6 c = record {
-  is = λ d h. user-type d (c .before .before .before .before .before .before .before .before .before .before .before .before .before .before .before .before .before .before .before .args .line .now) (wordOf (c .before .before .before .before .before .before .before .before .before .before .before .before .before .before .before .before .before .before .before .args .line .now) (c .before .before .before .before .before .before .before .before .before .before .before .before .before .before .before .before .before .before .before .args .u)) (wordOf (c .before .before .before .before .before .before .before .before .before .before .before .before .before .before .before .before .before .before .before .args .line .now) (c .before .before .before .before .before .before .before .before .before .before .before .before .before .before .before .before .before .before .before .args .r)) (givensAt (c .before .before .before .before .before .before .before .before .before .before .before .before .before .before .before .before .before .before .before .args .line .now) (c .before .before .before .before .before .before .before .before .before .before .before .before .before .before .before .before .before .before .before .args .gs)) (omega (arith, users-length (h .2))) (c .before .before .before .before .before .before .before .before .before .before .before .before .before .role .given .0 .0) (sym (c .before .before .before .before .before .before .before .before .before .before .before .before .before .before .before .find-role .ensures .0 (d .policy .roles) (h .0)) ∙ ap foundAs (c .before .before .before .before .before .before .before .before .before .before .before .before .before .role .given .1)) (sym (ap there (c .before .before .before .before .before .before .before .before .before .before .before .find-user .ensures .0 (d .policy) (d .policy .users) (h .2))) ∙ ap (λ f. there (foundAs f)) (c .before .before .before .before .before .before .before .before .before .enum-told2 .given .1)) (sym (c .before .before .before .before .before .before .before .before .first-unknown-given .ensures .0 (d .policy) (h .1)) ∙ ap (wordFound (c .before .before .before .before .before .before .before .before .before .before .before .before .before .before .before .before .before .before .before .args .line .now)) (c .before .before .before .before .before .before .enum-told4 .given .1)) (sym (c .before .before .before .before .before .gives-all .ensures (d .policy) (h .0) (h .1) (h .3 .attributes)) ∙ not-false _ (c .before .before .before .before .if2 .left)) (wordOf (c .before .before .before .before .before .before .before .before .before .before .before .before .before .before .before .before .before .before .before .args .line .now) (c .before .wrong .given .0 .0)) (sym (c .before .before .before .first-mistyped-given .ensures .0 (d .policy) (h .1)) ∙ ap (wordFound (c .before .before .before .before .before .before .before .before .before .before .before .before .before .before .before .before .before .before .before .args .line .now)) (c .before .wrong .given .1));
+  is = λ d h. user-type d (c .before .before .before .before .before .before .before .before .before .before .before .before .before .before .before .before .before .before .before .args .line .now) (wordOf (c .before .before .before .before .before .before .before .before .before .before .before .before .before .before .before .before .before .before .before .args .line .now) (c .before .before .before .before .before .before .before .before .before .before .before .before .before .before .before .before .before .before .before .args .u)) (wordOf (c .before .before .before .before .before .before .before .before .before .before .before .before .before .before .before .before .before .before .before .args .line .now) (c .before .before .before .before .before .before .before .before .before .before .before .before .before .before .before .before .before .before .before .args .r)) (givensAt (c .before .before .before .before .before .before .before .before .before .before .before .before .before .before .before .before .before .before .before .args .line .now) (c .before .before .before .before .before .before .before .before .before .before .before .before .before .before .before .before .before .before .before .args .gs)) (omega (arith, users-length (h .2))) (c .before .before .before .before .before .before .before .before .before .before .before .before .before .role .given .0 .0) (sym (c .before .before .before .before .before .before .before .before .before .before .before .before .before .before .before .find-role .ensures .0 (d .policy .roles) (h .0)) ∙ ap foundAs (c .before .before .before .before .before .before .before .before .before .before .before .before .before .role .given .1)) (sym (ap there (c .before .before .before .before .before .before .before .before .before .before .before .find-user .ensures .0 (d .policy) (d .policy .users) (h .2))) ∙ ap (λ f. there (foundAs f)) (c .before .before .before .before .before .before .before .before .before .enum-told2 .given .1)) (sym (c .before .before .before .before .before .before .before .before .first-unknown-given .ensures .0 (d .policy) (h .1)) ∙ ap (offendingOf (c .before .before .before .before .before .before .before .before .before .before .before .before .before .before .before .before .before .before .before .args .line .now)) (c .before .before .before .before .before .before .enum-told4 .given .1)) (sym (c .before .before .before .before .before .gives-all .ensures (d .policy) (h .0) (h .1) (h .3 .attributes)) ∙ not-false _ (c .before .before .before .before .if2 .left)) (wordOf (c .before .before .before .before .before .before .before .before .before .before .before .before .before .before .before .before .before .before .before .args .line .now) (c .before .wrong .given .0 .0)) (sym (c .before .before .before .first-mistyped-given .ensures .0 (d .policy) (h .1)) ∙ ap (offendingOf (c .before .before .before .before .before .before .before .before .before .before .before .before .before .before .before .before .before .before .before .args .line .now)) (c .before .wrong .given .1));
   roomy = tt;
   reaches = λ p. subst (Near (c .before .before .before .before .before .before .before .before .before .before .before .before .before .before .before .before .before .before .before .args .line .now)) (c .before .wrong .given .1) (c .before .before .before .first-mistyped-given .ensures .1);
 }
@@ -103,7 +104,7 @@ returns-6 c = record {
 returns-7 : tie.Need-returns-7
 unfolding roleOf there
 returns-7 c = record {
-  is = λ d h. user-fine d (c .before .before .before .before .before .before .before .before .before .before .before .before .before .before .before .before .before .before .args .line .now) (wordOf (c .before .before .before .before .before .before .before .before .before .before .before .before .before .before .before .before .before .before .args .line .now) (c .before .before .before .before .before .before .before .before .before .before .before .before .before .before .before .before .before .before .args .u)) (wordOf (c .before .before .before .before .before .before .before .before .before .before .before .before .before .before .before .before .before .before .args .line .now) (c .before .before .before .before .before .before .before .before .before .before .before .before .before .before .before .before .before .before .args .r)) (givensAt (c .before .before .before .before .before .before .before .before .before .before .before .before .before .before .before .before .before .before .args .line .now) (c .before .before .before .before .before .before .before .before .before .before .before .before .before .before .before .before .before .before .args .gs)) (omega (arith, users-length (h .2))) (c .before .before .before .before .before .before .before .before .before .before .before .before .role .given .0 .0) (sym (c .before .before .before .before .before .before .before .before .before .before .before .before .before .before .find-role .ensures .0 (d .policy .roles) (h .0)) ∙ ap foundAs (c .before .before .before .before .before .before .before .before .before .before .before .before .role .given .1)) (sym (ap there (c .before .before .before .before .before .before .before .before .before .before .find-user .ensures .0 (d .policy) (d .policy .users) (h .2))) ∙ ap (λ f. there (foundAs f)) (c .before .before .before .before .before .before .before .before .enum-told2 .given .1)) (sym (c .before .before .before .before .before .before .before .first-unknown-given .ensures .0 (d .policy) (h .1)) ∙ ap (wordFound (c .before .before .before .before .before .before .before .before .before .before .before .before .before .before .before .before .before .before .args .line .now)) (c .before .before .before .before .before .enum-told4 .given .1)) (sym (c .before .before .before .before .gives-all .ensures (d .policy) (h .0) (h .1) (h .3 .attributes)) ∙ not-false _ (c .before .before .before .if2 .left)) (sym (c .before .before .first-mistyped-given .ensures .0 (d .policy) (h .1)) ∙ ap (wordFound (c .before .before .before .before .before .before .before .before .before .before .before .before .before .before .before .before .before .before .args .line .now)) (c .enum-told5 .given .1));
+  is = λ d h. user-fine d (c .before .before .before .before .before .before .before .before .before .before .before .before .before .before .before .before .before .before .args .line .now) (wordOf (c .before .before .before .before .before .before .before .before .before .before .before .before .before .before .before .before .before .before .args .line .now) (c .before .before .before .before .before .before .before .before .before .before .before .before .before .before .before .before .before .before .args .u)) (wordOf (c .before .before .before .before .before .before .before .before .before .before .before .before .before .before .before .before .before .before .args .line .now) (c .before .before .before .before .before .before .before .before .before .before .before .before .before .before .before .before .before .before .args .r)) (givensAt (c .before .before .before .before .before .before .before .before .before .before .before .before .before .before .before .before .before .before .args .line .now) (c .before .before .before .before .before .before .before .before .before .before .before .before .before .before .before .before .before .before .args .gs)) (omega (arith, users-length (h .2))) (c .before .before .before .before .before .before .before .before .before .before .before .before .role .given .0 .0) (sym (c .before .before .before .before .before .before .before .before .before .before .before .before .before .before .find-role .ensures .0 (d .policy .roles) (h .0)) ∙ ap foundAs (c .before .before .before .before .before .before .before .before .before .before .before .before .role .given .1)) (sym (ap there (c .before .before .before .before .before .before .before .before .before .before .find-user .ensures .0 (d .policy) (d .policy .users) (h .2))) ∙ ap (λ f. there (foundAs f)) (c .before .before .before .before .before .before .before .before .enum-told2 .given .1)) (sym (c .before .before .before .before .before .before .before .first-unknown-given .ensures .0 (d .policy) (h .1)) ∙ ap (offendingOf (c .before .before .before .before .before .before .before .before .before .before .before .before .before .before .before .before .before .before .args .line .now)) (c .before .before .before .before .before .enum-told4 .given .1)) (sym (c .before .before .before .before .gives-all .ensures (d .policy) (h .0) (h .1) (h .3 .attributes)) ∙ not-false _ (c .before .before .before .if2 .left)) (sym (c .before .before .first-mistyped-given .ensures .0 (d .policy) (h .1)) ∙ ap (offendingOf (c .before .before .before .before .before .before .before .before .before .before .before .before .before .before .before .before .before .before .args .line .now)) (c .enum-told5 .given .1));
   roomy = omega arith;
   reaches = λ p. tt;
 }

@@ -11,11 +11,11 @@ table-width-requires c κs = search needs
 column-label-requires : tie.Need-column-label-requires
 column-label-requires c κs = search needs
 
-label-is-open-requires : tie.Need-label-is-open-requires
-label-is-open-requires c κs = search needs
+opened-at-requires : tie.Need-opened-at-requires
+opened-at-requires c κs = search needs
 
 returns : tie.Need-returns
-returns c d text k p h l o = column-there text (c .before .before .before .before .before .args .tables .now) k (c .before .before .before .before .before .args .t) d p h l (c .before .before .before .before .before .args .c) (c .before .before .before .table-width .result) (c .before .before .before .table-width .ensures) (c .before .before .if1 .taken) (c .before .before .before .before .before .args .opened .now) o (c .before .column-label .result) (c .before .column-label .ensures) (c .label-is-open .result) (c .label-is-open .ensures)
+returns c d text k p h l o = column-there text (c .before .before .before .before .before .args .tables .now) k (c .before .before .before .before .before .args .t) d p h l (c .before .before .before .before .before .args .c) (c .before .before .before .table-width .result) (c .before .before .before .table-width .ensures) (c .before .before .if1 .taken) (c .before .before .before .before .before .args .opened .now) o (c .before .column-label .result) (c .before .column-label .ensures) (c .opened-at .result) (c .opened-at .ensures)
 
 returns-2 : tie.Need-returns-2
 returns-2 c d text k p h l o = column-lacking text (c .before .before .before .args .tables .now) k (c .before .before .before .args .t) d p h l (c .before .before .before .args .c) (c .before .table-width .result) (c .before .table-width .ensures) (omega (arith, c .if1 .left))
@@ -23,4 +23,4 @@ returns-2 c d text k p h l o = column-lacking text (c .before .before .before .a
 pub column-open-spec : {M : Type 1} → statement M
 column-open-spec =
     tie.close
-    (tie.spec table-width-requires column-label-requires label-is-open-requires returns returns-2)
+    (tie.spec table-width-requires column-label-requires opened-at-requires returns returns-2)

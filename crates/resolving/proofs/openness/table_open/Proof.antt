@@ -22,8 +22,8 @@ enum-told-2 c = search needs
 table-label-requires : tie.Need-table-label-requires
 table-label-requires c κs = search needs
 
-label-is-open-requires : tie.Need-label-is-open-requires
-label-is-open-requires c κs = search needs
+opened-at-requires : tie.Need-opened-at-requires
+opened-at-requires c κs = search needs
 
 enum-told-3 : tie.Need-enum-told-3
 enum-told-3 c = search needs
@@ -40,7 +40,7 @@ returns c d text k p h l o = sym (table-by text (c .before .before .before .befo
 
 returns-2 : tie.Need-returns-2
 unfolding tableOpen schemeBy
-returns-2 c d text k p h l o = c .label-is-open .ensures ∙ o .is (c .before .table-label .result) ∙ ap (λ x. labelOpen d p (some x)) (c .before .table-label .ensures (table-inside text (c .before .before .before .before .before .before .args .tables .now) k (c .before .before .before .before .before .before .args .t) d h l)) ∙ sym (table-by text (c .before .before .before .before .before .before .args .tables .now) k (c .before .before .before .before .before .before .args .t) d p h l (c .before .before .before .before .table-scheme .result) code.ByTable (c .before .before .before .before .table-scheme .ensures) (c .before .before .enum-told2 .given .1))
+returns-2 c d text k p h l o = c .opened-at .ensures ∙ o .is (c .before .table-label .result) ∙ ap (λ x. labelOpen d p (some x)) (c .before .table-label .ensures (table-inside text (c .before .before .before .before .before .before .args .tables .now) k (c .before .before .before .before .before .before .args .t) d h l)) ∙ sym (table-by text (c .before .before .before .before .before .before .args .tables .now) k (c .before .before .before .before .before .before .args .t) d p h l (c .before .before .before .before .table-scheme .result) code.ByTable (c .before .before .before .before .table-scheme .ensures) (c .before .before .enum-told2 .given .1))
 
 returns-3 : tie.Need-returns-3
 unfolding tableOpen schemeBy
@@ -62,7 +62,7 @@ table-open-spec =
     enum-told
     enum-told-2
     table-label-requires
-    label-is-open-requires
+    opened-at-requires
     enum-told-3
     enum-told-4
     enum-told-5

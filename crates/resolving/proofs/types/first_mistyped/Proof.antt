@@ -7,9 +7,9 @@ use lib.ListN.{getD}
 use mathlib.Core.Option.{none}
 use mathlib.Core.Path.{_∙_, _≡_, ap, sym}
 use native.Mathlib.Omega.{arith}
-use Rattle.condition.specs.Answers.{wrongWord}
 use Rattle.document.specs.Policy.{Policy}
 use Rattle.resolving.proofs.TypeLaws.{Given, first-wrong, none-wrong, wrong-found, wrongAt}
+use Rattle.text.specs.CodeEnds.{offendingOf}
 use Rattle.text.specs.Words.{wordOf}
 use Rattle.resolving.proofs.types.first_mistyped.Statement.{statement}
 use Rattle.resolving.proofs.types.first_mistyped.Tie as tie
@@ -54,7 +54,7 @@ returns-3 : tie.Need-returns-3 Inv-loop μ-loop
 returns-3 c d text k h l a b q =
     let g : Given (c .before .before .before .before .before .before .before .before .before .before .before .before .before .before .args .tables .now) (c .before .before .before .before .before .before .before .before .before .before .before .before .before .before .args .t) (c .before .before .before .before .before .before .before .before .before .before .before .before .before .before .args .query .now) (c .before .before .before .before .before .before .before .before .before .before .before .before .before .before .args .ops .now) (c .before .before .before .before .before .before .before .before .before .before .before .before .before .before .args .m) (c .before .before .before .before .before .before .before .before .before .before .before .before .before .before .args .columns .now) (c .before .before .before .before .before .before .before .before .before .before .before .before .before .before .args .base) d = record { text = text; k = k; held = h; inside = l; longOps = a; longColumns = b; compares = q } in
     first-wrong g (c .before .before .before .before .before .before .before .before .before .before .loop .j) (wordOf (c .before .before .before .before .before .before .before .before .before .before .before .before .before .before .args .query .now) (c .before .w .given .0 .0)) (c .before .before .before .before .before .before .before .before .before .loop-test .taken) (c .before .before .before .before .before .before .before .before .before .before .loop .inv .2 d g)
-    (ap (wrongWord (c .before .before .before .before .before .before .before .before .before .before .before .before .before .before .args .query .now)) (sym (c .before .w .given .1)) ∙ wrong-found g (c .before .before .before .before .before .before .before .before .before .before .loop .j) (c .before .before .before .before .before .before .before .before .before .before .loop .c) (c .before .before .before .before .before .before .before .before .before .loop-test .taken) (c .before .before .before .before .before .before .before .before .before .before .loop .inv .1) (c .before .before .before .before .before .column-kind .result) (c .before .before .before .before .before .column-kind .ensures) (wrongWord (c .before .before .before .before .before .before .before .before .before .before .before .before .before .before .args .query .now) (c .before .before .before .wrong-type .result)) (c .before .before .before .wrong-type .ensures))
+    (ap (offendingOf (c .before .before .before .before .before .before .before .before .before .before .before .before .before .before .args .query .now)) (sym (c .before .w .given .1)) ∙ wrong-found g (c .before .before .before .before .before .before .before .before .before .before .loop .j) (c .before .before .before .before .before .before .before .before .before .before .loop .c) (c .before .before .before .before .before .before .before .before .before .loop-test .taken) (c .before .before .before .before .before .before .before .before .before .before .loop .inv .1) (c .before .before .before .before .before .column-kind .result) (c .before .before .before .before .before .column-kind .ensures) (offendingOf (c .before .before .before .before .before .before .before .before .before .before .before .before .before .before .args .query .now) (c .before .before .before .wrong-type .result)) (c .before .before .before .wrong-type .ensures))
 
 enum-told : tie.Need-enum-told Inv-loop μ-loop
 enum-told c = search needs
@@ -73,7 +73,7 @@ loop-again c = (
   omega (arith, c .before .before .before .before .before .before .before .before .loop-test .taken),
   omega (arith, c .before .before .before .before .before .before .before .before .before .loop .inv .1),
   (λ d g. below-more _ (c .before .before .before .before .before .before .before .before .before .loop .j) (c .before .before .before .before .before .before .before .before .before .loop .inv .2 d g)
-      (sym (ap (wrongWord (c .before .before .before .before .before .before .before .before .before .before .before .before .before .args .query .now)) (sym (c .enum-told .given .1)) ∙ wrong-found g (c .before .before .before .before .before .before .before .before .before .loop .j) (c .before .before .before .before .before .before .before .before .before .loop .c) (c .before .before .before .before .before .before .before .before .loop-test .taken) (c .before .before .before .before .before .before .before .before .before .loop .inv .1) (c .before .before .before .before .column-kind .result) (c .before .before .before .before .column-kind .ensures) (wrongWord (c .before .before .before .before .before .before .before .before .before .before .before .before .before .args .query .now) (c .before .before .wrong-type .result)) (c .before .before .wrong-type .ensures)))),
+      (sym (ap (offendingOf (c .before .before .before .before .before .before .before .before .before .before .before .before .before .args .query .now)) (sym (c .enum-told .given .1)) ∙ wrong-found g (c .before .before .before .before .before .before .before .before .before .loop .j) (c .before .before .before .before .before .before .before .before .before .loop .c) (c .before .before .before .before .before .before .before .before .loop-test .taken) (c .before .before .before .before .before .before .before .before .before .loop .inv .1) (c .before .before .before .before .column-kind .result) (c .before .before .before .before .column-kind .ensures) (offendingOf (c .before .before .before .before .before .before .before .before .before .before .before .before .before .args .query .now) (c .before .before .wrong-type .result)) (c .before .before .wrong-type .ensures)))),
 )
 
 returns-4 : tie.Need-returns-4 Inv-loop μ-loop

@@ -12,6 +12,7 @@ use Rattle.document.specs.Lookup.{columnsAt}
 use Rattle.document.specs.Policy.{Policy}
 use Rattle.document.specs.TypeFaults.{mistypedValue}
 use Rattle.rows.specs.RowWords.{valuesAt}
+use Rattle.form.specs.Walks.{firstIn}
 use Rattle.index.proofs.TableLaws.{width-read}
 use Rattle.index.specs.Tables.{Tables}
 use Rattle.text.proofs.Spaces.{space-here}
@@ -39,11 +40,11 @@ returns : tie.Need-returns Inv-loop μ-loop
 returns c =
     (λ text k d h l. sym (c .before .before .before .loop .inv text k d h l ∙ no-values-left (drop (c .before .before .before .loop .c) (columnsAt d (c .before .before .before .before .before .before .args .t))) (c .before .before .before .before .before .before .args .line .now) (c .before .before .before .loop .i) (λ z. c .if1 .taken (c .before .byte-at .ensures ∙ z))), tt)
 
-add-skip-byte : tie.Need-add-skip-byte Inv-loop μ-loop
-add-skip-byte c = omega (arith, space-here (c .before .before .before .before .before .before .args .line .now) (c .before .before .before .loop .i) _ (c .before .byte-at .ensures) (c .if1 .left) .1)
+add-first-in : tie.Need-add-first-in Inv-loop μ-loop
+add-first-in c = omega (arith, space-here (c .before .before .before .before .before .before .args .line .now) (c .before .before .before .loop .i) _ (c .before .byte-at .ensures) (c .if1 .left) .1)
 
-skip-byte-requires : tie.Need-skip-byte-requires Inv-loop μ-loop
-skip-byte-requires c κs = search needs
+first-in-requires : tie.Need-first-in-requires Inv-loop μ-loop
+first-in-requires c κs = search needs
 
 column-kind-requires : tie.Need-column-kind-requires Inv-loop μ-loop
 column-kind-requires c κs = search needs
@@ -52,14 +53,15 @@ typed-requires : tie.Need-typed-requires Inv-loop μ-loop
 typed-requires c κs = search needs
 
 returns-2 : tie.Need-returns-2 Inv-loop μ-loop
+unfolding firstIn
 returns-2 c =
     let s = c .before .before .before .before .before .before .before .before .before .before .args .line .now in
     let i = c .before .before .before .before .before .before .before .loop .i in
     let e = space-here s i _ (c .before .before .before .before .before .byte-at .ensures) (c .before .before .before .before .if1 .left) in (
       (λ text k d h l. sym (c .before .before .before .before .before .before .before .loop .inv text k d h l
           ∙ types-here text (c .before .before .before .before .before .before .before .before .before .before .args .tables .now) k (c .before .before .before .before .before .before .before .before .before .before .args .t) d h l (c .before .before .before .before .before .before .before .before .table-width .result) (c .before .before .before .before .before .before .before .before .table-width .ensures) s (c .before .before .before .before .before .before .before .loop .c) i (c .before .before .before .before .before .before .loop-test .taken) (e .0) (kindOf (c .before .before .column-kind .result)) (c .before .before .column-kind .ensures)
-          (c .before .before .before .skip-byte .result) (c .before .before .before .skip-byte .ensures) (c .before .typed .result) (c .before .typed .ensures) (not-true (c .before .typed .result) (c .if2 .taken)))),
-      subst (λ (v : ℕ). v ≤ length s) (sym (c .before .before .before .skip-byte .ensures)) (past-within 40 s (i + 1) (omega (arith, e .1))),
+          (c .before .before .before .first-in .result) (c .before .before .before .first-in .ensures) (c .before .typed .result) (c .before .typed .ensures) (not-true (c .before .typed .result) (c .if2 .taken)))),
+      subst (λ (v : ℕ). v ≤ length s) (sym (c .before .before .before .first-in .ensures)) (past-within 40 s (i + 1) (omega (arith, e .1))),
     )
 
 add-c : tie.Need-add-c Inv-loop μ-loop
@@ -75,13 +77,14 @@ loop-less : tie.Need-loop-less Inv-loop μ-loop
 loop-less c = omega (arith, c .before .before .before .before .before .before .before .loop-test .taken)
 
 loop-again : tie.Need-loop-again Inv-loop μ-loop
+unfolding firstIn
 loop-again c =
     let s = c .before .before .before .before .before .before .before .before .before .before .before .args .line .now in
     let i = c .before .before .before .before .before .before .before .before .loop .i in
     let e = space-here s i _ (c .before .before .before .before .before .before .byte-at .ensures) (c .before .before .before .before .before .if1 .left) in
     λ text k d h l. c .before .before .before .before .before .before .before .before .loop .inv text k d h l
     ∙ types-on text (c .before .before .before .before .before .before .before .before .before .before .before .args .tables .now) k (c .before .before .before .before .before .before .before .before .before .before .before .args .t) d h l (c .before .before .before .before .before .before .before .before .before .table-width .result) (c .before .before .before .before .before .before .before .before .before .table-width .ensures) s (c .before .before .before .before .before .before .before .before .loop .c) i (c .before .before .before .before .before .before .before .loop-test .taken) (e .0) (kindOf (c .before .before .before .column-kind .result)) (c .before .before .before .column-kind .ensures)
-    (c .before .before .before .before .skip-byte .result) (c .before .before .before .before .skip-byte .ensures) (c .before .before .typed .result) (c .before .before .typed .ensures) (not-false (c .before .before .typed .result) (c .before .if2 .left))
+    (c .before .before .before .before .first-in .result) (c .before .before .before .before .first-in .ensures) (c .before .before .typed .result) (c .before .before .typed .ensures) (not-false (c .before .before .typed .result) (c .before .if2 .left))
     ∙ ap (λ j. mistypedValue (drop (c .before .before .before .before .before .before .before .before .loop .c + 1) (columnsAt d (c .before .before .before .before .before .before .before .before .before .before .before .args .t))) (valuesAt s j)) (sym (c .item-end-at .ensures))
 
 returns-3 : tie.Need-returns-3 Inv-loop μ-loop
@@ -101,8 +104,8 @@ first-mistyped-spec =
     loop-holds
     byte-at-requires
     returns
-    add-skip-byte
-    skip-byte-requires
+    add-first-in
+    first-in-requires
     column-kind-requires
     typed-requires
     returns-2

@@ -5,8 +5,9 @@ use mathlib.Core.Path.{_∙_, ap, sym}
 use Rattle.document.specs.Lookup.{tableOf}
 use Rattle.form.specs.Walks.{itemsAt}
 use Rattle.index.specs.Found.{foundAs}
+use Rattle.stepping.proofs.NearLaws.{place-near}
 use Rattle.text.specs.Words.{wordOf}
-use Rattle.rows.proofs.RowJudging.{found-fine, found-misfit, found-mistyped, found-unknown, near-at, row-no-table, row-over}
+use Rattle.rows.proofs.RowJudging.{found-fine, found-misfit, found-mistyped, found-unknown, row-no-table, row-over}
 use borrow.Author.Needs.{needs}
 use Rattle.rows.proofs.faults.row_fault.Statement.{statement}
 use Rattle.rows.proofs.faults.row_fault.Tie as tie
@@ -63,7 +64,7 @@ returns-3 c =
           (f .unknown-label .result) (λ l ls. f .unknown-label .ensures .0 (h .0 .0) (d .policy) l ls (h .0 .1))
           (c .before .unknown .given .0 .0) (c .before .unknown .given .1);
       roomy = tt;
-      reaches = λ p. near-at s (f .unknown-label .result) (c .before .unknown .given .0 .0) (c .before .unknown .given .1) (f .unknown-label .ensures .1);
+      reaches = λ p. place-near s (f .unknown-label .result) (f .unknown-label .ensures .1) (c .before .unknown .given .0 .0) (c .before .unknown .given .1);
     }
 
 enum-told-2 : tie.Need-enum-told-2
@@ -127,7 +128,7 @@ returns-5 c =
           (m .result) (λ l. m .ensures .0 (a .text .now) (a .tables-count) (d .policy) (h .1) l)
           (c .before .wrong .given .0 .0) (c .before .wrong .given .1);
       roomy = tt;
-      reaches = λ p. near-at s (m .result) (c .before .wrong .given .0 .0) (c .before .wrong .given .1) (m .ensures .1);
+      reaches = λ p. place-near s (m .result) (m .ensures .1) (c .before .wrong .given .0 .0) (c .before .wrong .given .1);
     }
 
 returns-6 : tie.Need-returns-6

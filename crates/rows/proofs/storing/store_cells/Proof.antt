@@ -1,6 +1,6 @@
 -- `rows::storing::store_cells` meets its contract. The loop's invariant: the values and labels that were passed are stored, and the others are
 -- left. Assumes nothing.
-use Prim.Native.Nat.{_+_, _-_, _<_, _^_, _≤_, ℕ}
+use Prim.Native.Nat.{_-_, _<_, _^_, _≤_, ℕ}
 use borrow.Author.Needs.{needs}
 use lib.ListN.{length}
 use mathlib.Core.List.{List, map}
@@ -14,8 +14,7 @@ use Rattle.form.proofs.WalkSteps.{cell-after, cells-stop}
 use Rattle.form.specs.Walks.{cellsAt}
 use Rattle.index.specs.Labels.{Labels}
 use Rattle.lists.specs.Lists.{known}
-use Rattle.rows.proofs.RowTurns.{Rowed, cell-ends, cell-turn, rowed-all, rowed-none}
-use Rattle.text.specs.Walking.{past}
+use Rattle.rows.proofs.RowTurns.{Rowed, cell-turn, rowed-all, rowed-none}
 use Rattle.rows.proofs.storing.store_cells.Statement.{statement}
 use Rattle.rows.proofs.storing.store_cells.Tie as tie
 
@@ -34,11 +33,11 @@ loop-holds c = (omega arith, omega arith, λ d sets l N small few. rowed-none _ 
 byte-at-requires : tie.Need-byte-at-requires Inv-loop μ-loop
 byte-at-requires c κs = search needs
 
-add-skip-byte : tie.Need-add-skip-byte Inv-loop μ-loop
-add-skip-byte c = omega (arith, space-here (c .before .before .before .before .before .args .line .now) (c .before .before .loop .j) _ (c .before .byte-at .ensures) (c .if1 .taken) .1)
+add-first-in : tie.Need-add-first-in Inv-loop μ-loop
+add-first-in c = omega (arith, space-here (c .before .before .before .before .before .args .line .now) (c .before .before .loop .j) _ (c .before .byte-at .ensures) (c .if1 .taken) .1)
 
-skip-byte-requires : tie.Need-skip-byte-requires Inv-loop μ-loop
-skip-byte-requires c κs = search needs
+first-in-requires : tie.Need-first-in-requires Inv-loop μ-loop
+first-in-requires c κs = search needs
 
 add-cell-label : tie.Need-add-cell-label Inv-loop μ-loop
 add-cell-label c = omega (arith, space-here (c .before .before .before .before .before .before .args .line .now) (c .before .before .before .loop .j) _ (c .before .before .byte-at .ensures) (c .before .if1 .taken) .1)
@@ -61,25 +60,25 @@ set-value-requires c κs = search needs
 set-label-requires : tie.Need-set-label-requires Inv-loop μ-loop
 set-label-requires c κs = search needs
 
-word-end-requires : tie.Need-word-end-requires Inv-loop μ-loop
-word-end-requires c κs = search needs
+add-cell-end : tie.Need-add-cell-end Inv-loop μ-loop
+add-cell-end c = omega (arith, space-here (c .before .before .before .before .before .before .before .before .before .before .before .before .before .before .args .line .now) (c .before .before .before .before .before .before .before .before .before .before .before .loop .j) _ (c .before .before .before .before .before .before .before .before .before .before .byte-at .ensures) (c .before .before .before .before .before .before .before .before .before .if1 .taken) .1)
 
-skip-byte-requires-2 : tie.Need-skip-byte-requires-2 Inv-loop μ-loop
-skip-byte-requires-2 c κs = search needs
+cell-end-requires : tie.Need-cell-end-requires Inv-loop μ-loop
+cell-end-requires c κs = search needs
 
 add-c : tie.Need-add-c Inv-loop μ-loop
-add-c c = omega (arith, space-here (c .before .before .before .before .before .before .before .before .before .before .before .before .before .before .before .before .args .line .now) (c .before .before .before .before .before .before .before .before .before .before .before .before .before .loop .j) _ (c .before .before .before .before .before .before .before .before .before .before .before .before .byte-at .ensures) (c .before .before .before .before .before .before .before .before .before .before .before .if1 .taken) .1, c .before .before .before .before .before .before .before .before .before .before .before .before .before .loop .inv .0, c .before .before .before .before .before .before .before .before .before .before .before .before .before .loop .inv .1)
+add-c c = omega (arith, space-here (c .before .before .before .before .before .before .before .before .before .before .before .before .before .before .before .args .line .now) (c .before .before .before .before .before .before .before .before .before .before .before .before .loop .j) _ (c .before .before .before .before .before .before .before .before .before .before .before .byte-at .ensures) (c .before .before .before .before .before .before .before .before .before .before .if1 .taken) .1, c .before .before .before .before .before .before .before .before .before .before .before .before .loop .inv .0, c .before .before .before .before .before .before .before .before .before .before .before .before .loop .inv .1)
 
 loop-less : tie.Need-loop-less Inv-loop μ-loop
-loop-less c = omega (arith, space-here (c .before .before .before .before .before .before .before .before .before .before .before .before .before .before .before .before .args .line .now) (c .before .before .before .before .before .before .before .before .before .before .before .before .before .loop .j) _ (c .before .before .before .before .before .before .before .before .before .before .before .before .byte-at .ensures) (c .before .before .before .before .before .before .before .before .before .before .before .if1 .taken) .1, cell-after (c .before .before .before .before .before .before .before .before .before .before .before .before .before .before .before .before .args .line .now) (c .before .before .before .before .before .before .before .before .before .before .before .before .before .loop .j), cell-ends (c .before .before .before .before .before .before .before .before .before .before .before .before .before .before .before .before .args .line .now) (c .before .before .before .before .before .before .before .before .before .before .before .before .before .loop .j + 1) _ _ (c .before .before .before .before .before .before .before .before .before .cell-label .ensures) (c .skip-byte2 .ensures ∙ ap (past 41 (c .before .before .before .before .before .before .before .before .before .before .before .before .before .before .before .before .args .line .now)) (c .before .word-end .ensures)))
+loop-less c = omega (arith, space-here (c .before .before .before .before .before .before .before .before .before .before .before .before .before .before .before .args .line .now) (c .before .before .before .before .before .before .before .before .before .before .before .before .loop .j) _ (c .before .before .before .before .before .before .before .before .before .before .before .byte-at .ensures) (c .before .before .before .before .before .before .before .before .before .before .if1 .taken) .1, cell-after (c .before .before .before .before .before .before .before .before .before .before .before .before .before .before .before .args .line .now) (c .before .before .before .before .before .before .before .before .before .before .before .before .loop .j), c .cell-end .ensures)
 
 loop-again : tie.Need-loop-again Inv-loop μ-loop
 unfolding labelOf
 loop-again c =
-    let b = space-here (c .before .before .before .before .before .before .before .before .before .before .before .before .before .before .before .before .args .line .now) (c .before .before .before .before .before .before .before .before .before .before .before .before .before .loop .j) _ (c .before .before .before .before .before .before .before .before .before .before .before .before .byte-at .ensures) (c .before .before .before .before .before .before .before .before .before .before .before .if1 .taken) in (
-      omega (arith, b .1, c .before .before .before .before .before .before .before .before .before .before .before .before .before .loop .inv .0, cell-after (c .before .before .before .before .before .before .before .before .before .before .before .before .before .before .before .before .args .line .now) (c .before .before .before .before .before .before .before .before .before .before .before .before .before .loop .j), cell-ends (c .before .before .before .before .before .before .before .before .before .before .before .before .before .before .before .before .args .line .now) (c .before .before .before .before .before .before .before .before .before .before .before .before .before .loop .j + 1) _ _ (c .before .before .before .before .before .before .before .before .before .cell-label .ensures) (c .skip-byte2 .ensures ∙ ap (past 41 (c .before .before .before .before .before .before .before .before .before .before .before .before .before .before .before .before .args .line .now)) (c .before .word-end .ensures))),
-      c .before .before .before .before .before .before .before .before .before .before .before .before .before .loop .inv .1,
-      λ d sets l N small few. cell-turn l (c .before .before .before .before .before .before .before .before .before .before .before .before .before .loop .j) _ _ (b .0) (b .1) d (c .before .before .before .before .before .before .before .before .before .before .before .before .before .before .before .before .args .is) _ _ _ (c .before .before .before .before .before .before .before .before .before .before .skip-byte .ensures) (c .before .before .before .before .before .before .before .before .before .cell-label .ensures) (c .before .before .before .before .before .before .place .ensures) (c .before .before .before .before .before .before .before .number .ensures ∙ ap known (c .before .before .before .before .before .before .before .before .find-label .ensures .0 sets _ N)) (c .skip-byte2 .ensures ∙ ap (past 41 (c .before .before .before .before .before .before .before .before .before .before .before .before .before .before .before .before .args .line .now)) (c .before .word-end .ensures)) (c .before .before .before .before .set-value .ensures) (c .before .before .set-label .ensures) small few (c .before .before .before .before .before .before .before .before .before .before .before .before .before .loop .inv .2 d sets l N small few),
+    let b = space-here (c .before .before .before .before .before .before .before .before .before .before .before .before .before .before .before .args .line .now) (c .before .before .before .before .before .before .before .before .before .before .before .before .loop .j) _ (c .before .before .before .before .before .before .before .before .before .before .before .byte-at .ensures) (c .before .before .before .before .before .before .before .before .before .before .if1 .taken) in (
+      omega (arith, b .1, c .before .before .before .before .before .before .before .before .before .before .before .before .loop .inv .0, cell-after (c .before .before .before .before .before .before .before .before .before .before .before .before .before .before .before .args .line .now) (c .before .before .before .before .before .before .before .before .before .before .before .before .loop .j), c .cell-end .ensures),
+      c .before .before .before .before .before .before .before .before .before .before .before .before .loop .inv .1,
+      λ d sets l N small few. cell-turn l (c .before .before .before .before .before .before .before .before .before .before .before .before .loop .j) _ _ (b .0) (b .1) d (c .before .before .before .before .before .before .before .before .before .before .before .before .before .before .before .args .is) _ _ _ (c .before .before .before .before .before .before .before .before .before .first-in .ensures) (c .before .before .before .before .before .before .before .before .cell-label .ensures) (c .before .before .before .before .before .place .ensures) (c .before .before .before .before .before .before .number .ensures ∙ ap known (c .before .before .before .before .before .before .before .find-label .ensures .0 sets _ N)) (c .cell-end .ensures) (c .before .before .before .set-value .ensures) (c .before .set-label .ensures) small few (c .before .before .before .before .before .before .before .before .before .before .before .before .loop .inv .2 d sets l N small few),
     )
 
 returns : tie.Need-returns Inv-loop μ-loop
@@ -95,8 +94,8 @@ store-cells-spec =
     μ-loop
     loop-holds
     byte-at-requires
-    add-skip-byte
-    skip-byte-requires
+    add-first-in
+    first-in-requires
     add-cell-label
     cell-label-requires
     find-label-requires
@@ -104,8 +103,8 @@ store-cells-spec =
     place-requires
     set-value-requires
     set-label-requires
-    word-end-requires
-    skip-byte-requires-2
+    add-cell-end
+    cell-end-requires
     add-c
     loop-less
     loop-again

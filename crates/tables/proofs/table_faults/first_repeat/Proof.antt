@@ -25,32 +25,32 @@ loop-holds c = (passing-start _, omega arith)
 byte-at-requires : tie.Need-byte-at-requires Inv-loop μ-loop
 byte-at-requires c κs = search needs
 
-add-skip-byte : tie.Need-add-skip-byte Inv-loop μ-loop
-add-skip-byte c = omega (arith, space-here (c .before .before .before .before .args .s .now) (c .before .before .loop .j) _ (c .before .byte-at .ensures) (c .if1 .taken) .1)
+add-first-in : tie.Need-add-first-in Inv-loop μ-loop
+add-first-in c = omega (arith, space-here (c .before .before .before .before .args .s .now) (c .before .before .loop .j) _ (c .before .byte-at .ensures) (c .if1 .taken) .1)
 
-skip-byte-requires : tie.Need-skip-byte-requires Inv-loop μ-loop
-skip-byte-requires c κs = search needs
+first-in-requires : tie.Need-first-in-requires Inv-loop μ-loop
+first-in-requires c κs = search needs
 
 stands-among-requires : tie.Need-stands-among-requires Inv-loop μ-loop
 stands-among-requires c κs = search needs
 
 -- the name at the place is the next one
-next : (c : tie.After-skip-byte Inv-loop μ-loop) → Passing (columnNames (columnsBy (c .before .before .before .before .before .args .triple) (c .before .before .before .before .before .args .s .now) (c .before .before .before .before .before .args .at))) (c .before .before .before .loop .n) (wordOf (c .before .before .before .before .before .args .s .now) (c .skip-byte .result) ∷ columnNames (columnsBy (c .before .before .before .before .before .args .triple) (c .before .before .before .before .before .args .s .now) (bracketEndBy (c .before .before .before .before .before .args .triple) (c .before .before .before .before .before .args .s .now) (c .before .before .before .loop .j + 1))))
+next : (c : tie.After-first-in Inv-loop μ-loop) → Passing (columnNames (columnsBy (c .before .before .before .before .before .args .triple) (c .before .before .before .before .before .args .s .now) (c .before .before .before .before .before .args .at))) (c .before .before .before .loop .n) (wordOf (c .before .before .before .before .before .args .s .now) (c .first-in .result) ∷ columnNames (columnsBy (c .before .before .before .before .before .args .triple) (c .before .before .before .before .before .args .s .now) (bracketEndBy (c .before .before .before .before .before .args .triple) (c .before .before .before .before .before .args .s .now) (c .before .before .before .loop .j + 1))))
 unfolding firstIn
 next c =
     let s = c .before .before .before .before .before .args .s .now in
     let ws = columnNames (columnsBy (c .before .before .before .before .before .args .triple) s (c .before .before .before .before .before .args .at)) in
     let rest = columnNames (columnsBy (c .before .before .before .before .before .args .triple) s (bracketEndBy (c .before .before .before .before .before .args .triple) s (c .before .before .before .loop .j + 1))) in
     subst (λ l. Passing ws (c .before .before .before .loop .n) l)
-    (names-by-more s (c .before .before .before .loop .j) (c .before .before .before .before .before .args .triple) (space-here s (c .before .before .before .loop .j) _ (c .before .before .byte-at .ensures) (c .before .if1 .taken) .0) ∙ ap (λ q. wordOf s q ∷ rest) (sym (c .skip-byte .ensures)))
+    (names-by-more s (c .before .before .before .loop .j) (c .before .before .before .before .before .args .triple) (space-here s (c .before .before .before .loop .j) _ (c .before .before .byte-at .ensures) (c .before .if1 .taken) .0) ∙ ap (λ q. wordOf s q ∷ rest) (sym (c .first-in .ensures)))
     (c .before .before .before .loop .inv .0)
 
 returns : tie.Need-returns Inv-loop μ-loop
 unfolding firstIn
 returns c =
     let s = c .before .before .before .before .before .before .before .args .s .now in (
-      sym (passing-found (wordOf s (c .before .before .skip-byte .result)) _ (next (c .before .before)) (sym (c .before .stands-among .ensures) ∙ c .if2 .taken)),
-      omega (arith, c .before .before .skip-byte .ensures, first-within s (c .before .before .before .before .before .loop .j) (space-here s (c .before .before .before .before .before .loop .j) _ (c .before .before .before .before .byte-at .ensures) (c .before .before .before .if1 .taken) .1)),
+      sym (passing-found (wordOf s (c .before .before .first-in .result)) _ (next (c .before .before)) (sym (c .before .stands-among .ensures) ∙ c .if2 .taken)),
+      omega (arith, c .before .before .first-in .ensures, first-within s (c .before .before .before .before .before .loop .j) (space-here s (c .before .before .before .before .before .loop .j) _ (c .before .before .before .before .byte-at .ensures) (c .before .before .before .if1 .taken) .1)),
     )
 
 add-bracket-end : tie.Need-add-bracket-end Inv-loop μ-loop
@@ -74,7 +74,7 @@ loop-again c =
     let s = c .before .before .before .before .before .before .before .before .args .s .now in
     let ws = columnNames (columnsBy (c .before .before .before .before .before .before .before .before .args .triple) s (c .before .before .before .before .before .before .before .before .args .at)) in (
       subst (λ e. Passing ws (c .before .before .before .before .before .before .loop .n + 1) (columnNames (columnsBy (c .before .before .before .before .before .before .before .before .args .triple) s e))) (sym (c .bracket-end .ensures))
-          (passing-more (wordOf s (c .before .before .before .skip-byte .result)) _ (next (c .before .before .before)) (sym (c .before .before .stands-among .ensures) ∙ c .before .if2 .left)),
+          (passing-more (wordOf s (c .before .before .before .first-in .result)) _ (next (c .before .before .before)) (sym (c .before .before .stands-among .ensures) ∙ c .before .if2 .left)),
       omega (arith, later c, c .before .before .before .before .before .before .loop .inv .1),
     )
 
@@ -94,8 +94,8 @@ first-repeat-spec =
     μ-loop
     loop-holds
     byte-at-requires
-    add-skip-byte
-    skip-byte-requires
+    add-first-in
+    first-in-requires
     stands-among-requires
     returns
     add-bracket-end

@@ -1,6 +1,6 @@
 -- `tables::table_faults::first_unknown_label` meets its contract. The loop's invariant: the first of all that is not known is the first of those
 -- that are left. Assumes nothing.
-use Prim.Native.Nat.{_+_, _-_, _<_, ℕ}
+use Prim.Native.Nat.{_-_, _<_, ℕ}
 use borrow.Author.Needs.{needs}
 use lib.ListN.{length}
 use mathlib.Core.Bool.{Bool, true}
@@ -9,14 +9,13 @@ use mathlib.Core.Path.{_∙_, _≡_, ap, refl, sym}
 use native.Mathlib.Omega.{arith}
 use Rattle.document.specs.Policy.{Label}
 use Rattle.tables.proofs.TableLineLaws.{bracket-after, labels-found, labels-next, labels-stop, third-within}
-use Rattle.form.specs.Walks.{columnLabelsAt, firstIn, secondIn, thirdIn}
+use Rattle.form.specs.Walks.{columnLabelsAt}
 use Rattle.index.specs.Labels.{Labels}
 use Rattle.lists.specs.Lists.{findIndex, there}
 use Rattle.lists.proofs.Tests.{not-false}
 use borrow.Author.Tests.{not-true}
 use Rattle.text.proofs.Spaces.{space-here}
 use Rattle.text.specs.Offending.{missing}
-use Rattle.text.specs.Walking.{nextWord}
 use Rattle.text.specs.Words.{Word, isCalled}
 use Rattle.tables.proofs.table_faults.first_unknown_label.Statement.{statement}
 use Rattle.tables.proofs.table_faults.first_unknown_label.Tie as tie
@@ -37,53 +36,42 @@ loop-holds c sets ls h = refl
 byte-at-requires : tie.Need-byte-at-requires Inv-loop μ-loop
 byte-at-requires c κs = search needs
 
-add-skip-byte : tie.Need-add-skip-byte Inv-loop μ-loop
-add-skip-byte c = omega (arith, space-here (c .before .before .before .before .before .args .line .now) (c .before .before .loop .j) _ (c .before .byte-at .ensures) (c .if1 .taken) .1)
+add-third-in : tie.Need-add-third-in Inv-loop μ-loop
+add-third-in c = omega (arith, space-here (c .before .before .before .before .before .args .line .now) (c .before .before .loop .j) _ (c .before .byte-at .ensures) (c .if1 .taken) .1)
 
-skip-byte-requires : tie.Need-skip-byte-requires Inv-loop μ-loop
-skip-byte-requires c κs = search needs
-
-next-word-requires : tie.Need-next-word-requires Inv-loop μ-loop
-next-word-requires c κs = search needs
-
-next-word-requires-2 : tie.Need-next-word-requires-2 Inv-loop μ-loop
-next-word-requires-2 c κs = search needs
+third-in-requires : tie.Need-third-in-requires Inv-loop μ-loop
+third-in-requires c κs = search needs
 
 is-label-requires : tie.Need-is-label-requires Inv-loop μ-loop
 is-label-requires c κs = search needs
 
--- the third word
-third : (c : tie.After-next-word2 Inv-loop μ-loop) → c .next-word2 .result ≡ thirdIn (c .before .before .before .before .before .before .before .before .args .line .now) (c .before .before .before .before .before .loop .j + 1)
-unfolding firstIn secondIn thirdIn
-third c = c .next-word2 .ensures ∙ ap (nextWord (c .before .before .before .before .before .before .before .before .args .line .now)) (c .before .next-word .ensures ∙ ap (nextWord (c .before .before .before .before .before .before .before .before .args .line .now)) (c .before .before .skip-byte .ensures))
-
 returns : tie.Need-returns Inv-loop μ-loop
 returns c =
-    let s = c .before .before .before .before .before .before .before .before .before .before .args .line .now in
-    let e = third (c .before .before) in
-    let g = space-here s (c .before .before .before .before .before .before .before .loop .j) _ (c .before .before .before .before .before .before .byte-at .ensures) (c .before .before .before .before .before .if1 .taken) in (
-      (λ sets ls h. sym (c .before .before .before .before .before .before .before .loop .inv sets ls h ∙ labels-found s (c .before .before .before .before .before .before .before .loop .j) (known ls) (g .0) (c .before .before .next-word2 .result) e (sym (c .before .is-label .ensures sets ls h) ∙ not-true (c .before .is-label .result) (c .if2 .taken)))),
-      omega (arith, e, third-within s (c .before .before .before .before .before .before .before .loop .j) (g .1)),
+    let s = c .before .before .before .before .before .before .before .before .args .line .now in
+    let e = c .before .before .third-in .ensures in
+    let g = space-here s (c .before .before .before .before .before .loop .j) _ (c .before .before .before .before .byte-at .ensures) (c .before .before .before .if1 .taken) in (
+      (λ sets ls h. sym (c .before .before .before .before .before .loop .inv sets ls h ∙ labels-found s (c .before .before .before .before .before .loop .j) (known ls) (g .0) (c .before .before .third-in .result) e (sym (c .before .is-label .ensures sets ls h) ∙ not-true (c .before .is-label .result) (c .if2 .taken)))),
+      omega (arith, e, third-within s (c .before .before .before .before .before .loop .j) (g .1)),
     )
 
 add-bracket-end : tie.Need-add-bracket-end Inv-loop μ-loop
-add-bracket-end c = omega (arith, space-here (c .before .before .before .before .before .before .before .before .before .before .args .line .now) (c .before .before .before .before .before .before .before .loop .j) _ (c .before .before .before .before .before .before .byte-at .ensures) (c .before .before .before .before .before .if1 .taken) .1)
+add-bracket-end c = omega (arith, space-here (c .before .before .before .before .before .before .before .before .args .line .now) (c .before .before .before .before .before .loop .j) _ (c .before .before .before .before .byte-at .ensures) (c .before .before .before .if1 .taken) .1)
 
 bracket-end-requires : tie.Need-bracket-end-requires Inv-loop μ-loop
 bracket-end-requires c κs = search needs
 
 -- the next turn begins later
-later : (c : tie.After-bracket-end Inv-loop μ-loop) → c .before .before .before .before .before .before .before .before .loop .j < c .bracket-end .result
-later c = omega (arith, c .bracket-end .ensures, bracket-after (c .before .before .before .before .before .before .before .before .before .before .before .args .line .now) (c .before .before .before .before .before .before .before .before .loop .j) true)
+later : (c : tie.After-bracket-end Inv-loop μ-loop) → c .before .before .before .before .before .before .loop .j < c .bracket-end .result
+later c = omega (arith, c .bracket-end .ensures, bracket-after (c .before .before .before .before .before .before .before .before .before .args .line .now) (c .before .before .before .before .before .before .loop .j) true)
 
 loop-less : tie.Need-loop-less Inv-loop μ-loop
-loop-less c = omega (arith, later c, space-here (c .before .before .before .before .before .before .before .before .before .before .before .args .line .now) (c .before .before .before .before .before .before .before .before .loop .j) _ (c .before .before .before .before .before .before .before .byte-at .ensures) (c .before .before .before .before .before .before .if1 .taken) .1)
+loop-less c = omega (arith, later c, space-here (c .before .before .before .before .before .before .before .before .before .args .line .now) (c .before .before .before .before .before .before .loop .j) _ (c .before .before .before .before .before .byte-at .ensures) (c .before .before .before .before .if1 .taken) .1)
 
 loop-again : tie.Need-loop-again Inv-loop μ-loop
 loop-again c sets ls h =
-    let s = c .before .before .before .before .before .before .before .before .before .before .before .args .line .now in
-    c .before .before .before .before .before .before .before .before .loop .inv sets ls h
-    ∙ labels-next s (c .before .before .before .before .before .before .before .before .loop .j) (known ls) (space-here s (c .before .before .before .before .before .before .before .before .loop .j) _ (c .before .before .before .before .before .before .before .byte-at .ensures) (c .before .before .before .before .before .before .if1 .taken) .0) (c .before .before .before .next-word2 .result) (third (c .before .before .before)) (sym (c .before .before .is-label .ensures sets ls h) ∙ not-false (c .before .before .is-label .result) (c .before .if2 .left))
+    let s = c .before .before .before .before .before .before .before .before .before .args .line .now in
+    c .before .before .before .before .before .before .loop .inv sets ls h
+    ∙ labels-next s (c .before .before .before .before .before .before .loop .j) (known ls) (space-here s (c .before .before .before .before .before .before .loop .j) _ (c .before .before .before .before .before .byte-at .ensures) (c .before .before .before .before .if1 .taken) .0) (c .before .before .before .third-in .result) (c .before .before .before .third-in .ensures) (sym (c .before .before .is-label .ensures sets ls h) ∙ not-false (c .before .before .is-label .result) (c .before .if2 .left))
     ∙ ap (λ e. missing (known ls) (columnLabelsAt s e)) (sym (c .bracket-end .ensures))
 
 returns-2 : tie.Need-returns-2 Inv-loop μ-loop
@@ -97,10 +85,8 @@ first-unknown-label-spec =
     μ-loop
     loop-holds
     byte-at-requires
-    add-skip-byte
-    skip-byte-requires
-    next-word-requires
-    next-word-requires-2
+    add-third-in
+    third-in-requires
     is-label-requires
     returns
     add-bracket-end

@@ -31,11 +31,11 @@ byte-at-requires c κs = search needs
 returns : tie.Need-returns Inv-loop μ-loop
 returns c = sym (c .before .before .before .loop .inv ∙ none-looked (c .before .before .before .before .before .args .s .now) (c .before .before .before .loop .j) (c .before .before .before .before .before .args .triple) (λ (v : Word). isCalled (wordOf (c .before .before .before .before .before .args .s .now) (c .before .before .before .before .before .args .p)) (v .bytes)) (c .before .before .before .loop .left) (c .if2 .taken))
 
-add-skip-byte : tie.Need-add-skip-byte Inv-loop μ-loop
-add-skip-byte c = omega (arith, space-here (c .before .before .before .before .before .args .s .now) (c .before .before .before .loop .j) _ (c .before .before .byte-at .ensures) (c .before .if1 .taken) .1)
+add-first-in : tie.Need-add-first-in Inv-loop μ-loop
+add-first-in c = omega (arith, space-here (c .before .before .before .before .before .args .s .now) (c .before .before .before .loop .j) _ (c .before .before .byte-at .ensures) (c .before .if1 .taken) .1)
 
-skip-byte-requires : tie.Need-skip-byte-requires Inv-loop μ-loop
-skip-byte-requires c κs = search needs
+first-in-requires : tie.Need-first-in-requires Inv-loop μ-loop
+first-in-requires c κs = search needs
 
 same-name-requires : tie.Need-same-name-requires Inv-loop μ-loop
 same-name-requires c κs = search needs
@@ -43,7 +43,7 @@ same-name-requires c κs = search needs
 -- what the code compared is the name of the column
 compared : (c : tie.After-same-name Inv-loop μ-loop) → c .same-name .result ≡ isCalled (wordOf (c .before .before .before .before .before .before .before .args .s .now) (c .before .before .before .before .before .before .before .args .p)) (wordAt (c .before .before .before .before .before .before .before .args .s .now) (firstIn (c .before .before .before .before .before .before .before .args .s .now) (c .before .before .before .before .before .loop .j + 1)))
 unfolding isCalled firstIn
-compared c = c .same-name .ensures ∙ ap (λ q. sameName (wordAt (c .before .before .before .before .before .before .before .args .s .now) (c .before .before .before .before .before .before .before .args .p)) (wordAt (c .before .before .before .before .before .before .before .args .s .now) q)) (c .before .skip-byte .ensures)
+compared c = c .same-name .ensures ∙ ap (λ q. sameName (wordAt (c .before .before .before .before .before .before .before .args .s .now) (c .before .before .before .before .before .before .before .args .p)) (wordAt (c .before .before .before .before .before .before .before .args .s .now) q)) (c .before .first-in .ensures)
 
 returns-2 : tie.Need-returns-2 Inv-loop μ-loop
 returns-2 c = sym (c .before .before .before .before .before .before .loop .inv ∙ this-one (c .before .before .before .before .before .before .before .before .args .s .now) (c .before .before .before .before .before .before .loop .j) (c .before .before .before .before .before .before .before .before .args .triple) (λ (v : Word). isCalled (wordOf (c .before .before .before .before .before .before .before .before .args .s .now) (c .before .before .before .before .before .before .before .before .args .p)) (v .bytes)) (c .before .before .before .before .before .before .loop .left) (space-here (c .before .before .before .before .before .before .before .before .args .s .now) (c .before .before .before .before .before .before .loop .j) _ (c .before .before .before .before .before .byte-at .ensures) (c .before .before .before .before .if1 .taken) .0) (c .before .before .before .if2 .left) (sym (compared (c .before)) ∙ c .if3 .taken))
@@ -84,8 +84,8 @@ stands-among-spec =
     loop-holds
     byte-at-requires
     returns
-    add-skip-byte
-    skip-byte-requires
+    add-first-in
+    first-in-requires
     same-name-requires
     returns-2
     add-bracket-end

@@ -10,16 +10,17 @@ use Rattle.document.specs.Lookup.{tableOf}
 use Rattle.document.specs.NameFaults.{taken}
 use Rattle.document.specs.Policy.{Doc}
 use Rattle.stepping.proofs.Judging.{judge-bound, judge-fine, judge-taken, judge-unknown}
-use Rattle.tables.proofs.TableLineLaws.{columnNames, columns-words, fine-apart-item, fine-apart-whole, table-again, table-late, table-many, table-room, table-root, table-taken, table-type, table-unknown, table-values, table-wide}
-use Rattle.stepping.specs.Places.{Near, wordFound}
+use Rattle.tables.proofs.TableLineLaws.{columnNames, columns-words, fine-apart, table-again, table-late, table-many, table-room, table-root, table-taken, table-type, table-unknown, table-values, table-wide}
+use Rattle.stepping.specs.Places.{Near}
 use Rattle.tables.specs.TableLine.{columnsBy}
 use Rattle.index.proofs.TableLaws.{tables-counted}
 use Rattle.index.specs.Found.{foundAs}
 use Rattle.index.specs.Tables.{Tables}
 use Rattle.form.specs.TableWords.{columnWords, tableLine}
+use Rattle.text.specs.CodeEnds.{offendingOf}
 use Rattle.text.specs.Offending.{repeated}
 use Rattle.text.specs.Words.{wordOf}
-use Rattle.index.specs.declared.found.Found.{Found}
+use Rattle.text.specs.declared.offending.Offending.{Offending}
 use Rattle.tables.proofs.table_faults.table_fault.Statement.{statement}
 use Rattle.tables.proofs.table_faults.table_fault.Tie as tie
 
@@ -30,7 +31,7 @@ returns c = record {
     roomy = tt;
     reaches = λ p. tt;
   };
-  narrow = fine-apart-whole _;
+  narrow = fine-apart _;
 }
 
 labels-columns-requires : tie.Need-labels-columns-requires
@@ -52,7 +53,7 @@ returns-2 c = record {
     roomy = tt;
     reaches = λ p. tt;
   };
-  narrow = fine-apart-whole _;
+  narrow = fine-apart _;
 }
 
 find-table-requires : tie.Need-find-table-requires
@@ -74,7 +75,7 @@ returns-3 c = record {
     roomy = tt;
     reaches = λ p. p .0;
   };
-  narrow = fine-apart-item _ _;
+  narrow = fine-apart _;
 }
 
 enum-told-2 : tie.Need-enum-told-2
@@ -87,7 +88,7 @@ enum-known-again : tie.Need-enum-known-again
 enum-known-again c = search needs
 
 -- what is taken is the name of a column that stood before
-repeats : (c : tie.After-first-repeat) (d : Doc) → Tables (c .before .before .before .before .before .before .before .before .before .before .args .text .now) (c .before .before .before .before .before .before .before .before .before .before .args .tables .now) (c .before .before .before .before .before .before .before .before .before .before .args .k) (d .policy .tables) → taken (d .policy) (tableLine (c .before .before .before .before .before .before .before .before .before .before .args .line .now) (c .before .before .before .before .before .before .before .before .before .before .args .t) (c .before .before .before .before .before .before .before .before .before .before .args .scheme) (c .before .before .before .before .before .before .before .before .before .before .args .l) (c .before .before .before .before .before .before .before .before .before .before .args .cs)) ≡ wordFound (c .before .before .before .before .before .before .before .before .before .before .args .line .now) (c .first-repeat .result)
+repeats : (c : tie.After-first-repeat) (d : Doc) → Tables (c .before .before .before .before .before .before .before .before .before .before .args .text .now) (c .before .before .before .before .before .before .before .before .before .before .args .tables .now) (c .before .before .before .before .before .before .before .before .before .before .args .k) (d .policy .tables) → taken (d .policy) (tableLine (c .before .before .before .before .before .before .before .before .before .before .args .line .now) (c .before .before .before .before .before .before .before .before .before .before .args .t) (c .before .before .before .before .before .before .before .before .before .before .args .scheme) (c .before .before .before .before .before .before .before .before .before .before .args .l) (c .before .before .before .before .before .before .before .before .before .before .args .cs)) ≡ offendingOf (c .before .before .before .before .before .before .before .before .before .before .args .line .now) (c .first-repeat .result)
 unfolding tableOf
 repeats c d h =
     table-again d (c .before .before .before .before .before .before .before .before .before .before .args .line .now) (c .before .before .before .before .before .before .before .before .before .before .args .t) (c .before .before .before .before .before .before .before .before .before .before .args .scheme) (c .before .before .before .before .before .before .before .before .before .before .args .l) (c .before .before .before .before .before .before .before .before .before .before .args .cs) (sym (ap foundAs (c .before .enum-told2 .given .1)) ∙ c .before .before .before .find-table .ensures .0 (d .policy .tables) h)
@@ -99,11 +100,11 @@ returns-4 : tie.Need-returns-4
 returns-4 c = record {
   judges = record {
     is = λ d h. judge-taken d (c .before .before .before .before .before .before .before .before .before .before .before .before .before .args .line .now) (tableLine (c .before .before .before .before .before .before .before .before .before .before .before .before .before .args .line .now) (c .before .before .before .before .before .before .before .before .before .before .before .before .before .args .t) (c .before .before .before .before .before .before .before .before .before .before .before .before .before .args .scheme) (c .before .before .before .before .before .before .before .before .before .before .before .before .before .args .l) (c .before .before .before .before .before .before .before .before .before .before .before .before .before .args .cs)) (room (c .before .before .before .before .before .before .before) d (h .1)) (wordOf (c .before .before .before .before .before .before .before .before .before .before .before .before .before .args .line .now) (c .before .again .given .0 .0))
-        (repeats (c .before .before .before) d (h .1) ∙ ap (wordFound (c .before .before .before .before .before .before .before .before .before .before .before .before .before .args .line .now)) (c .before .again .given .1));
+        (repeats (c .before .before .before) d (h .1) ∙ ap (offendingOf (c .before .before .before .before .before .before .before .before .before .before .before .before .before .args .line .now)) (c .before .again .given .1));
     roomy = tt;
-    reaches = λ p. subst (λ (f : Found). Near (c .before .before .before .before .before .before .before .before .before .before .before .before .before .args .line .now) f) (c .before .again .given .1) (c .before .before .before .first-repeat .ensures .1);
+    reaches = λ p. subst (λ (f : Offending). Near (c .before .before .before .before .before .before .before .before .before .before .before .before .before .args .line .now) f) (c .before .again .given .1) (c .before .before .before .first-repeat .ensures .1);
   };
-  narrow = fine-apart-item _ _;
+  narrow = fine-apart _;
 }
 
 enum-told-3 : tie.Need-enum-told-3
@@ -117,17 +118,17 @@ enum-known-unknown c = search needs
 
 -- no name is taken
 fresh : (c : tie.After-enum-told3) (d : Doc) → Tables (c .before .before .before .before .before .before .before .before .before .before .before .before .args .text .now) (c .before .before .before .before .before .before .before .before .before .before .before .before .args .tables .now) (c .before .before .before .before .before .before .before .before .before .before .before .before .args .k) (d .policy .tables) → taken (d .policy) (tableLine (c .before .before .before .before .before .before .before .before .before .before .before .before .args .line .now) (c .before .before .before .before .before .before .before .before .before .before .before .before .args .t) (c .before .before .before .before .before .before .before .before .before .before .before .before .args .scheme) (c .before .before .before .before .before .before .before .before .before .before .before .before .args .l) (c .before .before .before .before .before .before .before .before .before .before .before .before .args .cs)) ≡ none
-fresh c d h = repeats (c .before .before) d h ∙ ap (wordFound (c .before .before .before .before .before .before .before .before .before .before .before .before .args .line .now)) (c .enum-told3 .given .1)
+fresh c d h = repeats (c .before .before) d h ∙ ap (offendingOf (c .before .before .before .before .before .before .before .before .before .before .before .before .args .line .now)) (c .enum-told3 .given .1)
 
 returns-5 : tie.Need-returns-5
 returns-5 c = record {
   judges = record {
     is = λ d h. judge-unknown d (c .before .before .before .before .before .before .before .before .before .before .before .before .before .before .before .before .args .line .now) (tableLine (c .before .before .before .before .before .before .before .before .before .before .before .before .before .before .before .before .args .line .now) (c .before .before .before .before .before .before .before .before .before .before .before .before .before .before .before .before .args .t) (c .before .before .before .before .before .before .before .before .before .before .before .before .before .before .before .before .args .scheme) (c .before .before .before .before .before .before .before .before .before .before .before .before .before .before .before .before .args .l) (c .before .before .before .before .before .before .before .before .before .before .before .before .before .before .before .before .args .cs)) (room (c .before .before .before .before .before .before .before .before .before .before) d (h .1)) (fresh (c .before .before .before .before) d (h .1)) (wordOf (c .before .before .before .before .before .before .before .before .before .before .before .before .before .before .before .before .args .line .now) (c .before .unknown .given .0 .0))
-        (table-unknown d (c .before .before .before .before .before .before .before .before .before .before .before .before .before .before .before .before .args .line .now) (c .before .before .before .before .before .before .before .before .before .before .before .before .before .before .before .before .args .t) (c .before .before .before .before .before .before .before .before .before .before .before .before .before .before .before .before .args .scheme) (c .before .before .before .before .before .before .before .before .before .before .before .before .before .before .before .before .args .l) (c .before .before .before .before .before .before .before .before .before .before .before .before .before .before .before .before .args .cs) ∙ sym (c .before .before .before .unknown-label .ensures .0 (h .0 .0) (d .policy .labels) (h .0 .1)) ∙ ap (wordFound (c .before .before .before .before .before .before .before .before .before .before .before .before .before .before .before .before .args .line .now)) (c .before .unknown .given .1));
+        (table-unknown d (c .before .before .before .before .before .before .before .before .before .before .before .before .before .before .before .before .args .line .now) (c .before .before .before .before .before .before .before .before .before .before .before .before .before .before .before .before .args .t) (c .before .before .before .before .before .before .before .before .before .before .before .before .before .before .before .before .args .scheme) (c .before .before .before .before .before .before .before .before .before .before .before .before .before .before .before .before .args .l) (c .before .before .before .before .before .before .before .before .before .before .before .before .before .before .before .before .args .cs) ∙ sym (c .before .before .before .unknown-label .ensures .0 (h .0 .0) (d .policy .labels) (h .0 .1)) ∙ ap (offendingOf (c .before .before .before .before .before .before .before .before .before .before .before .before .before .before .before .before .args .line .now)) (c .before .unknown .given .1));
     roomy = tt;
-    reaches = λ p. subst (λ (f : Found). Near (c .before .before .before .before .before .before .before .before .before .before .before .before .before .before .before .before .args .line .now) f) (c .before .unknown .given .1) (c .before .before .before .unknown-label .ensures .1 (p .1));
+    reaches = λ p. subst (λ (f : Offending). Near (c .before .before .before .before .before .before .before .before .before .before .before .before .before .before .before .before .args .line .now) f) (c .before .unknown .given .1) (c .before .before .before .unknown-label .ensures .1 (p .1));
   };
-  narrow = fine-apart-item _ _;
+  narrow = fine-apart _;
 }
 
 enum-told-4 : tie.Need-enum-told-4
@@ -137,7 +138,7 @@ returns-6 : tie.Need-returns-6
 returns-6 c = record {
   judges = record {
     is = λ d h. judge-fine d (c .before .before .before .before .before .before .before .before .before .before .before .before .before .before .before .args .line .now) (tableLine (c .before .before .before .before .before .before .before .before .before .before .before .before .before .before .before .args .line .now) (c .before .before .before .before .before .before .before .before .before .before .before .before .before .before .before .args .t) (c .before .before .before .before .before .before .before .before .before .before .before .before .before .before .before .args .scheme) (c .before .before .before .before .before .before .before .before .before .before .before .before .before .before .before .args .l) (c .before .before .before .before .before .before .before .before .before .before .before .before .before .before .before .args .cs)) (room (c .before .before .before .before .before .before .before .before .before) d (h .1)) (fresh (c .before .before .before) d (h .1))
-        (table-unknown d (c .before .before .before .before .before .before .before .before .before .before .before .before .before .before .before .args .line .now) (c .before .before .before .before .before .before .before .before .before .before .before .before .before .before .before .args .t) (c .before .before .before .before .before .before .before .before .before .before .before .before .before .before .before .args .scheme) (c .before .before .before .before .before .before .before .before .before .before .before .before .before .before .before .args .l) (c .before .before .before .before .before .before .before .before .before .before .before .before .before .before .before .args .cs) ∙ sym (c .before .before .unknown-label .ensures .0 (h .0 .0) (d .policy .labels) (h .0 .1)) ∙ ap (wordFound (c .before .before .before .before .before .before .before .before .before .before .before .before .before .before .before .args .line .now)) (c .enum-told4 .given .1))
+        (table-unknown d (c .before .before .before .before .before .before .before .before .before .before .before .before .before .before .before .args .line .now) (c .before .before .before .before .before .before .before .before .before .before .before .before .before .before .before .args .t) (c .before .before .before .before .before .before .before .before .before .before .before .before .before .before .before .args .scheme) (c .before .before .before .before .before .before .before .before .before .before .before .before .before .before .before .args .l) (c .before .before .before .before .before .before .before .before .before .before .before .before .before .before .before .args .cs) ∙ sym (c .before .before .unknown-label .ensures .0 (h .0 .0) (d .policy .labels) (h .0 .1)) ∙ ap (offendingOf (c .before .before .before .before .before .before .before .before .before .before .before .before .before .before .before .args .line .now)) (c .enum-told4 .given .1))
         (table-root d (c .before .before .before .before .before .before .before .before .before .before .before .before .before .before .before .args .line .now) (c .before .before .before .before .before .before .before .before .before .before .before .before .before .before .before .args .t) (c .before .before .before .before .before .before .before .before .before .before .before .before .before .before .before .args .scheme) (c .before .before .before .before .before .before .before .before .before .before .before .before .before .before .before .args .l) (c .before .before .before .before .before .before .before .before .before .before .before .before .before .before .before .args .cs)) (table-values d (c .before .before .before .before .before .before .before .before .before .before .before .before .before .before .before .args .line .now) (c .before .before .before .before .before .before .before .before .before .before .before .before .before .before .before .args .t) (c .before .before .before .before .before .before .before .before .before .before .before .before .before .before .before .args .scheme) (c .before .before .before .before .before .before .before .before .before .before .before .before .before .before .before .args .l) (c .before .before .before .before .before .before .before .before .before .before .before .before .before .before .before .args .cs)) (table-type d (c .before .before .before .before .before .before .before .before .before .before .before .before .before .before .before .args .line .now) (c .before .before .before .before .before .before .before .before .before .before .before .before .before .before .before .args .t) (c .before .before .before .before .before .before .before .before .before .before .before .before .before .before .before .args .scheme) (c .before .before .before .before .before .before .before .before .before .before .before .before .before .before .before .args .l) (c .before .before .before .before .before .before .before .before .before .before .before .before .before .before .before .args .cs)) (table-late d (c .before .before .before .before .before .before .before .before .before .before .before .before .before .before .before .args .line .now) (c .before .before .before .before .before .before .before .before .before .before .before .before .before .before .before .args .t) (c .before .before .before .before .before .before .before .before .before .before .before .before .before .before .before .args .scheme) (c .before .before .before .before .before .before .before .before .before .before .before .before .before .before .before .args .l) (c .before .before .before .before .before .before .before .before .before .before .before .before .before .before .before .args .cs));
     roomy = c .before .before .before .before .before .before .before .before .before .before .before .before .if1 .left;
     reaches = λ p. tt;

@@ -1,8 +1,8 @@
--- `members::givens::first_in` meets its contract. Assumes nothing.
+-- `form::walks::first_in` meets its contract. Assumes nothing.
 use Rattle.form.specs.Walks.{firstIn}
 use borrow.Author.Needs.{needs}
-use Rattle.members.proofs.givens.first_in.Statement.{statement}
-use Rattle.members.proofs.givens.first_in.Tie as tie
+use Rattle.form.proofs.walks.first_in.Statement.{statement}
+use Rattle.form.proofs.walks.first_in.Tie as tie
 
 skip-byte-requires : tie.Need-skip-byte-requires
 skip-byte-requires c κs = search needs

@@ -1,10 +1,10 @@
--- `members::givens::pair_end` meets its contract. Assumes nothing.
-use borrow.Author.Needs.{needs}
-use mathlib.Core.Path.{_∙_, ap}
+-- `form::walks::pair_end` meets its contract. Assumes nothing.
 use Rattle.form.specs.Walks.{pairEndAt}
 use Rattle.text.specs.Walking.{past, wordEndAt}
-use Rattle.members.proofs.givens.pair_end.Statement.{statement}
-use Rattle.members.proofs.givens.pair_end.Tie as tie
+use mathlib.Core.Path.{_∙_, ap}
+use borrow.Author.Needs.{needs}
+use Rattle.form.proofs.walks.pair_end.Statement.{statement}
+use Rattle.form.proofs.walks.pair_end.Tie as tie
 
 second-in-requires : tie.Need-second-in-requires
 second-in-requires c κs = search needs

@@ -1,11 +1,11 @@
--- `answering::judging::label_open` meets its contract. Assumes nothing.
+-- `index::labels::opened_at` meets its contract. Assumes nothing.
 use borrow.Author.Needs.{needs}
 use lib.ListN.{List·getD-eq-default}
 use mathlib.Core.Bool.{false}
 use mathlib.Core.Path.{sym}
 use native.Mathlib.Omega.{arith}
-use Rattle.answering.proofs.judging.label_open.Statement.{statement}
-use Rattle.answering.proofs.judging.label_open.Tie as tie
+use Rattle.index.proofs.labels.opened_at.Statement.{statement}
+use Rattle.index.proofs.labels.opened_at.Tie as tie
 
 shared-slice-read-result : tie.Need-shared-slice-read-result
 shared-slice-read-result c = search needs
@@ -16,5 +16,5 @@ returns c = search needs
 returns-2 : tie.Need-returns-2
 returns-2 c = sym (List·getD-eq-default (c .before .args .opened .now) false (omega arith))
 
-pub label-open-spec : {M : Type 1} → statement M
-label-open-spec = tie.close (tie.spec shared-slice-read-result returns returns-2)
+pub opened-at-spec : {M : Type 1} → statement M
+opened-at-spec = tie.close (tie.spec shared-slice-read-result returns returns-2)
