@@ -1,6 +1,7 @@
 //! The gate beside the plain reference, a pass of byte classes and SQLite.
 //!
 //!   bench                     measures and prints the table
+//!   bench worst [WORD]        documents that are dear to check, with WORD in their names
 //!   bench once WHAT KEY       makes one call, for an instruction counter
 //!   bench keys                prints the keys
 //!   bench text KEY            prints the document; bench query KEY the select
@@ -13,6 +14,7 @@ mod plain;
 mod samples;
 mod sqlite;
 mod table;
+mod worst;
 
 use documents::Case;
 use samples::Samples;
@@ -208,6 +210,14 @@ fn main() -> std::io::Result<()> {
     let named = |wanted: &str| cases.iter().find(|case| key(case) == wanted).expect("a key that `bench keys` prints");
     match words[..] {
         [] => measure(&cases),
+        ["worst"] => {
+            worst::measure("");
+            Ok(())
+        }
+        ["worst", word] => {
+            worst::measure(word);
+            Ok(())
+        }
         ["keys"] => {
             for case in &cases {
                 println!("{} {}", key(case), case.text.len());
@@ -221,7 +231,7 @@ fn main() -> std::io::Result<()> {
         ["text", wanted] => std::io::stdout().write_all(&named(wanted).text),
         ["query", wanted] => std::io::stdout().write_all(named(wanted).select.as_bytes()),
         _ => {
-            eprintln!("bench | bench once WHAT KEY | bench keys | bench text KEY | bench query KEY");
+            eprintln!("bench | bench worst [WORD] | bench once WHAT KEY | bench keys | bench text KEY | bench query KEY");
             std::process::exit(2)
         }
     }
