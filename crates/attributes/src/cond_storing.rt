@@ -1,5 +1,6 @@
 // Storing a conditional role.
 use index::conds::add_cond_role;
+use index::hashes::print_word;
 use index::layout::COND_ROLE_CELLS;
 use index::layout::ROLE_CELLS;
 use index::names::find_role;
@@ -39,5 +40,6 @@ pub fn store_cond_role(
     let role = number(find_role(text, roles, roles_count, line, r));
     let pos = place(text, at, c);
     let end = place(text, at, line.len());
-    add_cond_role(conds, k, pos, role, at, end, t);
+    let w = print_word(line, c);
+    add_cond_role(conds, k, pos, role, at, end, t, w.hash);
 }

@@ -99,6 +99,7 @@ module _ (d e : Policy) (new : List Attribute) (grown : e .attributes ≡ d .att
     are = listed-same (condRoleIn e text ws) (condRoleIn d text ws) k (λ i l. cond-same text ws i (n .known i l)) ∙ n .are;
     known = λ i l. known-grown (conditionIn text ws i) (n .known i l);
     reads = n .reads;
+    printed = n .printed;
   }
 
 -- ---- the policy e has the attributes of d
@@ -126,12 +127,13 @@ module _ (d e : Policy) (same : e .attributes ≡ d .attributes) where
   users-same {text} {ws} {k} n = record {
     few = n .few;
     are = listed-same (userIn e text ws) (userIn d text ws) k (λ i l. user-same text ws i) ∙ n .are;
+    printed = n .printed;
   }
 
 -- where there is no user, any policy will do
 pub users-none : (d e : Policy) {text ws : List ℕ} {us : List User} → Users d text ws 0 us → Users e text ws 0 us
 unfolding listed
-users-none d e n = record { few = n .few; are = n .are }
+users-none d e n = record { few = n .few; are = n .are; printed = n .printed }
 
 -- ---- before any line
 
@@ -145,11 +147,11 @@ attributes-start text ws = record { few = omega arith; are = append-nil clockAtt
 
 pub users-start : (d : Policy) (text ws : List ℕ) → Users d text ws 0 []
 unfolding listed
-users-start d text ws = record { few = omega arith; are = refl }
+users-start d text ws = record { few = omega arith; are = refl; printed = below-none _ }
 
 pub conds-start : (d : Policy) (text ws : List ℕ) → CondRoles d text ws 0 []
 unfolding listed
-conds-start d text ws = record { few = omega arith; are = refl; known = below-none _; reads = below-none _ }
+conds-start d text ws = record { few = omega arith; are = refl; known = below-none _; reads = below-none _; printed = below-none _ }
 
 -- ---- how many there are
 

@@ -3,6 +3,7 @@ pub mod ListedLaws
 pub mod SameLaws
 pub mod Finding
 pub mod HashLaws
+pub mod MetLaws
 pub mod NodeLaws
 pub mod Stores
 pub mod AttributeLaws

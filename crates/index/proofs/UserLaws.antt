@@ -1,9 +1,10 @@
 -- Users in the workspace: one more, and looking one up by name, and by name and role. Assumes nothing.
 use Prim.Native.Nat.{_+_, _<_, suc, ℕ}
+use borrow.Author.Count.{below-more}
 use borrow.Author.Tests.{eq-eqb, ne-eqb}
 use lib.Dec.{eqb}
 use lib.ListN.{getD, length, set}
-use mathlib.Core.Bool.{Bool, _&&_, and-false, false, true}
+use mathlib.Core.Bool.{Bool, _&&_, and-false, and-true, false, true}
 use mathlib.Core.List.{List, [], _++_, _∷_, map}
 use mathlib.Core.Option.{Option, none, some}
 use mathlib.Core.Path.{_∙_, _≡_, ap, refl, subst, sym}
@@ -13,12 +14,13 @@ use Rattle.document.specs.Meaning.{givenOf}
 use Rattle.document.specs.Policy.{Policy, User}
 use Rattle.form.specs.Walks.{givensAt}
 use Rattle.index.proofs.Finding.{found-first}
+use Rattle.index.proofs.HashLaws.{other-print}
 use Rattle.index.proofs.ListedLaws.{listed-found, listed-none, listed-pushed}
 use Rattle.index.proofs.Stores.{Store, stores, stores-other, stores-same}
 use Rattle.index.specs.Cells.{lineIn}
-use Rattle.index.specs.Users.{Users, userIn}
+use Rattle.index.specs.Hash.{Printed, printOf}
+use Rattle.index.specs.Users.{Users, userIn, userPasses}
 use Rattle.index.specs.Listed.{listed}
-use Rattle.lists.proofs.Tests.{and-both}
 use Rattle.lists.specs.Lists.{anyOf, findIndex, findIndexFrom, holdsOf, there}
 use Rattle.text.specs.Reader.{whole}
 use Rattle.text.specs.Words.{Word, isCalled, wordAt}
@@ -26,20 +28,21 @@ use Rattle.text.specs.Words.{Word, isCalled, wordAt}
 -- ---- one more
 
 -- what is stored of a user, and where
-abbrev userStores : (k n r a e v : ℕ) → List Store
-userStores k n r a e v =
+abbrev userStores : (k n r a e v h : ℕ) → List Store
+userStores k n r a e v h =
     record { place = k; value = n }
     ∷ record { place = 256 + k; value = r }
     ∷ record { place = 512 + k; value = a }
     ∷ record { place = 768 + k; value = e }
     ∷ record { place = 1024 + k; value = v }
+    ∷ record { place = 1280 + k; value = h }
     ∷ []
 
-module _ (d : Policy) (text ws : List ℕ) (k n r a e v : ℕ) (full : length ws ≡ 1280) (small : k < 256) where
-  user-kept : (i : ℕ) → i < k → userIn d text (stores ws (userStores k n r a e v)) i ≡ userIn d text ws i
+module _ (d : Policy) (text ws : List ℕ) (k n r a e v p : ℕ) (full : length ws ≡ 1536) (small : k < 256) where
+  user-kept : (i : ℕ) → i < k → userIn d text (stores ws (userStores k n r a e v p)) i ≡ userIn d text ws i
   unfolding userIn
   user-kept i l =
-      let ss = userStores k n r a e v in
+      let ss = userStores k n r a e v p in
       (λ j. record {
         name = wordAt text (stores-other ws ss i (omega arith) j);
         role = stores-other ws ss (256 + i) (omega arith) j;
@@ -48,10 +51,10 @@ module _ (d : Policy) (text ws : List ℕ) (k n r a e v : ℕ) (full : length ws
             (givensAt (lineIn text (stores-other ws ss (512 + i) (omega arith) j) (stores-other ws ss (768 + i) (omega arith) j)) (stores-other ws ss (1024 + i) (omega arith) j));
       })
 
-  user-new : userIn d text (stores ws (userStores k n r a e v)) k ≡ record { name = wordAt text n; role = r; values = map (givenOf d) (givensAt (lineIn text a e) v) }
+  user-new : userIn d text (stores ws (userStores k n r a e v p)) k ≡ record { name = wordAt text n; role = r; values = map (givenOf d) (givensAt (lineIn text a e) v) }
   unfolding userIn
   user-new =
-      let ss = userStores k n r a e v in
+      let ss = userStores k n r a e v p in
       (λ j. record {
         name = wordAt text (stores-same ws ss 0 (omega arith) (omega arith) (omega arith) j);
         role = stores-same ws ss 1 (omega arith) (omega arith) (omega arith) j;
@@ -62,34 +65,45 @@ module _ (d : Policy) (text ws : List ℕ) (k n r a e v : ℕ) (full : length ws
             (stores-same ws ss 4 (omega arith) (omega arith) (omega arith) j));
       })
 
+  print-kept : (i : ℕ) → i < k → Printed 1280 text ws i → Printed 1280 text (stores ws (userStores k n r a e v p)) i
+  print-kept i l q =
+      let ss = userStores k n r a e v p in
+      stores-other ws ss (1280 + i) (omega arith) ∙ q ∙ ap (λ m. printOf (wordAt text m)) (sym (stores-other ws ss i (omega arith)))
+
+  print-new : p ≡ printOf (wordAt text n) → Printed 1280 text (stores ws (userStores k n r a e v p)) k
+  print-new q =
+      let ss = userStores k n r a e v p in
+      stores-same ws ss 5 (omega arith) (omega arith) (omega arith) ∙ q ∙ ap (λ m. printOf (wordAt text m)) (sym (stores-same ws ss 0 (omega arith) (omega arith) (omega arith)))
+
   -- one user more, stored number by number
-  pub users-pushed : (w₁ w₂ w₃ w₄ w₅ : List ℕ) (us : List User)
-      → w₁ ≡ set ws k n → w₂ ≡ set w₁ (256 + k) r → w₃ ≡ set w₂ (512 + k) a → w₄ ≡ set w₃ (768 + k) e → w₅ ≡ set w₄ (1024 + k) v
-      → Users d text ws k us
-      → Users d text w₅ (k + 1) (us ++ (record { name = wordAt text n; role = r; values = map (givenOf d) (givensAt (lineIn text a e) v) } ∷ []))
-  users-pushed w₁ w₂ w₃ w₄ w₅ us s₁ s₂ s₃ s₄ s₅ h =
+  pub users-pushed : (w₁ w₂ w₃ w₄ w₅ w₆ : List ℕ) (us : List User)
+      → w₁ ≡ set ws k n → w₂ ≡ set w₁ (256 + k) r → w₃ ≡ set w₂ (512 + k) a → w₄ ≡ set w₃ (768 + k) e → w₅ ≡ set w₄ (1024 + k) v → w₆ ≡ set w₅ (1280 + k) p
+      → Users d text ws k us → p ≡ printOf (wordAt text n)
+      → Users d text w₆ (k + 1) (us ++ (record { name = wordAt text n; role = r; values = map (givenOf d) (givensAt (lineIn text a e) v) } ∷ []))
+  users-pushed w₁ w₂ w₃ w₄ w₅ w₆ us s₁ s₂ s₃ s₄ s₅ s₆ h is =
       subst (λ (w : List ℕ). Users d text w (k + 1) (us ++ (record { name = wordAt text n; role = r; values = map (givenOf d) (givensAt (lineIn text a e) v) } ∷ []))) (sym whole)
       (record {
         few = omega arith;
-        are = listed-pushed (userIn d text ws) (userIn d text (stores ws (userStores k n r a e v))) k us _ (h .are) user-kept user-new;
+        are = listed-pushed (userIn d text ws) (userIn d text (stores ws (userStores k n r a e v p))) k us _ (h .are) user-kept user-new;
+        printed = below-more (Printed 1280 text (stores ws (userStores k n r a e v p))) k (λ i l. print-kept i l (h .printed i l)) (print-new is);
       })
     where
-      whole : w₅ ≡ stores ws (userStores k n r a e v)
+      whole : w₆ ≡ stores ws (userStores k n r a e v p)
       whole =
-          s₅ ∙ ap (λ w. set w (1024 + k) v) (s₄ ∙ ap (λ w. set w (768 + k) e) (s₃ ∙ ap (λ w. set w (512 + k) a) (s₂ ∙ ap (λ w. set w (256 + k) r) s₁)))
+          s₆ ∙ ap (λ w. set w (1280 + k) p) (s₅ ∙ ap (λ w. set w (1024 + k) v) (s₄ ∙ ap (λ w. set w (768 + k) e) (s₃ ∙ ap (λ w. set w (512 + k) a) (s₂ ∙ ap (λ w. set w (256 + k) r) s₁))))
 
 -- ---- by name and role
 
--- the user form of number i has the name and the role
-abbrev pub userPasses : Word → List ℕ → List ℕ → ℕ → ℕ → Bool
-userPasses w text ws held i = isCalled w (wordAt text (getD ws i 0)) && eqb (getD ws (256 + i) 0) held
-
 module _ (w : Word) (text ws : List ℕ) (held i : ℕ) where
-  pub user-passes : isCalled w (wordAt text (getD ws i 0)) ≡ true → getD ws (256 + i) 0 ≡ held → userPasses w text ws held i ≡ true
-  user-passes n r = and-both _ _ n (eq-eqb (getD ws (256 + i) 0) held r)
+  -- by the name alone, where the role is this one
+  pub same-role : getD ws (256 + i) 0 ≡ held → userPasses w text ws held i ≡ isCalled w (wordAt text (getD ws i 0))
+  same-role r = ap (λ b. isCalled w (wordAt text (getD ws i 0)) && b) (eq-eqb (getD ws (256 + i) 0) held r) ∙ and-true (isCalled w (wordAt text (getD ws i 0)))
 
-  pub other-name : isCalled w (wordAt text (getD ws i 0)) ≡ false → userPasses w text ws held i ≡ false
-  other-name n = ap (λ b. b && eqb (getD ws (256 + i) 0) held) n
+  -- one with another print has another name
+  pub printed-other : Printed 1280 text ws i → (h : ℕ) → h ≡ printOf (w .bytes) → (getD ws (1280 + i) 0 ≡ h → ⊥) → userPasses w text ws held i ≡ false
+  unfolding isCalled
+  printed-other p h is other =
+      ap (λ b. b && eqb (getD ws (256 + i) 0) held) (other-print (w .bytes) (wordAt text (getD ws i 0)) (λ q. other (p ∙ q ∙ sym is)))
 
   pub other-role : (getD ws (256 + i) 0 ≡ held → ⊥) → userPasses w text ws held i ≡ false
   other-role r = ap (λ b. isCalled w (wordAt text (getD ws i 0)) && b) (ne-eqb (getD ws (256 + i) 0) held r) ∙ and-false (isCalled w (wordAt text (getD ws i 0)))

@@ -1,5 +1,5 @@
 -- Contract: how the workspace holds conditional roles: names from 0, roles from 64, the start and the end of the line from 128
--- and 192, the place of the condition in it from 256.
+-- and 192, the place of the condition in it from 256, the names' prints from 320.
 use Prim.Native.Nat.{_+_, _<_, _≤_, ℕ}
 use lib.ListN.{getD}
 use mathlib.Core.Bool.{Bool, true}
@@ -12,6 +12,7 @@ use Rattle.condition.specs.Kinds.{eq}
 use Rattle.document.specs.Lookup.{attributeOf}
 use Rattle.document.specs.Meaning.{attributeComparison}
 use Rattle.document.specs.Policy.{CondRole, Policy}
+use Rattle.index.specs.Hash.{Printed}
 use Rattle.index.specs.Listed.{listed}
 use Rattle.lists.specs.Lists.{allOf, there}
 use Rattle.text.specs.Reader.{Left, from}
@@ -74,3 +75,4 @@ pub record CondRoles (d : Policy) (text ws : List ℕ) (k : ℕ) (cs : List Cond
   pub are : listed (condRoleIn d text ws) k ≡ cs
   pub known : (i : ℕ) → i < k → attributesKnown d (conditionIn text ws i) ≡ true
   pub reads : (i : ℕ) → i < k → readsIn text ws i ≡ true
+  pub printed : (i : ℕ) → i < k → Printed 320 text ws i

@@ -1,6 +1,7 @@
 -- How the lent workspace of the checker holds a document. Assumes nothing.
 pub mod Listed
 pub mod Hash
+pub mod Met
 pub mod Attributes
 pub mod Cells
 pub mod CondRoles

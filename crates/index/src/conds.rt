@@ -1,7 +1,7 @@
 // Conditional roles: looking one up by its name, and adding one. A condition is not kept: what is kept is where it stands,
 // as the start and the end of its line in the text and its place in the line.
 use crate::found::Found;
-use crate::found::find_name;
+use crate::found::find_printed;
 use crate::layout::COND_ROLE_CELLS;
 use crate::layout::COND_ROLES;
 ghost use Prim.Native.Nat.{_+_, _<_, ℕ};
@@ -14,10 +14,11 @@ ghost use Rattle.document.specs.Meaning.{attributeComparison};
 ghost use Rattle.document.specs.Policy.{CondRole, Policy};
 ghost use Rattle.index.specs.CondRoles.{CondRoles, attributesKnown, condRoleEndIn, condRolePlaceIn, condRoleRoleIn, condRoleStartIn, conditionAt, conditionReads};
 ghost use Rattle.index.specs.Found.{FoundBelow, foundAs};
+ghost use Rattle.index.specs.Hash.{printOf};
 ghost use Rattle.lists.specs.Lists.{findIndex};
 ghost use Rattle.text.specs.Words.{isCalled, wordAt, wordOf};
 
-// Where the roles, the starts and ends of the lines, and the places in them stand.
+// Where the roles, the starts and ends of the lines, the places in them, and the names' prints stand.
 const ROLE_AT: usize = COND_ROLES;
 
 const START_AT: usize = 2 * COND_ROLES;
@@ -25,6 +26,8 @@ const START_AT: usize = 2 * COND_ROLES;
 const END_AT: usize = 3 * COND_ROLES;
 
 const PLACE_AT: usize = 4 * COND_ROLES;
+
+const PRINT_AT: usize = 5 * COND_ROLES;
 
 // The conditional role of the name at i of the line, among the first k.
 pub fn find_cond_role(
@@ -39,7 +42,7 @@ pub fn find_cond_role(
     if COND_ROLES < k {
         return Found::Nothing;
     }
-    find_name(text, ws, 0, k, line, i)
+    find_printed(text, ws, PRINT_AT, k, line, i)
 }
 
 // One conditional role more, where there is room.
@@ -51,18 +54,20 @@ fn store_cond_role(
     start: usize,
     end: usize,
     place: usize,
+    h: usize,
 )
-    requires { ⌜ (k < 64) × (256 + k < length (now ws)) ⌝ }
-    ensures { λ r. ⌜ ((d : Policy) (text : List ℕ) (cs : List CondRole) → CondRoles d text (now (ws .entry)) k cs → attributesKnown d (conditionAt text start end place) ≡ true → conditionReads text start end place ≡ true → CondRoles d text (now (ws .exit)) (k + 1) (cs ++ (record { name = wordAt text pos; role = role; condition = mapCond (attributeComparison d) (conditionAt text start end place) } ∷ []))) ⌝ }
+    requires { ⌜ (k < 64) × (320 + k < length (now ws)) ⌝ }
+    ensures { λ r. ⌜ ((d : Policy) (text : List ℕ) (cs : List CondRole) → CondRoles d text (now (ws .entry)) k cs → h ≡ printOf (wordAt text pos) → attributesKnown d (conditionAt text start end place) ≡ true → conditionReads text start end place ≡ true → CondRoles d text (now (ws .exit)) (k + 1) (cs ++ (record { name = wordAt text pos; role = role; condition = mapCond (attributeComparison d) (conditionAt text start end place) } ∷ []))) ⌝ }
 {
     ws[k] = pos;
     ws[ROLE_AT + k] = role;
     ws[START_AT + k] = start;
     ws[END_AT + k] = end;
     ws[PLACE_AT + k] = place;
+    ws[PRINT_AT + k] = h;
 }
 
-// One conditional role more, whose name stands at pos of the text, and whose condition stands at `place` of the line from
+// One conditional role more, whose name stands at pos of the text and has the print h, and whose condition stands at `place` of the line from
 // `start` to `end`.
 pub fn add_cond_role(
     ws: &mut [usize; COND_ROLE_CELLS],
@@ -72,11 +77,12 @@ pub fn add_cond_role(
     start: usize,
     end: usize,
     place: usize,
+    h: usize,
 )
-    ensures { λ r. ⌜ ((d : Policy) (text : List ℕ) (cs : List CondRole) → CondRoles d text (now (ws .entry)) k cs → k < 64 → attributesKnown d (conditionAt text start end place) ≡ true → conditionReads text start end place ≡ true → CondRoles d text (now (ws .exit)) (k + 1) (cs ++ (record { name = wordAt text pos; role = role; condition = mapCond (attributeComparison d) (conditionAt text start end place) } ∷ []))) ⌝ }
+    ensures { λ r. ⌜ ((d : Policy) (text : List ℕ) (cs : List CondRole) → CondRoles d text (now (ws .entry)) k cs → h ≡ printOf (wordAt text pos) → k < 64 → attributesKnown d (conditionAt text start end place) ≡ true → conditionReads text start end place ≡ true → CondRoles d text (now (ws .exit)) (k + 1) (cs ++ (record { name = wordAt text pos; role = role; condition = mapCond (attributeComparison d) (conditionAt text start end place) } ∷ []))) ⌝ }
 {
     if k < COND_ROLES {
-        store_cond_role(ws, k, pos, role, start, end, place);
+        store_cond_role(ws, k, pos, role, start, end, place, h);
     }
 }
 

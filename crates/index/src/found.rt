@@ -1,14 +1,16 @@
 // Looking a name up among the first n positions of an array.
+use crate::hashes::print_word;
 use text::bytes::byte_at;
 use text::bytes::is_name_byte;
 use text::words::same_byte;
 use text::words::word_end;
-ghost use Prim.Native.Nat.{_+_, _-_, _≤_, ℕ};
+ghost use Prim.Native.Nat.{_+_, _-_, _<_, _≤_, ℕ};
 ghost use lib.ListN.{getD, length};
 ghost use mathlib.Core.Bool.{false};
 ghost use mathlib.Core.List.{List};
 ghost use mathlib.Core.Path.{_≡_};
 ghost use Rattle.index.specs.Found.{FoundBelow, foundAs};
+ghost use Rattle.index.specs.Hash.{Printed};
 ghost use Rattle.index.specs.Listed.{listed};
 ghost use Rattle.lists.specs.Lists.{findIndex};
 ghost use Rattle.text.specs.Names.{sameName};
@@ -121,4 +123,32 @@ pub(crate) fn find_name(
     ensures { λ r. ⌜ (foundAs r ≡ findIndex (λ p. isCalled (wordOf (now (line .entry)) i) (wordAt (now (text .entry)) p)) (listed (λ k. getD (now (ws .entry)) (base + k) 0) n)) × FoundBelow r n ⌝ }
 {
     find_name_to(text, ws, base, n, line, i, word_end(line, i))
+}
+
+// The same among the first n positions, where the names' prints stand from `prints` on: a name with another print is another.
+pub(crate) fn find_printed(
+    text: &[u8],
+    ws: &[usize],
+    prints: usize,
+    n: usize,
+    line: &[u8],
+    i: usize,
+) -> Found
+    requires { ⌜ prints + n ≤ length (now ws) ⌝ }
+    ensures { λ r. ⌜ (((j : ℕ) → j < n → Printed prints (now (text .entry)) (now (ws .entry)) j) → foundAs r ≡ findIndex (λ p. isCalled (wordOf (now (line .entry)) i) (wordAt (now (text .entry)) p)) (listed (λ k. getD (now (ws .entry)) (0 + k) 0) n)) × FoundBelow r n ⌝ }
+{
+    let w = print_word(line, i);
+    let e = w.end;
+    let h = w.hash;
+    let len = e - i;
+    let mut k = 0;
+    while k < n {
+        if ws[prints + k] == h {
+            if same_length_name(line, i, len, text, ws[k]) {
+                return Found::At(k);
+            }
+        }
+        k += 1;
+    }
+    Found::Nothing
 }

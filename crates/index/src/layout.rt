@@ -6,6 +6,9 @@ use purpose::WORDS;
 // How many slots there are for names: purposes and roles are looked up by a name's hash.
 pub const SLOTS: usize = 1024;
 
+// How many words of 64 bits tell which names were met in a line.
+pub const MET_WORDS: usize = 2048;
+
 pub const PURPOSES: usize = LIMIT;
 
 pub const PURPOSE_CELLS: usize = 3 * PURPOSES + SLOTS;
@@ -20,7 +23,7 @@ pub const ATTRIBUTE_CELLS: usize = 3 * ATTRIBUTES;
 
 pub const COND_ROLES: usize = 64;
 
-pub const COND_ROLE_CELLS: usize = 5 * COND_ROLES;
+pub const COND_ROLE_CELLS: usize = 6 * COND_ROLES;
 
 pub const GRANTS: usize = 128;
 
@@ -28,7 +31,7 @@ pub const GRANT_CELLS: usize = 2 * GRANTS;
 
 pub const USERS: usize = 256;
 
-pub const USER_CELLS: usize = 5 * USERS;
+pub const USER_CELLS: usize = 6 * USERS;
 
 pub const LABELS: usize = 64;
 

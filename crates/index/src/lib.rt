@@ -8,6 +8,7 @@ pub mod grants;
 pub mod hashes;
 pub mod labels;
 pub mod layout;
+pub mod met;
 pub mod names;
 pub mod rows;
 mod store;

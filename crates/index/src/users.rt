@@ -1,13 +1,15 @@
 // Users: names from 0, roles from 256, the start and the end of the line from 512 and 768, the place of the values in it from
-// 1,024.
+// 1,024, the names' prints from 1,280.
 use crate::found::Found;
-use crate::found::find_name;
+use crate::found::find_printed;
+use crate::found::same_length_name;
+use crate::hashes::print_word;
 use crate::layout::USER_CELLS;
 use crate::layout::USERS;
 use crate::store::put;
-use text::words::same_name;
 ghost use Prim.Native.Nat.{_+_, _<_, ℕ};
 ghost use lib.Dec.{eqb};
+ghost use lib.ListN.{length};
 ghost use mathlib.Core.Bool.{_&&_};
 ghost use mathlib.Core.List.{List, [], _++_, _∷_, map};
 ghost use mathlib.Core.Path.{_≡_};
@@ -16,9 +18,33 @@ ghost use Rattle.document.specs.Policy.{Policy, User};
 ghost use Rattle.form.specs.Walks.{givensAt};
 ghost use Rattle.index.specs.Cells.{lineIn};
 ghost use Rattle.index.specs.Found.{FoundBelow, foundAs};
-ghost use Rattle.index.specs.Users.{Users, userEndIn, userPlaceIn, userRoleIn, userStartIn};
+ghost use Rattle.index.specs.Hash.{Printed, printOf};
+ghost use Rattle.index.specs.Users.{Users, userEndIn, userPasses, userPlaceIn, userRoleIn, userStartIn};
 ghost use Rattle.lists.specs.Lists.{anyOf, findIndex};
 ghost use Rattle.text.specs.Words.{isCalled, wordAt, wordOf};
+
+// Whether user form i has the name of len bytes at u of the line, whose print is h, and this role. A name with another print is another.
+fn is_user(
+    text: &[u8],
+    ws: &[usize; USER_CELLS],
+    i: usize,
+    line: &[u8],
+    u: usize,
+    len: usize,
+    h: usize,
+    role: usize,
+) -> bool
+    requires { ⌜ i < 256 ⌝ }
+    ensures { λ r. ⌜ (Printed 1280 (now (text .entry)) (now (ws .entry)) i → len ≡ length (wordAt (now (line .entry)) u) → h ≡ printOf (wordAt (now (line .entry)) u) → r ≡ userPasses (wordOf (now (line .entry)) u) (now (text .entry)) (now (ws .entry)) role i) ⌝ }
+{
+    if ws[5 * USERS + i] != h {
+        return false;
+    }
+    if ws[USERS + i] == role {
+        return same_length_name(line, u, len, text, ws[i]);
+    }
+    false
+}
 
 // The user form, among the first k, that gives the user of the name at u of the line this role.
 pub fn find_user(
@@ -34,12 +60,14 @@ pub fn find_user(
     if USERS < k {
         return Found::Nothing;
     }
+    let w = print_word(line, u);
+    let e = w.end;
+    let h = w.hash;
+    let len = e - u;
     let mut i = 0;
     while i < k {
-        if same_name(line, u, text, ws[i]) {
-            if ws[USERS + i] == role {
-                return Found::At(i);
-            }
+        if is_user(text, ws, i, line, u, len, h, role) {
+            return Found::At(i);
         }
         i += 1;
     }
@@ -53,15 +81,15 @@ pub fn user_named(text: &[u8], ws: &[usize; USER_CELLS], k: usize, line: &[u8], 
     if USERS < k {
         return false;
     }
-    let found = find_name(text, ws, 0, k, line, u);
+    let found = find_printed(text, ws, 5 * USERS, k, line, u);
     match found {
         Found::At(_) => true,
         Found::Nothing => false,
     }
 }
 
-// One user form more, behind k of them: its name stands at pos of the text, its line from start to end, and its values from a
-// place of the line on. Nothing is stored where there is no room.
+// One user form more, behind k of them: its name stands at pos of the text and has the print h, its line stands from start to end, and
+// its values from a place of the line on. Nothing is stored where there is no room.
 pub fn add_user(
     ws: &mut [usize; USER_CELLS],
     k: usize,
@@ -70,8 +98,9 @@ pub fn add_user(
     start: usize,
     end: usize,
     place: usize,
+    h: usize,
 )
-    ensures { λ _. ⌜ ((d : Policy) (text : List ℕ) (us : List User) → Users d text (now (ws .entry)) k us → k < 256 → Users d text (now (ws .exit)) (k + 1) (us ++ (record { name = wordAt text pos; role = role; values = map (givenOf d) (givensAt (lineIn text start end) place) } ∷ []))) ⌝ }
+    ensures { λ _. ⌜ ((d : Policy) (text : List ℕ) (us : List User) → Users d text (now (ws .entry)) k us → h ≡ printOf (wordAt text pos) → k < 256 → Users d text (now (ws .exit)) (k + 1) (us ++ (record { name = wordAt text pos; role = role; values = map (givenOf d) (givensAt (lineIn text start end) place) } ∷ []))) ⌝ }
 {
     if k < USERS {
         put(ws, k, pos);
@@ -79,6 +108,7 @@ pub fn add_user(
         put(ws, 2 * USERS + k, start);
         put(ws, 3 * USERS + k, end);
         put(ws, 4 * USERS + k, place);
+        put(ws, 5 * USERS + k, h);
     }
 }
 

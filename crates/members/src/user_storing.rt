@@ -1,4 +1,5 @@
 // Storing a user.
+use index::hashes::print_word;
 use index::layout::ROLE_CELLS;
 use index::layout::USER_CELLS;
 use index::names::find_role;
@@ -34,5 +35,6 @@ pub fn store_user(
     let role = number(find_role(text, roles, roles_count, line, r));
     let pos = place(text, at, u);
     let end = place(text, at, line.len());
-    add_user(users, k, pos, role, at, end, gs);
+    let w = print_word(line, u);
+    add_user(users, k, pos, role, at, end, gs, w.hash);
 }

@@ -20,7 +20,7 @@ use Rattle.form.specs.Form.{GivenForm, attr, condRole, grant, purpose, role, us
 use Rattle.form.specs.Walks.{givensAt}
 use Rattle.index.proofs.ListedLaws.{length-listed}
 use Rattle.index.proofs.IndexLaws.{attributes-length, conds-length, conds-same, nodes-length, users-length, users-same}
-use Rattle.index.specs.Hash.{hashOf}
+use Rattle.index.specs.Hash.{hashOf, printOf}
 use Rattle.index.specs.Attributes.{Attributes}
 use Rattle.index.specs.Cells.{lineIn}
 use Rattle.index.specs.CondRoles.{CondRoles, attributesKnown, conditionAt, conditionRead, conditionReads}
@@ -65,9 +65,12 @@ role-parent d line n w ok =
     sym (known-else (roleOf (d .policy) w) (length (d .policy .roles)) (and-left _ _ (missing-none (λ (v : Word). there (roleOf (d .policy) v)) (w ∷ []) (passed d line (role n (some w)) ok .knows))))
 
 module _ {text : List ℕ} {at : ℕ} {line : List ℕ} (l : LineAt text at line) (d : Doc) (n pos : ℕ) (h : n ≤ length line) (e : at + n ≤ length text → pos ≡ at + n) where
-  -- the hash of the name, in the line and in the text
+  -- the hash and the print of the name, in the line and in the text
   pub hash-placed : (x : ℕ) → x ≡ hashOf (wordAt line n) → x ≡ hashOf (wordAt text pos)
   hash-placed x q = q ∙ ap hashOf (sym (word-placed l n pos h e))
+
+  pub print-placed : (x : ℕ) → x ≡ printOf (wordAt line n) → x ≡ printOf (wordAt text pos)
+  print-placed x q = q ∙ ap printOf (sym (word-placed l n pos h e))
 
   pub purpose-stored : {ws ws′ : List ℕ} {k : ℕ} (parent : ℕ) (p : Option Word) → Nodes limit text ws k (d .policy .purposes) → Passes d line (purpose (wordOf line n) p)
       → parent ≡ Option·getD (bind p (purposeOf (d .policy))) (length (d .policy .purposes))

@@ -9,11 +9,11 @@ use Rattle.index.proofs.conds.find_cond_role.Tie as tie
 returns : tie.Need-returns
 returns c = (λ d cs n. absurd (omega (arith, n .few)), tt)
 
-find-name-requires : tie.Need-find-name-requires
-find-name-requires c κs = search needs
+find-printed-requires : tie.Need-find-printed-requires
+find-printed-requires c κs = search needs
 
 returns-2 : tie.Need-returns-2
-returns-2 c = (λ d cs n. c .find-name .ensures .0 ∙ cond-found _ n, c .find-name .ensures .1)
+returns-2 c = (λ d cs n. c .find-printed .ensures .0 (n .printed) ∙ cond-found _ n, c .find-printed .ensures .1)
 
 pub find-cond-role-spec : {M : Type 1} → statement M
-find-cond-role-spec = tie.close (tie.spec returns find-name-requires returns-2)
+find-cond-role-spec = tie.close (tie.spec returns find-printed-requires returns-2)

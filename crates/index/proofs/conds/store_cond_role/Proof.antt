@@ -46,15 +46,24 @@ mul-ws-5 : tie.Need-mul-ws-5
 mul-ws-5 c = search needs
 
 slice-write-ws-5 : tie.Need-slice-write-ws-5
-slice-write-ws-5 c = search needs
+slice-write-ws-5 c = simp length-set (omega arith)
+
+add-ws-5 : tie.Need-add-ws-5
+add-ws-5 c = search needs
+
+mul-ws-6 : tie.Need-mul-ws-6
+mul-ws-6 c = search needs
+
+slice-write-ws-6 : tie.Need-slice-write-ws-6
+slice-write-ws-6 c = search needs
 
 same-length : tie.Need-same-length
 same-length c = search needs
 
 returns : tie.Need-returns
-returns c d text cs n h r =
+returns c d text cs n p h r =
     let a = c .args in
-    conds-pushed text (a .ws .now) (a .k) (a .pos) (a .role) (a .start) (a .end) (a .place) (c .pre .0) (c .pre .1) d cs n h r
+    conds-pushed text (a .ws .now) (a .k) (a .pos) (a .role) (a .start) (a .end) (a .place) (a .h) (c .pre .0) (c .pre .1) d cs n p h r
 
 pub store-cond-role-spec : {M : Type 1} → statement M
 store-cond-role-spec =
@@ -74,5 +83,8 @@ store-cond-role-spec =
     add-ws-4
     mul-ws-5
     slice-write-ws-5
+    add-ws-5
+    mul-ws-6
+    slice-write-ws-6
     same-length
     returns)

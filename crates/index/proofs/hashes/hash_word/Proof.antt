@@ -8,7 +8,7 @@ use mathlib.Core.Path.{_∙_, _≡_, ap, refl}
 use native.Mathlib.Nat.{mod-lt}
 use native.Mathlib.Omega.{arith}
 use Rattle.index.proofs.HashLaws.{hash-more, hash-stop}
-use Rattle.index.specs.Hash.{hashFrom, hashOf, slots}
+use Rattle.index.specs.Hash.{hashBy, hashOf, slots}
 use Rattle.text.proofs.Lefts.{test-of}
 use Rattle.text.proofs.WordLaws.{name-byte-here, word-more, word-stop}
 use Rattle.text.specs.Bytes.{isNameByte}
@@ -17,7 +17,7 @@ use Rattle.index.proofs.hashes.hash_word.Statement.{statement}
 use Rattle.index.proofs.hashes.hash_word.Tie as tie
 
 abbrev Inv-loop : tie.InvT-loop
-Inv-loop s at i₀ h₀ i h = (i + length (wordAt s i) ≡ at + length (wordAt s at)) × (hashFrom h (wordAt s i) ≡ hashOf (wordAt s at)) × (h < slots)
+Inv-loop s at i₀ h₀ i h = (i + length (wordAt s i) ≡ at + length (wordAt s at)) × (hashBy 105 slots h (wordAt s i) ≡ hashOf (wordAt s at)) × (h < slots)
 
 abbrev μ-loop : tie.MeasureT-loop
 μ-loop s at i₀ h₀ i h = length s - i
@@ -59,7 +59,7 @@ loop-again c =
     let l = c .before .before .before .before .before .loop in
     let byte : c .wide .result ≡ getD s (l .i) 0 = c .wide .ensures ∙ c .before .byte-at2 .ensures in (
       omega (arith, ap length (word-more s (l .i) (turn (c .before .before))), l .inv .0),
-      ap (λ b. hashFrom ((105 * l .h + b) % slots) (wordAt s (l .i + 1))) byte ∙ hash-more s (l .i) (l .h) (turn (c .before .before)) ∙ l .inv .1,
+      ap (λ b. hashBy 105 slots ((105 * l .h + b) % slots) (wordAt s (l .i + 1))) byte ∙ hash-more 105 slots s (l .i) (l .h) (turn (c .before .before)) ∙ l .inv .1,
       mod-lt (105 * l .h + c .wide .result) (omega arith),
     )
 
@@ -68,7 +68,7 @@ returns c =
     let s = c .before .before .before .before .before .args .s .now in
     let l = c .before .before .before .loop in
     let stops : isNameByte (getD s (l .i) 0) ≡ false = test-of isNameByte (c .before .before .byte-at .ensures) (c .before .in-name .ensures) (c .if1 .left) in
-    record { ends = omega (arith, ap length (word-stop s (l .i) stops), l .inv .0); is = hash-stop s (l .i) (l .h) stops ∙ l .inv .1 }
+    record { ends = omega (arith, ap length (word-stop s (l .i) stops), l .inv .0); is = hash-stop 105 slots s (l .i) (l .h) stops ∙ l .inv .1 }
 
 pub hash-word-spec : {M : Type 1} → statement M
 hash-word-spec =

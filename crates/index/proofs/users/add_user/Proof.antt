@@ -41,14 +41,23 @@ add-put-4 c = search needs
 put-requires-5 : tie.Need-put-requires-5
 put-requires-5 c κs = search needs
 
+mul-put-4 : tie.Need-mul-put-4
+mul-put-4 c = search needs
+
+add-put-5 : tie.Need-add-put-5
+add-put-5 c = search needs
+
+put-requires-6 : tie.Need-put-requires-6
+put-requires-6 c κs = search needs
+
 returns : tie.Need-returns
-returns c d text us h l =
-    let a = c .before .before .before .before .before .before .before .before .before .before .before .args in
-    users-pushed d text (a .ws .now) (a .k) (a .pos) (a .role) (a .start) (a .end) (a .place) (c .before .before .before .before .before .before .before .before .before .put-arg .given .0 .1) l _ _ _ _ _ us
-    (c .before .before .before .before .before .before .before .before .put .ensures) (c .before .before .before .before .before .before .put2 .ensures) (c .before .before .before .before .put3 .ensures) (c .before .before .put4 .ensures) (c .put5 .ensures) h
+returns c d text us h p l =
+    let a = c .before .before .before .before .before .before .before .before .before .before .before .before .before .args in
+    users-pushed d text (a .ws .now) (a .k) (a .pos) (a .role) (a .start) (a .end) (a .place) (a .h) (c .before .before .before .before .before .before .before .before .before .before .before .put-arg .given .0 .1) l _ _ _ _ _ _ us
+    (c .before .before .before .before .before .before .before .before .before .before .put .ensures) (c .before .before .before .before .before .before .before .before .put2 .ensures) (c .before .before .before .before .before .before .put3 .ensures) (c .before .before .before .before .put4 .ensures) (c .before .before .put5 .ensures) (c .put6 .ensures) h p
 
 returns-2 : tie.Need-returns-2
-returns-2 c d text us h l = absurd (omega arith)
+returns-2 c d text us h p l = absurd (omega arith)
 
 pub add-user-spec : {M : Type 1} → statement M
 add-user-spec =
@@ -66,5 +75,8 @@ add-user-spec =
     mul-put-3
     add-put-4
     put-requires-5
+    mul-put-4
+    add-put-5
+    put-requires-6
     returns
     returns-2)

@@ -12,8 +12,11 @@ use Rattle.index.proofs.users.user_named.Tie as tie
 returns : tie.Need-returns
 returns c d us h = absurd (omega (arith, h .few))
 
-find-name-requires : tie.Need-find-name-requires
-find-name-requires c κs = search needs
+mul-find-printed : tie.Need-mul-find-printed
+mul-find-printed c = search needs
+
+find-printed-requires : tie.Need-find-printed-requires
+find-printed-requires c κs = search needs
 
 enum-told : tie.Need-enum-told
 enum-told c = search needs
@@ -25,14 +28,14 @@ returns-2 : tie.Need-returns-2
 unfolding there
 returns-2 c d us h =
     let a = c .before .before .before .before .before .before .before .args in
-    sym (ap (λ f. there (foundAs f)) (c .enum-told .given .1)) ∙ user-called (wordOf (a .line .now) (a .u)) (foundAs (c .before .before .find-name .result)) h (c .before .before .find-name .ensures .0)
+    sym (ap (λ f. there (foundAs f)) (c .enum-told .given .1)) ∙ user-called (wordOf (a .line .now) (a .u)) (foundAs (c .before .before .find-printed .result)) h (c .before .before .find-printed .ensures .0 (h .printed))
 
 returns-3 : tie.Need-returns-3
 unfolding there
 returns-3 c d us h =
     let a = c .before .before .before .before .before .before .before .args in
-    sym (ap (λ f. there (foundAs f)) (c .enum-told2 .given .1)) ∙ user-called (wordOf (a .line .now) (a .u)) (foundAs (c .before .before .find-name .result)) h (c .before .before .find-name .ensures .0)
+    sym (ap (λ f. there (foundAs f)) (c .enum-told2 .given .1)) ∙ user-called (wordOf (a .line .now) (a .u)) (foundAs (c .before .before .find-printed .result)) h (c .before .before .find-printed .ensures .0 (h .printed))
 
 pub user-named-spec : {M : Type 1} → statement M
 user-named-spec =
-    tie.close (tie.spec returns find-name-requires enum-told enum-told-2 returns-2 returns-3)
+    tie.close (tie.spec returns mul-find-printed find-printed-requires enum-told enum-told-2 returns-2 returns-3)
