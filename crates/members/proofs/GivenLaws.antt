@@ -168,6 +168,13 @@ module _ (s : List ℕ) (j a n : ℕ) (all : List Word) (h : getD s j 0 ≡ 32) 
   rest-onward e q =
       ap (λ m. drop m all) (add-one n) ∙ take-next n all _ _ (r ∙ names-onward s j h) .1 ∙ ap (givenNames s) (sym q)
 
+  -- a test of the names that were passed and the next one
+  pub tests-onward : (f : Word → Bool) → anyOf f (take (n + 1) all) ≡ (f (wordOf s a) || anyOf f (take n all))
+  unfolding anyOf
+  tests-onward f =
+      ap (λ m. anyOf f (take m all)) (add-one n) ∙ ap (anyOf f) (take-next n all _ _ (r ∙ names-onward s j h) .0)
+      ∙ sym (any-behind f (take n all) (wordOf s (firstIn s (j + 1)))) ∙ ap (λ x. f (wordOf s x) || anyOf f (take n all)) (sym p)
+
   pub repeats-onward : (e : ℕ) → e ≡ pairEndAt s (j + 1) → anyOf (sameWord (wordOf s a)) (take n all) ≡ false
       → repeatedAfter (take (n + 1) all) (givenNames s e) ≡ repeatedAfter (take n all) (givenNames s j)
   unfolding repeatedAfter

@@ -10,7 +10,10 @@ use index::attributes::find_attribute;
 use index::found::Found;
 use index::layout::ATTRIBUTE_CELLS;
 use index::layout::ATTRIBUTES;
+use index::layout::MET_WORDS;
 use index::layout::ROLE_CELLS;
+use index::met::LONG_LINE;
+use index::met::is_new;
 use index::names::role_below;
 use text::bytes::byte_at;
 use text::offending::Offending;
@@ -93,21 +96,35 @@ fn given_before(line: &[u8], gs: usize, n: usize, w: usize) -> bool
     false
 }
 
-// Whether an attribute is given twice.
-fn givens_repeat(line: &[u8], gs: usize) -> bool
+// Whether an attribute is given twice. A name that is surely new is compared with none.
+fn givens_repeat_by(line: &[u8], gs: usize, met: &mut [u64]) -> bool
     ensures { λ r. ⌜ r ≡ there (repeated (map (λ g. g .attribute) (givensAt (now (line .entry)) gs))) ⌝ }
 {
     let mut j = gs;
     let mut n = 0;
     while byte_at(line, j) == b' ' {
         let a = first_in(line, j + 1);
-        if given_before(line, gs, n, a) {
-            return true;
+        if !is_new(met, line, a) {
+            if given_before(line, gs, n, a) {
+                return true;
+            }
         }
         j = pair_end(line, j + 1);
         n += 1;
     }
     false
+}
+
+// Whether an attribute is given twice.
+fn givens_repeat(line: &[u8], gs: usize) -> bool
+    ensures { λ r. ⌜ r ≡ there (repeated (map (λ g. g .attribute) (givensAt (now (line .entry)) gs))) ⌝ }
+{
+    if line.len() < LONG_LINE {
+        let mut few = [0u64; 1];
+        return givens_repeat_by(line, gs, &mut few);
+    }
+    let mut met = [0u64; MET_WORDS];
+    givens_repeat_by(line, gs, &mut met)
 }
 
 // How many values are given.

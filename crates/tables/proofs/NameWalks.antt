@@ -133,6 +133,12 @@ module _ (line : List ℕ) (at j k : ℕ) (r : Repeats line at j k) where
             ∙ repeated-next (r .earlier) (wordOf line (j + 1)) (namesAt line (wordEndAt line (j + 1))) (r .same (λ v. isCalled (wordOf line (j + 1)) (v .bytes)) ∙ e);
       }
 
+  -- a test of the words that were passed and the next one
+  pub repeats-more : getD line j 0 ≡ 32 → (f : Word → Bool) → anyOf f (take (k + 1) (namesAt line at)) ≡ (f (wordOf line (j + 1)) || anyOf f (take k (namesAt line at)))
+  repeats-more h f =
+      ap (λ n. anyOf f (take n (namesAt line at))) (add-one k)
+      ∙ any-next f k (namesAt line at) (wordOf line (j + 1)) (namesAt line (wordEndAt line (j + 1))) (r .left ∙ names-more line j h)
+
   pub repeats-on : (e : ℕ) → e ≡ j + 1 + length (wordAt line (j + 1)) → getD line j 0 ≡ 32 → (b : Bool) → b ≡ anyOf (λ v. isCalled (wordOf line (j + 1)) (v .bytes)) (take k (namesAt line at)) → b ≡ false → Repeats line at e (k + 1)
   unfolding wordEndAt
   repeats-on e q h b is t = subst (λ (n : ℕ). Repeats line at n (k + 1)) (sym q) (repeats-next h (sym is ∙ t))

@@ -149,6 +149,15 @@ module _ {ws : List Word} {n : ℕ} (w : Word) (rest : List Word) (p : Passing w
       ap (λ (l : List Word). anyOf (λ (v : Word). isCalled w (v .bytes)) l) (ap (take n) (p .split) ∙ take-at (p .front) (w ∷ rest) n (p .long))
       ∙ sym (p .agree w)
 
+  -- a test of the words that were passed and the next one
+  pub passing-tests : (f : Word → Bool) → anyOf f (take (n + 1) ws) ≡ (f w || anyOf f (take n ws))
+  passing-tests f =
+      ap (λ (l : List Word). anyOf f l)
+      (ap (take (n + 1)) (p .split ∙ sym (append-assoc (p .front) (w ∷ []) rest))
+      ∙ take-at (p .front ++ (w ∷ [])) rest (n + 1) (length-append (p .front) (w ∷ []) ∙ omega (arith, p .long)))
+      ∙ any-behind f (p .front) w
+      ∙ ap (λ (l : List Word). f w || anyOf f l) (sym (ap (take n) (p .split) ∙ take-at (p .front) (w ∷ rest) n (p .long)))
+
   -- the next stood before
   pub passing-found : anyOf (λ (v : Word). isCalled w (v .bytes)) (take n ws) ≡ true → repeated ws ≡ some w
   unfolding repeatedAfter

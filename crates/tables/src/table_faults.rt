@@ -9,8 +9,11 @@ use index::found::Found;
 use index::labels::find_label;
 use index::layout::COLUMNS;
 use index::layout::LABELS;
+use index::layout::MET_WORDS;
 use index::layout::TABLE_CELLS;
 use index::layout::TABLES;
+use index::met::LONG_LINE;
+use index::met::is_new;
 use index::tables::find_table;
 use stepping::fault::Fault;
 use stepping::fault::Verdict;
@@ -77,21 +80,35 @@ fn stands_among(s: &[u8], at: usize, n: usize, triple: bool, p: usize) -> bool
     false
 }
 
-// The first of the columns from a position on whose name stood before.
-fn first_repeat(s: &[u8], at: usize, triple: bool) -> Offending
+// The first of the columns from a position on whose name stood before. A name that is surely new is compared with none.
+fn first_repeat_by(s: &[u8], at: usize, triple: bool, met: &mut [u64]) -> Offending
     ensures { λ r. ⌜ (offendingOf (now (s .entry)) r ≡ repeated (map (λ x. x .name) (columnsBy triple (now (s .entry)) at))) × Near (now (s .entry)) r ⌝ }
 {
     let mut j = at;
     let mut n: usize = 0;
     while byte_at(s, j) == b' ' {
         let p = first_in(s, j + 1);
-        if stands_among(s, at, n, triple, p) {
-            return Offending::At(p);
+        if !is_new(met, s, p) {
+            if stands_among(s, at, n, triple, p) {
+                return Offending::At(p);
+            }
         }
         j = bracket_end(s, j + 1, triple);
         n += 1;
     }
     Offending::Nothing
+}
+
+// The first of the columns from a position on whose name stood before.
+fn first_repeat(s: &[u8], at: usize, triple: bool) -> Offending
+    ensures { λ r. ⌜ (offendingOf (now (s .entry)) r ≡ repeated (map (λ x. x .name) (columnsBy triple (now (s .entry)) at))) × Near (now (s .entry)) r ⌝ }
+{
+    if s.len() < LONG_LINE {
+        let mut few = [0u64; 1];
+        return first_repeat_by(s, at, triple, &mut few);
+    }
+    let mut met = [0u64; MET_WORDS];
+    first_repeat_by(s, at, triple, &mut met)
 }
 
 // Whether there is a label of the name at p.

@@ -1,6 +1,9 @@
 // The names of a set in a line: whether one stands before, the first that repeats another, and the first that is no purpose.
 use index::found::Found;
+use index::layout::MET_WORDS;
 use index::layout::PURPOSE_CELLS;
+use index::met::LONG_LINE;
+use index::met::is_new;
 use index::names::find_purpose;
 use text::bytes::byte_at;
 use text::offending::Offending;
@@ -39,21 +42,35 @@ pub fn among_first(line: &[u8], at: usize, k: usize, w: usize) -> bool
     false
 }
 
-// The first name from `at` on that stands earlier among them.
-pub fn first_repeat(line: &[u8], at: usize) -> Offending
+// The first name from `at` on that stands earlier among them. A name that is surely new is compared with none.
+fn first_repeat_by(line: &[u8], at: usize, met: &mut [u64]) -> Offending
     ensures { λ r. ⌜ (offendingOf (now (line .entry)) r ≡ repeated (namesAt (now (line .entry)) «at»)) × Near (now (line .entry)) r ⌝ }
 {
     let mut j = at;
     let mut k = 0;
     while byte_at(line, j) == b' ' {
         let v = j + 1;
-        if among_first(line, at, k, v) {
-            return Offending::At(v);
+        if !is_new(met, line, v) {
+            if among_first(line, at, k, v) {
+                return Offending::At(v);
+            }
         }
         j = word_end(line, v);
         k += 1;
     }
     Offending::Nothing
+}
+
+// The first name from `at` on that stands earlier among them.
+pub fn first_repeat(line: &[u8], at: usize) -> Offending
+    ensures { λ r. ⌜ (offendingOf (now (line .entry)) r ≡ repeated (namesAt (now (line .entry)) «at»)) × Near (now (line .entry)) r ⌝ }
+{
+    if line.len() < LONG_LINE {
+        let mut few = [0u64; 1];
+        return first_repeat_by(line, at, &mut few);
+    }
+    let mut met = [0u64; MET_WORDS];
+    first_repeat_by(line, at, &mut met)
 }
 
 // The first name from `at` on that is none of the k purposes.
