@@ -1,5 +1,5 @@
 -- Contract: what the code's answers stand for.
-use Prim.Native.Nat.{_+_, _<_, _≤_, suc, zero, ℕ}
+use Prim.Native.Nat.{_+_, suc, zero, ℕ}
 use lib.Dec.{eqb}
 use lib.ListN.{getD, length, take}
 use mathlib.Core.Bool.{Bool, _&&_, cond, false}
@@ -7,7 +7,7 @@ use mathlib.Core.List.{List, [], _∷_, map}
 use mathlib.Core.Option.{Option, none, some}
 use mathlib.Core.Path.{_≡_}
 use Rattle.condition.specs.Cond.{Cond, Conds, both, comparisons, either, holds, last, more, negate, test}
-use Rattle.condition.specs.CondForm.{Compared, condition, conditionInForm}
+use Rattle.condition.specs.CondForm.{Compared, conditionInForm}
 use Rattle.condition.specs.Kinds.{Kind, Op, eq, ge, gt, le, lt, names, ne, numbers}
 use Rattle.lists.specs.Lists.{anyOf}
 use Rattle.text.specs.Bytes.{ascii}
@@ -90,10 +90,6 @@ pub record Placed (s : List ℕ) (at : ℕ) (r : Read) (ops : List ℕ) : Type 0
   pub reads : r ≡ counted (conditionInForm (from s at))
   pub places : map (comparedAt s) (take (length (comparisonsAt s at)) ops) ≡ take 64 (comparisonsAt s at)
 
--- the comparisons of the text s whose operators stand at the first m places of ops end at `ends`, where that is not 0
-pub record Jumps (s ops ends : List ℕ) (m : ℕ) : Type 0 where
-  pub to : (k at : ℕ) → k < m → getD ops k 0 ≡ at + 1 → 0 < getD ends k 0 → (n : ℕ) → condition (suc n) (from s at) ≡ some (test (comparedAt s (at + 1)), from s (getD ends k 0))
-
 -- ---- for the functions that are not called from outside
 
 -- `either` or `both`
@@ -113,14 +109,9 @@ unfoldable mutual
   numberedAll k (last c) = last (numbered k c)
   numberedAll k (more c cs) = more (numbered k c) (numberedAll (k + length (comparisons c)) cs)
 
--- where a condition ends, the number of the comparison behind it, and whether it holds, given the truths of the comparisons
--- by their numbers
-abbrev pub walked : List Bool → ℕ → Option (Cond Compared × Left) → Walk
-walked truths k o = answer (λ e (y : ℕ × Bool). walk.At e (y .0) (y .1)) walk.Refused (λ c. (k + length (comparisons c), holds (λ n. getD truths n false) (numbered k c))) o
-
--- where the walk's answer names an end, neither the position nor the number exceeds it
-pub record Onward (at : ℕ) (r : Walk) : Type 0 where
-  pub past : (e n : ℕ) (b : Bool) → r ≡ walk.At e n b → (at ≤ e) × (n ≤ e)
+-- where a condition ends, and the number of the comparison behind it, where its first one has the number k
+abbrev pub walked : ℕ → Option (Cond Compared × Left) → Walk
+walked k o = answer walk.At walk.Refused (λ c. k + length (comparisons c)) o
 
 -- a comparison's bracket opens at a position
 unfoldable pub opensComparison : List ℕ → ℕ → Bool

@@ -1,0 +1,4 @@
+// Conditions as short-circuit programs.
+mod building;
+pub mod programs;
+pub mod running;
