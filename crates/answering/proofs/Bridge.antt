@@ -12,6 +12,7 @@ use Rattle.answer.specs.Exactly.{GivesExactly, isGiven}
 use Rattle.answer.specs.Seen.{rowsIn, seenRows}
 use Rattle.answering.specs.Prepared.{Judged, Prepared, wantedBy}
 use Rattle.answering.specs.Lines.{answerMarked, lineMarked, linesMarked}
+use Rattle.answering.specs.declared.sought.Sought.{Sought}
 use Rattle.answering.specs.declared.tally.Tally.{Tally}
 use Rattle.document.specs.Policy.{Doc, Row}
 use Rattle.index.proofs.ListedLaws.{listed-map, listed-same}
@@ -20,7 +21,6 @@ use Rattle.index.specs.Rows.{Rows, rowIn}
 use Rattle.lists.proofs.KeptLaws.{flatten-keep}
 use Rattle.lists.specs.Lists.{keep}
 use Rattle.query.specs.Query.{Query}
-use Rattle.query.specs.declared.reading.Test.{Test}
 
 -- to keep what passes two tests is to keep what passes the one, and of that what passes the other
 keep-both : {A : Type 0} (f g : A → Bool) (xs : List A) → keep (λ x. f x && g x) xs ≡ keep g (keep f xs)
@@ -54,33 +54,33 @@ module _ (cs : List ℕ) (f g : Row → Bool) where
       ∙ flatten-keep (λ r. f r && g r) line rs
       ∙ ap (λ l. flatten (map line l)) (keep-both f g rs)
 
-module _ {text ts ws : List ℕ} {t count : ℕ} {os : List Bool} {s : List ℕ} {test : Test} {ops : List ℕ} {m : ℕ} {cs : List ℕ} {selecting : Bool} {chosen : ℕ} {d : Doc} {q : Query} {marks : List Bool} {x : Tally}
-    (p : Prepared text ts ws t count os s test ops m cs selecting chosen d q) (j : Judged d q marks x) where
+module _ {text ts ws : List ℕ} {count : ℕ} {os : List Bool} {s : List ℕ} {g : Sought} {ops cs : List ℕ} {d : Doc} {q : Query} {marks : List Bool} {x : Tally}
+    (p : Prepared text ts ws count os s g ops cs d q) (j : Judged d q marks x) where
   -- the lines of the marked rows are those of the rows given
-  lines-given : linesMarked text ws (take chosen cs) marks count ≡ flatten (map (λ r. rowLine (take chosen cs) (r .values)) (keep (isGiven d q) (rowsIn (q .table) (d .rows))))
+  lines-given : linesMarked text ws (take (g .chosen) cs) marks count ≡ flatten (map (λ r. rowLine (take (g .chosen) cs) (r .values)) (keep (isGiven d q) (rowsIn (q .table) (d .rows))))
   unfolding rowsIn
-  lines-given = marked-kept (take chosen cs) (λ r. eqb (r .table) (q .table)) (isGiven d q) text ws marks count (d .rows) (p .rows) (j .given)
+  lines-given = marked-kept (take (g .chosen) cs) (λ r. eqb (r .table) (q .table)) (isGiven d q) text ws marks count (d .rows) (p .rows) (j .given)
 
   -- the answer is the one that was written
-  pub answer-is : answerTo q (seenRows d q) ≡ answerMarked text ws (take chosen cs) marks count selecting (x .passed) (x .withheld) (x .unmatched)
+  pub answer-is : answerTo q (seenRows d q) ≡ answerMarked text ws (take (g .chosen) cs) marks count (g .select) (x .passed) (x .withheld) (x .unmatched)
   unfolding answerMarked counted wantedBy
-  answer-is = λ i. record { bytes = same-bytes selecting (p .wanted) i; passed = same-passed i; withheld = same-withheld i; unmatched = same-unmatched i }
+  answer-is = λ i. record { bytes = same-bytes (g .select) (p .wanted) i; passed = same-passed i; withheld = same-withheld i; unmatched = same-unmatched i }
     where
       a : Answer
       a = answerTo q (seenRows d q)
 
-      g : GivesExactly d q a
-      g = gives-exactly d q
+      exact : GivesExactly d q a
+      exact = gives-exactly d q
 
       same-passed : a .passed ≡ x .passed
-      same-passed = g .passed ∙ sym (j .passed)
+      same-passed = exact .passed ∙ sym (j .passed)
 
       same-withheld : a .withheld ≡ x .withheld
-      same-withheld = g .withheld ∙ sym (j .withheld)
+      same-withheld = exact .withheld ∙ sym (j .withheld)
 
       same-unmatched : a .unmatched ≡ x .unmatched
-      same-unmatched = g .unmatched ∙ sym (j .unmatched)
+      same-unmatched = exact .unmatched ∙ sym (j .unmatched)
 
-      same-bytes : (b : Bool) → q .wanted ≡ wantedBy b (take chosen cs) → a .bytes ≡ answerMarked text ws (take chosen cs) marks count b (x .passed) (x .withheld) (x .unmatched) .bytes
-      same-bytes true e = g .selects (take chosen cs) e ∙ (λ i. sym lines-given i ++ endLine (same-passed i) (same-withheld i) (same-unmatched i))
-      same-bytes false e = g .counts e ∙ (λ i. endLine (same-passed i) (same-withheld i) (same-unmatched i))
+      same-bytes : (b : Bool) → q .wanted ≡ wantedBy b (take (g .chosen) cs) → a .bytes ≡ answerMarked text ws (take (g .chosen) cs) marks count b (x .passed) (x .withheld) (x .unmatched) .bytes
+      same-bytes true e = exact .selects (take (g .chosen) cs) e ∙ (λ i. sym lines-given i ++ endLine (same-passed i) (same-withheld i) (same-unmatched i))
+      same-bytes false e = exact .counts e ∙ (λ i. endLine (same-passed i) (same-withheld i) (same-unmatched i))

@@ -10,11 +10,13 @@ use native.Mathlib.Omega.{arith}
 use Rattle.answer.specs.Answer.{matches}
 use Rattle.answer.specs.Exactly.{isGiven, isUnmatchedRow, isWithheldRow}
 use Rattle.answer.specs.Seen.{rowsIn}
-use Rattle.answering.proofs.TruthLaws.{stored-more}
-use Rattle.answering.specs.Judging.{JudgedTo, SchemeOf, countedBy, fateHere, fateOf, labelsIn, passedBy}
+use Rattle.answering.proofs.TestLaws.{stored-more}
+use Rattle.answering.specs.Judging.{JudgedTo, Judgeable, countedBy, fateHere, fateOf, passedBy}
 use Rattle.answering.specs.Prepared.{Judged, Prepared}
+use Rattle.answering.specs.Tests.{Tested}
 use Rattle.answering.specs.declared.judging.Fate.the-variants as fate
 use Rattle.answering.specs.declared.judging.Fate.{Fate}
+use Rattle.answering.specs.declared.sought.Sought.{Sought}
 use Rattle.answering.specs.declared.tally.Tally.{Tally}
 use Rattle.document.specs.Lookup.{schemeAt}
 use Rattle.document.specs.Open.{labelOpen, rowWithheld}
@@ -23,64 +25,57 @@ use Rattle.index.proofs.ListedLaws.{listed-more}
 use Rattle.index.proofs.RowLaws.{row-known}
 use Rattle.index.proofs.TableLaws.{scheme-at, table-inside}
 use Rattle.index.specs.Labels.{Opened}
-use Rattle.index.specs.Rows.{Rows, rowIn}
-use Rattle.index.specs.Tables.{columnLabelIn, schemeBy}
+use Rattle.index.specs.Rows.{Rows, labelCountIn, labelsIn, rowIn, rowTableIn}
+use Rattle.index.specs.Tables.{columnLabelsIn, schemeBy, schemeIn, tableLabelIn}
 use Rattle.index.specs.Listed.{listed}
 use Rattle.form.specs.declared.lines.Scheme as coded
 use Rattle.lists.proofs.ListLaws.{count-keep}
 use Rattle.lists.specs.Lists.{countOf, keep}
-use Rattle.query.specs.Query.{Query, named}
-use Rattle.query.specs.declared.reading.Test.{Test}
+use Rattle.query.specs.Query.{Query}
 
--- ---- a row of a prepared query
+-- ---- a row of a query that is ready for the rows
 
 -- the fate by three tests
 abbrev fateBy : Bool → Bool → Bool → Fate
 fateBy here held met = cond here (fateHere held met) fate.Elsewhere
 
-module _ (text ts ws : List ℕ) (t count : ℕ) (os : List Bool) (s : List ℕ) (test : Test) (ops : List ℕ) (m : ℕ) (cs : List ℕ) (selecting : Bool) (chosen : ℕ) (d : Doc) (q : Query)
-    (pr : Prepared text ts ws t count os s test ops m cs selecting chosen d q) (r : ℕ) (l : r < count) where
-  row-small : r < 1024
-  row-small = omega (arith, l, pr .rows .few)
+module _ (text ws : List ℕ) (count : ℕ) (os : List Bool) (s : List ℕ) (g : Sought) (code : coded.Scheme) (cs rs : List ℕ) (d : Doc) (q : Query)
+    (jd : Judgeable text ws count os s g code cs rs d q) (r : ℕ) (l : r < count) where
+  pub row-small : r < 1024
+  row-small = omega (arith, l, jd .rows .few)
 
   -- the table as the code reads it
-  table-here : (x : ℕ) → (r < 1024 → x ≡ getD ws r 0) → eqb x t ≡ eqb (rowIn text ws r .table) (q .table)
+  table-here : (x : ℕ) → (r < 1024 → x ≡ rowTableIn ws r) → eqb x (g .table) ≡ eqb (rowIn text ws r .table) (q .table)
   unfolding rowIn
-  table-here x is = λ i. eqb (is row-small i) (sym (pr .table) i)
-
-  scheme-here : (code : coded.Scheme) → SchemeOf ts t code → schemeBy code (getD ts (16 + t) 0) (listed (columnLabelIn ts t) (getD ts (24 + t) 0)) ≡ schemeAt (d .policy) (q .table)
-  scheme-here code is =
-      sym (is (table-inside text ts (pr .tableCount) t (d .policy) (pr .tables) (pr .inside)))
-      ∙ sym (scheme-at text ts (pr .tableCount) t (d .policy) (pr .tables) (pr .inside))
-      ∙ ap (schemeAt (d .policy)) (sym (pr .table))
+  table-here x is = λ i. eqb (is row-small i) (sym (jd .table) i)
 
   -- whether it is withheld, as the code finds it
-  withheld-here : (code : coded.Scheme) → SchemeOf ts t code → (x : Bool)
-      → ((e : Policy) (p l : ℕ) (ls : List ℕ) → Opened e p os → r < 1024 → getD ws (2048 + r) 0 ≤ 16 → x ≡ rowWithheld (labelOpen e p) (schemeBy code l ls) (take (chosen + m) cs) (labelsIn ws r))
+  withheld-here : (x : Bool)
+      → ((e : Policy) (p l : ℕ) (ls : List ℕ) → Opened e p os → r < 1024 → labelCountIn ws r ≤ 16 → x ≡ rowWithheld (labelOpen e p) (schemeBy code l ls) (take (g .chosen + g .tests) cs) (labelsIn ws r))
       → x ≡ isWithheldRow d q (rowIn text ws r)
   unfolding isWithheldRow rowIn
-  withheld-here code is x h =
-      h (d .policy) (q .purpose) (getD ts (16 + t) 0) (listed (columnLabelIn ts t) (getD ts (24 + t) 0)) (pr .opened) row-small (pr .rows .marked r l)
-      ∙ (λ i. rowWithheld (labelOpen (d .policy) (q .purpose)) (scheme-here code is i) (pr .named i) (labelsIn ws r))
+  withheld-here x h =
+      h (d .policy) (q .purpose) (jd .label) (jd .labels) (jd .opened) row-small (jd .rows .marked r l)
+      ∙ (λ i. rowWithheld (labelOpen (d .policy) (q .purpose)) (jd .schemed i) (jd .named i) (labelsIn ws r))
 
   -- what the code gives for each row
-  module _ (x : ℕ) (is : r < 1024 → x ≡ getD ws r 0) where
-    pub fate-elsewhere : (x ≡ t → ⊥) → fate.Elsewhere ≡ fateOf d q (rowIn text ws r)
+  module _ (x : ℕ) (is : r < 1024 → x ≡ rowTableIn ws r) where
+    pub fate-elsewhere : (x ≡ g .table → ⊥) → fate.Elsewhere ≡ fateOf d q (rowIn text ws r)
     unfolding fateOf
-    fate-elsewhere e = ap (λ (b : Bool). fateBy b (isWithheldRow d q (rowIn text ws r)) (matches (q .condition) (rowIn text ws r .values))) (sym (ne-eqb x t e) ∙ table-here x is)
+    fate-elsewhere e = ap (λ (b : Bool). fateBy b (isWithheldRow d q (rowIn text ws r)) (matches (q .condition) (rowIn text ws r .values))) (sym (ne-eqb x (g .table) e) ∙ table-here x is)
 
-    module _ (here : x ≡ t) (code : coded.Scheme) (says : SchemeOf ts t code) (y : Bool)
-        (held : (e : Policy) (p l : ℕ) (ls : List ℕ) → Opened e p os → r < 1024 → getD ws (2048 + r) 0 ≤ 16 → y ≡ rowWithheld (labelOpen e p) (schemeBy code l ls) (take (chosen + m) cs) (labelsIn ws r)) where
+    module _ (here : x ≡ g .table) (y : Bool)
+        (held : (e : Policy) (p l : ℕ) (ls : List ℕ) → Opened e p os → r < 1024 → labelCountIn ws r ≤ 16 → y ≡ rowWithheld (labelOpen e p) (schemeBy code l ls) (take (g .chosen + g .tests) cs) (labelsIn ws r)) where
       in-table : true ≡ eqb (rowIn text ws r .table) (q .table)
-      in-table = sym (eq-eqb x t here) ∙ table-here x is
+      in-table = sym (eq-eqb x (g .table) here) ∙ table-here x is
 
       fate-withheld : y ≡ true → fate.Withheld ≡ fateOf d q (rowIn text ws r)
       unfolding fateOf
-      fate-withheld e = λ i. fateBy (in-table i) ((sym e ∙ withheld-here code says y held) i) (matches (q .condition) (rowIn text ws r .values))
+      fate-withheld e = λ i. fateBy (in-table i) ((sym e ∙ withheld-here y held) i) (matches (q .condition) (rowIn text ws r .values))
 
       fate-judged : y ≡ false → (z : Bool) → z ≡ matches (q .condition) (rowIn text ws r .values) → (b : Bool) → z ≡ b → cond b fate.Passed fate.Unmatched ≡ fateOf d q (rowIn text ws r)
       unfolding fateOf
-      fate-judged e z met b f = λ i. fateBy (in-table i) ((sym e ∙ withheld-here code says y held) i) ((sym f ∙ met) i)
+      fate-judged e z met b f = λ i. fateBy (in-table i) ((sym e ∙ withheld-here y held) i) ((sym f ∙ met) i)
 
       -- by the two tests: the second says that the row is not withheld and its condition holds
       pub fate-tested : (z : Bool) → z ≡ (not y && matches (q .condition) (rowIn text ws r .values)) → (f : Fate) → f ≡ fateHere y z → f ≡ fateOf d q (rowIn text ws r)
@@ -89,6 +84,24 @@ module _ (text ts ws : List ℕ) (t count : ℕ) (os : List Bool) (s : List ℕ)
           go : (b : Bool) → y ≡ b → fateHere b z ≡ fateOf d q (rowIn text ws r)
           go true e = fate-withheld e
           go false e = fate-judged e z (met ∙ ap (λ (b : Bool). not b && matches (q .condition) (rowIn text ws r .values)) e) z refl
+
+-- a prepared query is ready for the rows, once its comparisons are read
+pub judgeable : (text ts ws : List ℕ) (count : ℕ) (os : List Bool) (s : List ℕ) (g : Sought) (ops cs : List ℕ) (d : Doc) (q : Query) → Prepared text ts ws count os s g ops cs d q
+    → (code : coded.Scheme) → (g .table < 8 → schemeIn ts (g .table) ≡ schemeBy code (tableLabelIn ts (g .table)) (columnLabelsIn ts (g .table)))
+    → (rs : List ℕ) → Tested s rs (g .tests) (q .condition) → Judgeable text ws count os s g code cs rs d q
+judgeable text ts ws count os s g ops cs d q pr code is rs tested = record {
+  rows = pr .rows;
+  table = pr .table;
+  label = tableLabelIn ts (g .table);
+  labels = columnLabelsIn ts (g .table);
+  schemed =
+      sym (is (table-inside text ts (pr .tableCount) (g .table) (d .policy) (pr .tables) (pr .inside)))
+      ∙ sym (scheme-at text ts (pr .tableCount) (g .table) (d .policy) (pr .tables) (pr .inside))
+      ∙ ap (schemeAt (d .policy)) (sym (pr .table));
+  opened = pr .opened;
+  named = pr .named;
+  tested = tested;
+}
 
 -- the second test, where the row is withheld and where it is not
 pub met-none : (b y : Bool) → b ≡ true → false ≡ (not b && y)

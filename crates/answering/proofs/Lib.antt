@@ -1,7 +1,7 @@
 -- Laws of answering. Assumes nothing.
 pub mod ValueLaws
 pub mod OpenCells
-pub mod TruthLaws
+pub mod TestLaws
 pub mod MatchLaws
 pub mod FateLaws
 pub mod LineLaws

@@ -11,7 +11,7 @@ use Rattle.answer.specs.Answer.{rowLine}
 use Rattle.answering.specs.Lines.{lineMarked, linesMarked, spaced}
 use Rattle.document.specs.Policy.{Row}
 use Rattle.index.proofs.ListedLaws.{length-listed, listed-getD, listed-more}
-use Rattle.index.specs.Rows.{Rows, rowIn, valueIn}
+use Rattle.index.specs.Rows.{Rows, rowIn, valueCountIn, valueIn, valuePlaceIn}
 use Rattle.index.specs.Tables.{Cut}
 use Rattle.index.specs.Listed.{listed}
 use Rattle.text.proofs.Lefts.{drop-here}
@@ -45,7 +45,7 @@ value-end s = let l : length s ≤ length s = omega arith in rw (drop-of-length-
 -- ---- the values of a row
 
 -- the value of a column stands in the text
-pub value-place : (text ws : List ℕ) (r width c p : ℕ) → c < width → p ≡ getD ws (3072 + 16 * r + c) 0 → writtenAt text p ≡ getD (listed (valueIn text ws r) width) c []
+pub value-place : (text ws : List ℕ) (r width c p : ℕ) → c < width → p ≡ valuePlaceIn ws r c → writtenAt text p ≡ getD (listed (valueIn text ws r) width) c []
 value-place text ws r width c p l e = ap (writtenAt text) e ∙ sym (listed-getD (valueIn text ws r) width c [] l)
 
 -- past the last column stands none
@@ -64,7 +64,7 @@ module _ (text ws : List ℕ) (r : ℕ) where
   values-fit k c = go (ltb c k) refl
     where
       go : (b : Bool) → ltb c k ≡ b → length (getD (listed (valueIn text ws r) k) c []) ≤ length text
-      go true e = omega (arith, ap length (listed-getD (valueIn text ws r) k c [] (ltb-true c k e)), value-short text (getD ws (3072 + 16 * r + c) 0))
+      go true e = omega (arith, ap length (listed-getD (valueIn text ws r) k c [] (ltb-true c k e)), value-short text (valuePlaceIn ws r c))
       go false e = omega (arith, ap length (no-value text ws r k c (ltb-false c k e)))
 
 module _ (vs : List Value) where
@@ -95,8 +95,8 @@ module _ (text ws : List ℕ) (r width : ℕ) (cs : List ℕ) (small : length te
 
 module _ (text ws cs : List ℕ) (r : ℕ) {marked : Bool} where
   -- the line of a marked row
-  pub line-written : {d e : List ℕ} {at next width : ℕ} → r < 1024 → marked ≡ true → Cut 16 r 1024 (getD ws (1024 + r) 0) width
-      → Wrote d at (rowLine cs (listed (valueIn text ws r) width)) e next → getD ws (1024 + r) 0 ≤ 16 → Wrote d at (lineMarked text ws cs r marked) e next
+  pub line-written : {d e : List ℕ} {at next width : ℕ} → r < 1024 → marked ≡ true → Cut 16 r 1024 (valueCountIn ws r) width
+      → Wrote d at (rowLine cs (listed (valueIn text ws r) width)) e next → valueCountIn ws r ≤ 16 → Wrote d at (lineMarked text ws cs r marked) e next
   unfolding lineMarked rowIn
   line-written {d} {e} {at} {next} inside is cut w n =
       subst (λ b. Wrote d at (lineMarked text ws cs r b) e next) (sym is) (subst (λ k. Wrote d at (rowLine cs (listed (valueIn text ws r) k)) e next) (cut .is inside n) w)
@@ -134,7 +134,7 @@ module _ (text ws cs : List ℕ) (marks : List Bool) where
   lines-start d = wrote-nothing d 0
 
   pub lines-more : {d e f : List ℕ} {k m n : ℕ} {b : Bool} → ((rs : List Row) → Rows text ws k rs → Wrote d 0 (linesMarked text ws cs marks k) e m) → b ≡ getD marks k false
-      → (getD ws (1024 + k) 0 ≤ 16 → Wrote e m (lineMarked text ws cs k b) f n) → (rs : List Row) → Rows text ws (k + 1) rs → Wrote d 0 (linesMarked text ws cs marks (k + 1)) f n
+      → (valueCountIn ws k ≤ 16 → Wrote e m (lineMarked text ws cs k b) f n) → (rs : List Row) → Rows text ws (k + 1) rs → Wrote d 0 (linesMarked text ws cs marks (k + 1)) f n
   lines-more {d} {e} {f} {k} {m} {n} g is w rs h =
       subst (λ l. Wrote d 0 l f n) (ap (λ b. linesMarked text ws cs marks k ++ lineMarked text ws cs k b) is ∙ sym (marked-more k)) (both (g _ (fewer-rows text ws k rs h)) (w (h .narrow k (omega arith))))
 
@@ -142,7 +142,7 @@ module _ (text ws cs : List ℕ) (marks : List Bool) where
     -- how long a line is at most
     line-short : (r : ℕ) (b : Bool) → length (lineMarked text ws cs r b) ≤ 960022
     unfolding lineMarked rowIn
-    line-short r true = row-short text ws r (getD ws (1024 + r) 0) cs small few
+    line-short r true = row-short text ws r (valueCountIn ws r) cs small few
     line-short r false = omega arith
 
     -- and how long so many lines are

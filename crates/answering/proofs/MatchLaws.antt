@@ -1,5 +1,5 @@
--- A row matches: the truths that the code stores are those of the condition's comparisons. Assumes nothing.
-use Prim.Native.Nat.{_*_, _+_, _<_, _≤_, suc, zero, ℕ}
+-- The condition of a prepared query: running its program by the comparisons that were read is evaluating it. Assumes nothing.
+use Prim.Native.Nat.{_+_, _<_, _≤_, suc, zero, ℕ}
 use lib.ListN.{drop, getD, getElem?, length, length-append, length-map, take}
 use lib.Seq.{getD-drop, getD-take, length-take-le}
 use mathlib.Core.Bool.{Bool, false, true}
@@ -8,30 +8,32 @@ use mathlib.Core.Option.{Option, Option·getD, Option·map, bind, none, some}
 use mathlib.Core.Path.{_∙_, _≡_, ap, refl, subst, sym}
 use native.Mathlib.Omega.{arith}
 use Rattle.answer.specs.Answer.{matches}
-use Rattle.answering.specs.Judging.{truthIn}
 use Rattle.answering.specs.Prepared.{Prepared}
+use Rattle.answering.specs.Tests.{ProgramOf, TestOf, Tested, comparisonBy, testIn}
+use Rattle.answering.specs.declared.sought.Sought.{Sought}
+use Rattle.answering.specs.declared.tests.TestRead.{TestRead}
 use Rattle.condition.proofs.CondLaws.{holds-map}
-use Rattle.condition.specs.Answers.{comparedAt, comparedIn, comparisonsAt, heldRead, operatorOf}
-use Rattle.condition.specs.Comparison.{Comparison, meets, valuesMeet}
+use Rattle.condition.specs.Answers.{comparedAt, comparedIn, heldRead}
+use Rattle.condition.specs.Comparison.{Comparison, meets}
 use Rattle.condition.specs.Cond.{Cond, Conds, both, comparisons, comparisonsIn, comparisonsOf, either, last, mapCond, more, negate, test}
 use Rattle.condition.specs.CondForm.{Compared, conditionInForm}
 use Rattle.condition.specs.Kinds.{numbers}
+use Rattle.condition.specs.declared.conditions.Read.{Read}
 use Rattle.document.specs.Lookup.{columnKind, columnOf, columnsAt}
 use Rattle.document.specs.Policy.{Column, Doc, Policy}
 use Rattle.index.proofs.TableLaws.{column-at, column-inside, table-inside}
-use Rattle.index.specs.Cells.{kindOfCell}
-use Rattle.index.specs.Rows.{rowIn}
-use Rattle.index.specs.Tables.{Tables, columnIn}
+use Rattle.index.specs.Tables.{Tables, columnIn, columnKindIn}
 use Rattle.lists.proofs.ListLaws.{all-map, findIndex-found, map-map, there-some}
 use Rattle.lists.proofs.Tests.{and-left, and-right}
 use Rattle.lists.specs.Lists.{allOf, known, there}
+use Rattle.program.proofs.ProgramLaws.{Agree, program-holds}
+use Rattle.program.specs.Program.{Programmed, comesTo}
 use Rattle.query.specs.Asked.{conditionAt}
 use Rattle.query.specs.Query.{Query, columnComparison}
 use Rattle.query.specs.declared.reading.Test.the-variants as tests
 use Rattle.query.specs.declared.reading.Test.{Test}
 use Rattle.text.specs.Numbers.{Value}
 use Rattle.text.specs.Reader.{Left, from}
-use Rattle.text.specs.Walking.{nextWord}
 use Rattle.text.specs.Words.{isCalled, wordAt}
 
 -- a condition has one comparison at least
@@ -74,13 +76,6 @@ module _ (g : Compared → Comparison) (vs : List Value) where
 
 -- ---- the first m of a list, by their numbers
 
-map-truths : (h : ℕ → Bool) (m : ℕ) (ops : List ℕ) (bs : List Bool) → m ≤ length ops → m ≤ length bs → ((j : ℕ) → j < m → h (getD ops j 0) ≡ getD bs j false) → map h (take m ops) ≡ take m bs
-map-truths h zero ops bs l k e = refl
-map-truths h (suc m) [] bs l k e = absurd (omega (arith, l))
-map-truths h (suc m) (o ∷ ops) [] l k e = absurd (omega (arith, k))
-map-truths h (suc m) (o ∷ ops) (b ∷ bs) l k e =
-    λ i. e 0 (omega arith) i ∷ map-truths h m ops bs (omega (arith, l)) (omega (arith, k)) (λ j n. e (suc j) (omega (arith, n))) i
-
 all-taken : (g : ℕ → Bool) (m j : ℕ) (ops : List ℕ) → allOf g (take m ops) ≡ true → j < m → j < length ops → g (getD ops j 0) ≡ true
 unfolding allOf
 all-taken g zero j ops e l k = absurd (omega (arith, l))
@@ -88,11 +83,11 @@ all-taken g (suc m) j [] e l k = absurd (omega (arith, k))
 all-taken g (suc m) zero (o ∷ ops) e l k = and-left (g o) _ e
 all-taken g (suc m) (suc j) (o ∷ ops) e l k = all-taken g m j ops (and-right (g o) _ e) (omega (arith, l)) (omega (arith, k))
 
-getD-mapped : (h : ℕ → ℕ) (m j : ℕ) (ops : List ℕ) → j < m → j < length ops → getD (map h (take m ops)) j 0 ≡ h (getD ops j 0)
-getD-mapped h zero j ops l k = absurd (omega (arith, l))
-getD-mapped h (suc m) j [] l k = absurd (omega (arith, k))
-getD-mapped h (suc m) zero (o ∷ ops) l k = refl
-getD-mapped h (suc m) (suc j) (o ∷ ops) l k = getD-mapped h m j ops (omega (arith, l)) (omega (arith, k))
+getD-mapped : {A : Type 0} (h : ℕ → A) (m j : ℕ) (ops : List ℕ) (z : A) → j < m → j < length ops → getD (map h (take m ops)) j z ≡ h (getD ops j 0)
+getD-mapped h zero j ops z l k = absurd (omega (arith, l))
+getD-mapped h (suc m) j [] z l k = absurd (omega (arith, k))
+getD-mapped h (suc m) zero (o ∷ ops) z l k = refl
+getD-mapped h (suc m) (suc j) (o ∷ ops) z l k = getD-mapped h m j ops z (omega (arith, l)) (omega (arith, k))
 
 -- ---- one comparison, whose column has the number c
 
@@ -104,89 +99,117 @@ module _ (text ts : List ℕ) (k t : ℕ) (d : Policy) (tables : Tables text ts 
   unfolding columnOf
   number-inside = findIndex-found (λ x. isCalled (comparedAt s op .of) (x .name)) (columnsAt d t) c number-found .1
 
-  number-small : c < 16
-  number-small = column-inside text ts k t d tables inside c number-inside
-
-  kind-is : columnKind (columnsAt d t) (comparedAt s op .of) ≡ kindOfCell (getD ts (160 + 16 * t + c) 0)
+  kind-is : columnKind (columnsAt d t) (comparedAt s op .of) ≡ columnKindIn ts t c
   unfolding columnKind columnIn bind
   kind-is =
       ap (λ (o : Option ℕ). Option·getD (Option·map (λ x. x .kind) (bind o (getElem? (columnsAt d t)))) numbers) number-found
       ∙ ap (λ (o : Option Column). Option·getD (Option·map (λ x. x .kind) o) numbers) (column-at text ts k t d tables inside c number-inside)
 
-  truth-is : (ws : List ℕ) (r : ℕ) → holdsHere (columnComparison (columnsAt d t)) (rowIn text ws r .values) (comparedAt s op) ≡ truthIn text ts ws t r s op c
-  unfolding meets columnComparison comparedAt truthIn
-  truth-is ws r = λ i. valuesMeet (kind-is i) (operatorOf (wordAt s op)) (getD (rowIn text ws r .values) (sym number i) []) (wordAt s (nextWord s (nextWord s op)))
+  -- what is read of it is the comparison of the definitions
+  comparison-is : (y n : ℕ) (x : TestRead) → TestOf ts t s op c y n x → comparisonBy s x ≡ columnComparison (columnsAt d t) (comparedAt s op)
+  unfolding columnComparison comparedAt
+  comparison-is y n x h = λ i. record {
+    of = (h .column ∙ number) i;
+    kind = (h .kind (table-inside text ts k t d tables inside) (column-inside text ts k t d tables inside c number-inside) ∙ sym kind-is) i;
+    op = h .operator i;
+    value = wordAt s (h .place i);
+  }
 
 -- ---- the condition of a prepared query
 
-module _ (text ts ws : List ℕ) (t count : ℕ) (os : List Bool) (s : List ℕ) (at n : ℕ) (ops : List ℕ) (m : ℕ) (cs : List ℕ) (selecting : Bool) (chosen : ℕ) (d : Doc) (q : Query)
-    (pr : Prepared text ts ws t count os s (tests.When at n) ops m cs selecting chosen d q) (long : m ≤ length ops) where
+module _ (text ts ws : List ℕ) (count : ℕ) (os : List Bool) (s : List ℕ) (g : Sought) (ops cs : List ℕ) (d : Doc) (q : Query)
+    (pr : Prepared text ts ws count os s g ops cs d q) (long : g .tests ≤ length ops) where
+  abbrev columns : List Column
+  columns = columnsAt (d .policy) (g .table)
+
   abbrev number : ℕ → ℕ
-  number p = known (columnOf (columnsAt (d .policy) t) (comparedAt s p .of))
+  number p = known (columnOf columns (comparedAt s p .of))
 
-  number-at : (j : ℕ) → j < m → getD cs (chosen + j) 0 ≡ number (getD ops j 0)
+  number-at : (j : ℕ) → j < g .tests → getD cs (g .chosen + j) 0 ≡ number (getD ops j 0)
   number-at j l =
-      sym (getD-drop chosen cs j 0) ∙ sym (getD-take m (drop chosen cs) j 0 l)
-      ∙ ap (λ ys. getD ys j 0) (pr .numbers ∙ ap (map (λ x. known (columnOf (columnsAt (d .policy) t) (x .of)))) (sym (pr .compared)) ∙ map-map (λ x. known (columnOf (columnsAt (d .policy) t) (x .of))) (comparedAt s) (take m ops))
-      ∙ getD-mapped number m j ops l (omega (arith, l, long))
+      sym (getD-drop (g .chosen) cs j 0) ∙ sym (getD-take (g .tests) (drop (g .chosen) cs) j 0 l)
+      ∙ ap (λ ys. getD ys j 0) (pr .numbers ∙ ap (map (λ x. known (columnOf columns (x .of)))) (sym (pr .compared)) ∙ map-map (λ x. known (columnOf columns (x .of))) (comparedAt s) (take (g .tests) ops))
+      ∙ getD-mapped number (g .tests) j ops 0 l (omega (arith, l, long))
 
-  there-at : (j : ℕ) → j < m → there (columnOf (columnsAt (d .policy) t) (comparedAt s (getD ops j 0) .of)) ≡ true
+  there-at : (j : ℕ) → j < g .tests → there (columnOf columns (comparedAt s (getD ops j 0) .of)) ≡ true
   there-at j l =
-      all-taken (λ p. there (columnOf (columnsAt (d .policy) t) (comparedAt s p .of))) m j ops
-      (sym (all-map (λ x. there (columnOf (columnsAt (d .policy) t) (x .of))) (comparedAt s) (take m ops)) ∙ ap (allOf (λ x. there (columnOf (columnsAt (d .policy) t) (x .of)))) (pr .compared) ∙ pr .allThere)
+      all-taken (λ p. there (columnOf columns (comparedAt s p .of))) (g .tests) j ops
+      (sym (all-map (λ x. there (columnOf columns (x .of))) (comparedAt s) (take (g .tests) ops)) ∙ ap (allOf (λ x. there (columnOf columns (x .of)))) (pr .compared) ∙ pr .allThere)
       l (omega (arith, l, long))
 
-  compared-here : comparisonsAt s at ≡ map (comparedAt s) (take m ops)
-  unfolding conditionAt
-  compared-here = comparisons-read (conditionInForm (from s at)) ∙ sym (pr .compared)
-
-  compared-many : length (comparisonsAt s at) ≡ m
-  compared-many = ap length compared-here ∙ length-map (take m ops) (comparedAt s) ∙ length-take-le m ops long
-
-  -- the truths of row r, and whether the condition holds by them
-  module _ (r : ℕ) (l : r < count) (bs : List Bool) (room : m ≤ length bs)
-      (stored : r < 1024 → getD ws (1024 + r) 0 ≤ 16 → t < 8 → (j : ℕ) → j < m → getD cs (chosen + j) 0 < 16 → getD bs j false ≡ truthIn text ts ws t r s (getD ops j 0) (getD cs (chosen + j) 0)) where
-    abbrev holdsOfIt : Compared → Bool
-    holdsOfIt = holdsHere (columnComparison (columnsAt (d .policy) t)) (rowIn text ws r .values)
-
-    truth-at : (j : ℕ) → j < m → holdsOfIt (comparedAt s (getD ops j 0)) ≡ getD bs j false
-    truth-at j b =
-        truth-is text ts (pr .tableCount) t (d .policy) (pr .tables) (pr .inside) s (getD ops j 0) (getD cs (chosen + j) 0) (there-at j b) (number-at j b) ws r
-        ∙ sym (stored (omega (arith, l, pr .rows .few)) (pr .rows .narrow r l) (table-inside text ts (pr .tableCount) t (d .policy) (pr .tables) (pr .inside)) j b
-        (number-small text ts (pr .tableCount) t (d .policy) (pr .tables) (pr .inside) s (getD ops j 0) (getD cs (chosen + j) 0) (there-at j b) (number-at j b)))
-
-    truths-are : map holdsOfIt (comparisonsAt s at) ≡ take (length (comparisonsAt s at)) bs
-    truths-are =
-        ap (map holdsOfIt) compared-here ∙ map-map holdsOfIt (comparedAt s) (take m ops)
-        ∙ map-truths (λ p. holdsOfIt (comparedAt s p)) m ops bs long room truth-at
-        ∙ ap (λ k. take k bs) (sym compared-many)
-
-    holds-when : 0 < m → (x : Bool) → ((f : Compared → Bool) → map f (comparisonsAt s at) ≡ take (length (comparisonsAt s at)) bs → x ≡ heldRead f (conditionInForm (from s at))) → x ≡ matches (q .condition) (rowIn text ws r .values)
-    unfolding conditionAt
-    holds-when least x held =
-        held holdsOfIt truths-are
-        ∙ sym (matches-read (columnComparison (columnsAt (d .policy) t)) (rowIn text ws r .values) (conditionInForm (from s at)) (omega (arith, least, compared-many)))
-        ∙ ap (λ c. matches c (rowIn text ws r .values)) (sym (pr .condition))
-
-module _ (text ts ws : List ℕ) (t count : ℕ) (os : List Bool) (s : List ℕ) (test : Test) (ops : List ℕ) (m : ℕ) (cs : List ℕ) (selecting : Bool) (chosen : ℕ) (d : Doc) (q : Query)
-    (pr : Prepared text ts ws t count os s test ops m cs selecting chosen d q) (r : ℕ) where
-  -- a condition with comparisons
-  pub matched-when : (at n : ℕ) → test ≡ tests.When at n → m ≤ length ops → r < count → (bs : List Bool) → m ≤ length bs
-      → (r < 1024 → getD ws (1024 + r) 0 ≤ 16 → t < 8 → (j : ℕ) → j < m → getD cs (chosen + j) 0 < 16 → getD bs j false ≡ truthIn text ts ws t r s (getD ops j 0) (getD cs (chosen + j) 0))
-      → 0 < m → (x : Bool) → ((f : Compared → Bool) → map f (comparisonsAt s at) ≡ take (length (comparisonsAt s at)) bs → x ≡ heldRead f (conditionInForm (from s at)))
-      → x ≡ matches (q .condition) (rowIn text ws r .values)
-  matched-when at n e long l bs room stored =
-      holds-when text ts ws t count os s at n ops m cs selecting chosen d q (subst (λ (z : Test). Prepared text ts ws t count os s z ops m cs selecting chosen d q) e pr) long r l bs room stored
+  compared-many : length (comparisonsIn (conditionAt s (g .test))) ≡ g .tests
+  compared-many = ap length (sym (pr .compared)) ∙ length-map (take (g .tests) ops) (comparedAt s) ∙ length-take-le (g .tests) ops long
 
   -- no comparisons, and so no condition
-  pub matched-none : m ≡ 0 → true ≡ matches (q .condition) (rowIn text ws r .values)
-  matched-none e =
-      sym (ap (λ c. matches c (rowIn text ws r .values)) (pr .condition)
-      ∙ matches-none (columnComparison (columnsAt (d .policy) t)) (rowIn text ws r .values) (conditionAt s test) (ap length (sym (pr .compared)) ∙ ap (λ k. length (map (comparedAt s) (take k ops))) e))
+  absent-here : g .tests ≡ 0 → (vs : List Value) → matches (q .condition) vs ≡ true
+  absent-here e vs = ap (λ c. matches c vs) (pr .condition) ∙ matches-none (columnComparison columns) vs (conditionAt s (g .test)) (compared-many ∙ e)
 
-  -- no condition
-  pub matched-always : test ≡ tests.Always → true ≡ matches (q .condition) (rowIn text ws r .values)
-  unfolding conditionAt comparisonsIn
-  matched-always e =
-      sym (ap (λ c. matches c (rowIn text ws r .values)) (pr .condition)
-      ∙ matches-none (columnComparison (columnsAt (d .policy) t)) (rowIn text ws r .values) (conditionAt s test) (ap (λ z. length (comparisonsIn (conditionAt s z))) e))
+  -- the comparisons that were read, by the numbers of their places
+  module _ (trues falses : List ℕ) (flips : List Bool) (rs : List ℕ)
+      (each : (j : ℕ) → j < g .tests → TestOf ts (g .table) s (getD ops j 0) (getD cs (g .chosen + j) 0) (getD trues j 0) (getD falses j 0) (testIn rs j)) where
+    -- F says which of them hold of the values
+    module _ (F : ℕ → Bool) (vs : List Value) (says : (j : ℕ) → j < g .tests → F j ≡ meets (comparisonBy s (testIn rs j)) (getD vs (testIn rs j .column) [])) where
+      abbrev holdsOfIt : Compared → Bool
+      holdsOfIt = holdsHere (columnComparison columns) vs
+
+      says-it : (j : ℕ) → j < g .tests → F j ≡ holdsOfIt (comparedAt s (getD ops j 0))
+      says-it j l =
+          says j l
+          ∙ ap (λ (c : Comparison). meets c (getD vs (c .of) []))
+          (comparison-is text ts (pr .tableCount) (g .table) (d .policy) (pr .tables) (pr .inside) s (getD ops j 0) (getD cs (g .chosen + j) 0) (there-at j l) (number-at j l) (getD trues j 0) (getD falses j 0) (testIn rs j) (each j l))
+
+      agreed : Agree F holdsOfIt 0 (map (comparedAt s) (take (g .tests) ops))
+      agreed j h =
+          let l : j < g .tests = omega (arith, h, length-map (take (g .tests) ops) (comparedAt s), length-take-le (g .tests) ops long) in
+          let z : 0 + j ≡ j = omega arith in
+          ap F z ∙ says-it j l
+          ∙ sym (getD-mapped (λ p. holdsOfIt (comparedAt s p)) (g .tests) j ops false l (omega (arith, l, long)))
+          ∙ ap (λ (bs : List Bool). getD bs j false) (sym (map-map holdsOfIt (comparedAt s) (take (g .tests) ops)))
+
+      -- the condition at a place of the query
+      module _ (at n : ℕ) (e : g .test ≡ tests.When at n) (result : Read) (p : Programmed s at result trues falses flips) (least : 0 < g .tests) where
+        here : conditionAt s (g .test) ≡ Option·map (λ x. x .0) (conditionInForm (from s at))
+        unfolding conditionAt
+        here = ap (conditionAt s) e
+
+        compared-here : comparedIn (conditionInForm (from s at)) ≡ map (comparedAt s) (take (g .tests) ops)
+        compared-here = comparisons-read (conditionInForm (from s at)) ∙ ap comparisonsIn (sym here) ∙ sym (pr .compared)
+
+        some-here : 1 ≤ length (comparedIn (conditionInForm (from s at)))
+        some-here = omega (arith, least, ap length compared-here, length-map (take (g .tests) ops) (comparedAt s), length-take-le (g .tests) ops long)
+
+        held-here : matches (q .condition) vs ≡ heldRead holdsOfIt (conditionInForm (from s at))
+        held-here =
+            ap (λ c. matches c vs) (pr .condition ∙ ap (Option·map (mapCond (columnComparison columns))) here)
+            ∙ matches-read (columnComparison columns) vs (conditionInForm (from s at)) some-here
+
+        runs-read : (o : Option (Cond Compared × Left)) → conditionInForm (from s at) ≡ o → comesTo (λ odd. F) trues falses flips (g .tests) ≡ heldRead holdsOfIt o
+        runs-read none z = absurd (omega (arith, some-here, ap (λ (o : Option (Cond Compared × Left)). length (comparedIn o)) z))
+        runs-read (some r) z =
+            let same : comparisons (r .0) ≡ map (comparedAt s) (take (g .tests) ops) = ap comparedIn (sym z) ∙ compared-here in
+            let many : length (comparisons (r .0)) ≡ g .tests = ap length same ∙ length-map (take (g .tests) ops) (comparedAt s) ∙ length-take-le (g .tests) ops long in
+            let fits : length (comparisons (r .0)) ≤ 64 = omega (arith, many, pr .few) in
+            let agree : Agree F holdsOfIt 0 (comparisons (r .0)) = subst (λ (xs : List Compared). Agree F holdsOfIt 0 xs) (sym same) agreed in
+            ap (comesTo (λ odd. F) trues falses flips) (sym many)
+            ∙ program-holds s at result trues falses flips p (r .0) (r .1) z fits (λ odd. F) holdsOfIt agree agree
+
+        runs-when : comesTo (λ odd. F) trues falses flips (g .tests) ≡ matches (q .condition) vs
+        runs-when = runs-read (conditionInForm (from s at)) refl ∙ sym held-here
+
+      runs-by : ProgramOf s (g .test) trues falses flips → 0 < g .tests → (t : Test) → g .test ≡ t → comesTo (λ odd. F) trues falses flips (g .tests) ≡ matches (q .condition) vs
+      unfolding conditionAt comparisonsIn
+      runs-by p least tests.Always e = absurd (omega (arith, least, compared-many, ap (λ (z : Test). length (comparisonsIn (conditionAt s z))) e))
+      runs-by p least (tests.When at n) e = runs-when at n e (p .result) (p .is at n e) least
+
+    pub condition-tested : ProgramOf s (g .test) trues falses flips → Tested s rs (g .tests) (q .condition)
+    condition-tested p = record {
+      few = pr .few;
+      sized = λ j l. each j l .sized;
+      trues = trues;
+      falses = falses;
+      flips = flips;
+      hit = λ j l. each j l .hit;
+      miss = λ j l. each j l .miss;
+      absent = absent-here;
+      runs = λ least F vs says. runs-by F vs says p least (g .test) refl;
+    }

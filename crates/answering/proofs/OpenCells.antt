@@ -1,5 +1,5 @@
 -- Whether the cells of a row are open, by the labels in the arrays. Assumes nothing.
-use Prim.Native.Nat.{_*_, _+_, _<_, _≤_, suc, zero, ℕ}
+use Prim.Native.Nat.{_+_, _<_, _≤_, suc, zero, ℕ}
 use lib.ListN.{getD, getElem?, length, take}
 use lib.Seq.{take-suc}
 use mathlib.Core.Bool.{Bool, _||_, false, not, true}
@@ -9,12 +9,12 @@ use mathlib.Core.Option.{bind, none, some}
 use mathlib.Core.Path.{_∙_, _≡_, ap, refl, sym}
 use native.Mathlib.Numerals.{add-one}
 use native.Mathlib.Omega.{arith}
-use Rattle.answering.specs.Judging.{labelsIn, openIn}
+use Rattle.answering.specs.Judging.{openIn}
 use Rattle.document.specs.Open.{labelOpen, rowWithheld}
 use Rattle.document.specs.Policy.{Policy}
 use Rattle.index.proofs.ListedLaws.{length-listed, listed-at}
 use Rattle.index.specs.Labels.{Opened}
-use Rattle.index.specs.Rows.{labelRoom, rowLabelIn}
+use Rattle.index.specs.Rows.{labelCountIn, labelRoom, labelsIn, rowLabelIn}
 use Rattle.index.specs.Tables.{Cut, schemeBy}
 use Rattle.form.specs.declared.lines.Scheme.the-variants as code
 use Rattle.form.specs.declared.lines.Scheme as coded
@@ -27,20 +27,20 @@ nothing-past [] i l = refl
 nothing-past (x ∷ xs) zero l = absurd (omega (arith, l))
 nothing-past (x ∷ xs) (suc i) l = nothing-past xs i (omega (arith, l))
 
-module _ (d : Policy) (p : ℕ) (os : List Bool) (opened : Opened d p os) (ws : List ℕ) (r c n : ℕ) (cut : Cut labelRoom r 1024 (getD ws (2048 + r) 0) n) where
+module _ (d : Policy) (p : ℕ) (os : List Bool) (opened : Opened d p os) (ws : List ℕ) (r c n : ℕ) (cut : Cut labelRoom r 1024 (labelCountIn ws r) n) where
   -- a label that the row has
-  pub open-there : c < n → (l : ℕ) → (r < 1024 → c < 16 → l ≡ getD ws (19456 + 16 * r + c) 0) → (x : Bool) → x ≡ getD os l false → r < 1024 → getD ws (2048 + r) 0 ≤ 16 → x ≡ openIn d p ws r c
+  pub open-there : c < n → (l : ℕ) → (r < 1024 → c < 16 → l ≡ rowLabelIn ws r c) → (x : Bool) → x ≡ getD os l false → r < 1024 → labelCountIn ws r ≤ 16 → x ≡ openIn d p ws r c
   unfolding openIn
   open-there b l is x e i f =
       e ∙ opened .is l
       ∙ ap (λ n. labelOpen d p (some n)) (is i (omega (arith, b, cut .few)))
-      ∙ ap (labelOpen d p) (sym (listed-at (rowLabelIn ws r) (getD ws (2048 + r) 0) c (omega (arith, b, cut .is i f))))
+      ∙ ap (labelOpen d p) (sym (listed-at (rowLabelIn ws r) (labelCountIn ws r) c (omega (arith, b, cut .is i f))))
 
   -- one that it has not is closed
-  pub open-missing : n ≤ c → r < 1024 → getD ws (2048 + r) 0 ≤ 16 → false ≡ openIn d p ws r c
+  pub open-missing : n ≤ c → r < 1024 → labelCountIn ws r ≤ 16 → false ≡ openIn d p ws r c
   unfolding openIn labelOpen holdsOf bind
   open-missing b i f =
-      ap (labelOpen d p) (sym (nothing-past (labelsIn ws r) c (omega (arith, b, cut .is i f, length-listed (rowLabelIn ws r) (getD ws (2048 + r) 0)))))
+      ap (labelOpen d p) (sym (nothing-past (labelsIn ws r) c (omega (arith, b, cut .is i f, length-listed (rowLabelIn ws r) (labelCountIn ws r)))))
 
 -- ---- one of the first columns is closed
 

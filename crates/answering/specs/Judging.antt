@@ -1,93 +1,32 @@
--- Contract: what becomes of a row, what the arrays say of its cells, and the comparisons as they are read before the rows.
-use Prim.Native.Nat.{_*_, _+_, _<_, _≤_, ℕ}
+-- Contract: what becomes of a row, and what the arrays say of its cells.
+use Prim.Native.Nat.{_+_, _<_, ℕ}
 use lib.Dec.{eqb}
-use lib.ListN.{getD, getElem?, length, take}
+use lib.ListN.{getD, getElem?, take}
 use mathlib.Core.Bool.{Bool, _&&_, cond, false, true}
-use mathlib.Core.List.{List, [], map}
+use mathlib.Core.List.{List}
 use mathlib.Core.Path.{_≡_}
 use Rattle.answer.specs.Answer.{matches}
 use Rattle.answer.specs.Exactly.{isGiven, isUnmatchedRow, isWithheldRow}
 use Rattle.answer.specs.Seen.{rowsIn}
+use Rattle.answering.specs.Tests.{Tested}
 use Rattle.answering.specs.declared.judging.Fate.the-variants as fate
 use Rattle.answering.specs.declared.judging.Fate.{Fate}
-use Rattle.answering.specs.declared.judging.Last.the-variants as outcome
-use Rattle.answering.specs.declared.judging.Last.{Last}
+use Rattle.answering.specs.declared.sought.Sought.{Sought}
 use Rattle.answering.specs.declared.tally.Tally.{Tally}
-use Rattle.condition.specs.Answers.{comparisonsAt, heldRead, operatorBy, operatorOf}
-use Rattle.condition.specs.Comparison.{valuesMeet}
-use Rattle.condition.specs.CondForm.{Compared, conditionInForm}
-use Rattle.condition.specs.Kinds.{Kind, names, numbers}
+use Rattle.document.specs.Lookup.{schemeAt}
 use Rattle.document.specs.Open.{labelOpen}
 use Rattle.document.specs.Policy.{Doc, Policy, Row}
-use Rattle.index.specs.Cells.{kindOfCell}
-use Rattle.index.specs.Rows.{rowIn, rowLabelIn}
-use Rattle.index.specs.Tables.{columnLabelIn, schemeBy, schemeIn}
+use Rattle.index.specs.Labels.{Opened}
 use Rattle.index.specs.Listed.{listed}
+use Rattle.index.specs.Rows.{Rows, labelsIn}
+use Rattle.index.specs.Tables.{schemeBy}
 use Rattle.form.specs.declared.lines.Scheme as coded
-use Rattle.lists.specs.Lists.{countOf, known}
-use Rattle.query.specs.Query.{Query}
-use Rattle.query.specs.declared.reading.Test.the-variants as tests
-use Rattle.query.specs.declared.reading.Test.{Test}
-use Rattle.text.specs.Numbers.{rank}
-use Rattle.text.specs.Reader.{from}
-use Rattle.text.specs.Walking.{nextWord}
-use Rattle.text.specs.Words.{wordAt}
-
--- a type by whether it is that of names
-unfoldable pub kindSaid : Bool → Kind
-kindSaid true = names
-kindSaid false = numbers
-
--- the labels of row r
-abbrev pub labelsIn : List ℕ → ℕ → List ℕ
-labelsIn ws r = listed (rowLabelIn ws r) (getD ws (2048 + r) 0)
+use Rattle.lists.specs.Lists.{countOf}
+use Rattle.query.specs.Query.{Query, named}
 
 -- cell c of row r is open to the purpose p
 unfoldable pub openIn : Policy → ℕ → List ℕ → ℕ → ℕ → Bool
 openIn d p ws r c = labelOpen d p (getElem? (labelsIn ws r) c)
-
--- the code's name for the scheme of table t
-abbrev pub SchemeOf : List ℕ → ℕ → coded.Scheme → Type 0
-SchemeOf ts t s = t < 8 → schemeIn ts t ≡ schemeBy s (getD ts (16 + t) 0) (listed (columnLabelIn ts t) (getD ts (24 + t) 0))
-
--- the comparison of column c of table t whose operator stands at a place of the query's text s holds of row r
-unfoldable pub truthIn : (text ts ws : List ℕ) → ℕ → ℕ → List ℕ → ℕ → ℕ → Bool
-truthIn text ts ws t r s op c =
-    valuesMeet (kindOfCell (getD ts (160 + 16 * t + c) 0)) (operatorOf (wordAt s op)) (getD (rowIn text ws r .values) c []) (wordAt s (nextWord s (nextWord s op)))
-
--- ---- the comparisons, as they are read before the rows
-
--- of the comparison of column c of table t whose operator stands at a place of the query's text s: whether it compares names, the
--- code of its operator, where its value stands, and the value's rank
-pub record Ready (ts : List ℕ) (t : ℕ) (s : List ℕ) (op c : ℕ) (isNamed : Bool) (code value n : ℕ) : Type 0 where
-  pub kind : kindOfCell (getD ts (160 + 16 * t + c) 0) ≡ kindSaid isNamed
-  pub operator : operatorBy code ≡ operatorOf (wordAt s op)
-  pub place : value ≡ nextWord s (nextWord s op)
-  pub ranked : n ≡ known (rank (wordAt s value))
-
--- the same of the m comparisons whose operators stand at the places ops, and whose columns stand behind the first `chosen`
-pub record AllReady (ts : List ℕ) (t : ℕ) (s ops : List ℕ) (m : ℕ) (cs : List ℕ) (chosen : ℕ) (kinds : List Bool) (operators values ranks : List ℕ) : Type 0 where
-  pub long : m ≤ length ops
-  pub each : t < 8 → (j : ℕ) → j < m → getD cs (chosen + j) 0 < 16 → Ready ts t s (getD ops j 0) (getD cs (chosen + j) 0) (getD kinds j false) (getD operators j 0) (getD values j 0) (getD ranks j 0)
-
--- x is whether the condition at a place of the query's text s holds by the truths bs of its comparisons
-pub record Outcome (s : List ℕ) (at : ℕ) (bs : List Bool) (x : Bool) : Type 0 where
-  pub holds : (f : Compared → Bool) → map f (comparisonsAt s at) ≡ take (length (comparisonsAt s at)) bs → x ≡ heldRead f (conditionInForm (from s at))
-
--- the same of a condition that may be absent
-abbrev pub OutcomeOf : List ℕ → Test → ℕ → List Bool → Bool → Type 0
-OutcomeOf s test m bs x = (at n : ℕ) → test ≡ tests.When at n → 0 < m → Outcome s at bs x
-
--- what is remembered of the row judged last is right by its truths bs
-abbrev pub Remembered : List ℕ → Test → ℕ → List Bool → Last → Type 0
-Remembered s test m bs l = (b : Bool) → l ≡ outcome.Was b → OutcomeOf s test m bs b
-
--- what to remember behind a row of this fate
-abbrev pub lastBy : Last → Fate → Last
-lastBy l fate.Elsewhere = l
-lastBy l fate.Withheld = l
-lastBy l fate.Passed = outcome.Was true
-lastBy l fate.Unmatched = outcome.Was false
 
 -- ---- the rows
 
@@ -115,6 +54,18 @@ countedBy x fate.Elsewhere = x
 countedBy x fate.Withheld = record { passed = x .passed; withheld = x .withheld + 1; unmatched = x .unmatched }
 countedBy x fate.Passed = record { passed = x .passed + 1; withheld = x .withheld; unmatched = x .unmatched }
 countedBy x fate.Unmatched = record { passed = x .passed; withheld = x .withheld; unmatched = x .unmatched + 1 }
+
+-- a query and what is read of it, ready for each of the rows: g is what is sought of them, in a table of this scheme; the numbers cs
+-- are those of the columns that it names, and the condition's comparisons are read
+pub record Judgeable (text ws : List ℕ) (count : ℕ) (os : List Bool) (s : List ℕ) (g : Sought) (scheme : coded.Scheme) (cs read : List ℕ) (d : Doc) (q : Query) : Type 0 where
+  pub rows : Rows text ws count (d .rows)
+  pub table : q .table ≡ g .table
+  pub label : ℕ
+  pub labels : List ℕ
+  pub schemed : schemeBy scheme label labels ≡ schemeAt (d .policy) (q .table)
+  pub opened : Opened (d .policy) (q .purpose) os
+  pub named : take (g .chosen + g .tests) cs ≡ named q
+  pub tested : Tested s read (g .tests) (q .condition)
 
 -- the same as Judged, for the first k rows
 pub record JudgedTo (d : Doc) (q : Query) (row : ℕ → Row) (k : ℕ) (marks : List Bool) (x : Tally) : Type 0 where

@@ -3,3 +3,4 @@ pub mod Lines
 pub mod Prepared
 pub mod Answering
 pub mod Judging
+pub mod Tests

@@ -18,7 +18,7 @@ use Rattle.index.specs.Tables.{Tables}
 use Rattle.lists.specs.Lists.{allOf, countOf, known, there}
 use Rattle.query.specs.Asked.{conditionAt}
 use Rattle.query.specs.Query.{Query, Wanted, columnComparison, countsOnly, named, select}
-use Rattle.query.specs.declared.reading.Test.{Test}
+use Rattle.answering.specs.declared.sought.Sought.{Sought}
 use Rattle.answering.specs.declared.tally.Tally.{Tally}
 
 -- what is asked for, as the code says it: whether it is a select, and of which columns
@@ -26,25 +26,25 @@ unfoldable pub wantedBy : Bool → List ℕ → Wanted
 wantedBy true cs = select cs
 wantedBy false cs = countsOnly
 
--- the arrays hold the document's tables ts and rows ws; t is the query's table, os says which labels are open to its purpose; of the
--- numbers cs of columns the first `chosen` are selected, and m follow that its comparisons name, whose operators stand at the
--- places ops of the query's text s
-pub record Prepared (text ts ws : List ℕ) (t count : ℕ) (os : List Bool) (s : List ℕ) (test : Test) (ops : List ℕ) (m : ℕ) (cs : List ℕ) (selecting : Bool) (chosen : ℕ) (d : Doc) (q : Query) : Type 0 where
+-- the arrays hold the document's tables ts and rows ws; g is what is sought of the rows, os says which labels are open to the query's
+-- purpose; of the numbers cs of columns the first are selected, and then those follow that its comparisons name, whose operators
+-- stand at the places ops of the query's text s
+pub record Prepared (text ts ws : List ℕ) (count : ℕ) (os : List Bool) (s : List ℕ) (g : Sought) (ops cs : List ℕ) (d : Doc) (q : Query) : Type 0 where
   pub small : length text ≤ 60000
   pub tableCount : ℕ
   pub tables : Tables text ts tableCount (d .policy .tables)
-  pub inside : t < tableCount
+  pub inside : g .table < tableCount
   pub rows : Rows text ws count (d .rows)
-  pub table : q .table ≡ t
+  pub table : q .table ≡ g .table
   pub opened : Opened (d .policy) (q .purpose) os
-  pub few : m ≤ 64
-  pub fewChosen : chosen ≤ 16
-  pub wanted : q .wanted ≡ wantedBy selecting (take chosen cs)
-  pub named : take (chosen + m) cs ≡ named q
-  pub condition : q .condition ≡ Option·map (mapCond (columnComparison (columnsAt (d .policy) t))) (conditionAt s test)
-  pub compared : map (comparedAt s) (take m ops) ≡ comparisonsIn (conditionAt s test)
-  pub numbers : take m (drop chosen cs) ≡ map (λ x. known (columnOf (columnsAt (d .policy) t) (x .of))) (comparisonsIn (conditionAt s test))
-  pub allThere : allOf (λ x. there (columnOf (columnsAt (d .policy) t) (x .of))) (comparisonsIn (conditionAt s test)) ≡ true
+  pub few : g .tests ≤ 64
+  pub fewChosen : g .chosen ≤ 16
+  pub wanted : q .wanted ≡ wantedBy (g .select) (take (g .chosen) cs)
+  pub named : take (g .chosen + g .tests) cs ≡ named q
+  pub condition : q .condition ≡ Option·map (mapCond (columnComparison (columnsAt (d .policy) (g .table)))) (conditionAt s (g .test))
+  pub compared : map (comparedAt s) (take (g .tests) ops) ≡ comparisonsIn (conditionAt s (g .test))
+  pub numbers : take (g .tests) (drop (g .chosen) cs) ≡ map (λ x. known (columnOf (columnsAt (d .policy) (g .table)) (x .of))) (comparisonsIn (conditionAt s (g .test)))
+  pub allThere : allOf (λ x. there (columnOf (columnsAt (d .policy) (g .table)) (x .of))) (comparisonsIn (conditionAt s (g .test))) ≡ true
 
 -- each row is judged: the marks say which rows of the query's table are given, and the counts are those of its rows
 pub record Judged (d : Doc) (q : Query) (marks : List Bool) (x : Tally) : Type 0 where

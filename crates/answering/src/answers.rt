@@ -2,13 +2,13 @@
 use crate::judging::judge_rows;
 use crate::lines::put_end;
 use crate::lines::put_lines;
+use crate::sought::Sought;
 use crate::tally::Tally;
 use index::layout::COLUMNS;
 use index::layout::LABELS;
 use index::layout::ROW_CELLS;
 use index::layout::ROWS;
 use index::layout::TABLE_CELLS;
-use query::reading::Test;
 ghost use Prim.Native.Nat.{_≤_, ℕ};
 ghost use lib.ListN.{length, take};
 ghost use mathlib.Core.List.{List};
@@ -25,6 +25,9 @@ ghost use Rattle.writing.specs.Write.{Stored};
 
 // How long a text may be.
 const TEXT_BYTES: usize = 60000;
+
+// How many comparisons a condition may have.
+const TESTS: usize = 64;
 
 // An answer's length and its counts.
 pub struct Measured {
@@ -137,26 +140,25 @@ fn unmeasured() -> Measured {
 pub fn answer_rows(
     text: &[u8],
     tables: &[usize; TABLE_CELLS],
-    t: usize,
     rows: &[usize; ROW_CELLS],
     count: usize,
     opened: &[bool; LABELS],
     query: &[u8],
-    test: Test,
+    s: Sought,
     ops: &[usize; 64],
-    m: usize,
     columns: &[usize; 80],
-    select: bool,
-    chosen: usize,
     out: &mut [u8],
 ) -> Measured
-    ensures { λ x. ⌜ ((d : Doc) (q : Query) → Prepared (now (text .entry)) (now (tables .entry)) (now (rows .entry)) t count (now (opened .entry)) (now (query .entry)) test (now (ops .entry)) m (now (columns .entry)) select chosen d q → Writes (answerTo q (seenRows d q)) (now (out .entry)) (now (out .exit)) x) ⌝ }
+    ensures { λ x. ⌜ ((d : Doc) (q : Query) → Prepared (now (text .entry)) (now (tables .entry)) (now (rows .entry)) count (now (opened .entry)) (now (query .entry)) s (now (ops .entry)) (now (columns .entry)) d q → Writes (answerTo q (seenRows d q)) (now (out .entry)) (now (out .exit)) x) ⌝ }
 {
     // A prepared query passes these: they keep lengths from wrapping.
     if TEXT_BYTES < text.len() {
         return unmeasured();
     }
-    if COLUMNS < chosen {
+    if COLUMNS < s.chosen {
+        return unmeasured();
+    }
+    if TESTS < s.tests {
         return unmeasured();
     }
     if ROWS < count {
@@ -166,16 +168,13 @@ pub fn answer_rows(
     let tally = judge_rows(
         text,
         tables,
-        t,
         rows,
         count,
         opened,
         query,
-        test,
+        s,
         ops,
-        m,
         columns,
-        chosen,
         &mut marks,
     );
     put_measured(
@@ -185,8 +184,8 @@ pub fn answer_rows(
         count,
         &marks,
         columns,
-        select,
-        chosen,
+        s.select,
+        s.chosen,
         tally,
     )
 }

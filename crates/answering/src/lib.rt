@@ -4,4 +4,6 @@ mod cells;
 mod comparing;
 mod judging;
 mod lines;
+pub mod sought;
 pub mod tally;
+mod tests;

@@ -8,14 +8,14 @@ use writing::bytes::put_bytes;
 use writing::bytes::put_decimal;
 use writing::bytes::put_number;
 use writing::bytes::put_written;
-ghost use Prim.Native.Nat.{_+_, _<_, _≤_};
-ghost use lib.ListN.{getD, length, take};
+ghost use Prim.Native.Nat.{_<_, _≤_};
+ghost use lib.ListN.{length, take};
 ghost use mathlib.Core.List.{List};
 ghost use mathlib.Core.Path.{_≡_};
 ghost use Rattle.answer.specs.Answer.{endLine, rowLine};
 ghost use Rattle.answering.specs.Lines.{lineMarked, linesMarked, spaced};
 ghost use Rattle.document.specs.Policy.{Row};
-ghost use Rattle.index.specs.Rows.{Rows, valueIn};
+ghost use Rattle.index.specs.Rows.{Rows, valueCountIn, valueIn};
 ghost use Rattle.index.specs.Listed.{listed};
 ghost use Rattle.writing.specs.Write.{Wrote};
 
@@ -72,7 +72,7 @@ fn put_line(
     columns: &[usize],
 ) -> usize
     requires { ⌜ r < 1024 ⌝ }
-    ensures { λ x. ⌜ (getD (now (rows .entry)) (1024 + r) 0 ≤ 16 → Wrote (now (out .entry)) at (lineMarked (now (text .entry)) (now (rows .entry)) (now (columns .entry)) r marked) (now (out .exit)) x) ⌝ }
+    ensures { λ x. ⌜ (valueCountIn (now (rows .entry)) r ≤ 16 → Wrote (now (out .entry)) at (lineMarked (now (text .entry)) (now (rows .entry)) (now (columns .entry)) r marked) (now (out .exit)) x) ⌝ }
 {
     if marked {
         let width = row_values(rows, r);

@@ -231,7 +231,7 @@ pub prepared : {text ms ts ws : List ℕ} {c : Counts} {d : Doc} {s : List ℕ} 
     → TablesHeld text ms ts ws c d → InTable (d .policy) (asked s h cs test) t (c .tables) → Chosen selecting chosen cs
     → ColumnsKnown (d .policy) s (asked s h cs test) t n places numbers → TestsPlaced s test m ops
     → Opened (d .policy) (known (purposeOf (d .policy) (asked s h cs test .purpose))) os
-    → Prepared text ts ws t (c .rows) os s test ops m numbers selecting chosen d (resolved (d .policy) (asked s h cs test))
+    → Prepared text ts ws (c .rows) os s (record { table = t; test = test; tests = m; select = selecting; chosen = chosen }) ops numbers d (resolved (d .policy) (asked s h cs test))
 unfolding resolved asked queryWith
 prepared {c} h held table choice columns tests opened = record {
   small = held .small;

@@ -1,5 +1,6 @@
 // Asking: a query over a document, its answer in a lent buffer.
 use answering::answers::answer_rows;
+use answering::sought::Sought;
 use authority::grants::authorising_grant;
 use authority::purposes::purpose_closure;
 use checker::loading::Loaded;
@@ -129,20 +130,23 @@ fn ask_open(
     match closed {
         Offending::At(at) => Answered::Refused(refusal_at(query, Reason::Closed, at)),
         Offending::Nothing => {
+            let sought = Sought {
+                table: t,
+                test,
+                tests: m,
+                select,
+                chosen,
+            };
             let x = answer_rows(
                 text,
                 tables,
-                t,
                 rows,
                 c.rows,
                 &opened,
                 query,
-                test,
+                sought,
                 ops,
-                m,
                 columns,
-                select,
-                chosen,
                 out,
             );
             Answered::Given(Figures {

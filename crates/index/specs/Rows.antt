@@ -33,11 +33,19 @@ valueIn text ws r c = writtenAt text (valuePlaceIn ws r c)
 abbrev pub rowLabelIn : List ℕ → ℕ → ℕ → ℕ
 rowLabelIn ws r c = getD ws (19456 + 16 * r + c) 0
 
+-- the labels of row r
+abbrev pub labelsIn : List ℕ → ℕ → List ℕ
+labelsIn ws r = listed (rowLabelIn ws r) (labelCountIn ws r)
+
+-- the table of row r
+abbrev pub rowTableIn : List ℕ → ℕ → ℕ
+rowTableIn ws r = getD ws r 0
+
 unfoldable pub rowIn : List ℕ → List ℕ → ℕ → Row
 rowIn text ws r = record {
-  table = getD ws r 0;
+  table = rowTableIn ws r;
   values = listed (valueIn text ws r) (valueCountIn ws r);
-  labels = listed (rowLabelIn ws r) (labelCountIn ws r);
+  labels = labelsIn ws r;
 }
 
 pub record Rows (text ws : List ℕ) (k : ℕ) (rs : List Row) : Type 0 where

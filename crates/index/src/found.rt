@@ -24,7 +24,7 @@ pub enum Found {
 
 // Whether the name of len bytes at i of the line is the word at p of the text. Where that word ends is looked at first, and then the
 // bytes from the last on: names that are much alike tend to differ there. A length that does not fit the line is no name's.
-pub(crate) fn same_length_name(line: &[u8], i: usize, len: usize, text: &[u8], p: usize) -> bool
+pub fn same_length_name(line: &[u8], i: usize, len: usize, text: &[u8], p: usize) -> bool
     ensures { λ r. ⌜ ((len ≡ length (wordAt (now (line .entry)) i)) → r ≡ sameName (wordAt (now (line .entry)) i) (wordAt (now (text .entry)) p)) ⌝ }
 {
     if text.len() < len {

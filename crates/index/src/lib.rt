@@ -11,6 +11,6 @@ pub mod layout;
 pub mod met;
 pub mod names;
 pub mod rows;
-mod store;
+pub mod store;
 pub mod tables;
 pub mod users;

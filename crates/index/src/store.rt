@@ -15,7 +15,7 @@ pub(crate) fn put(ws: &mut [usize], at: usize, v: usize)
 }
 
 // The number of a type.
-pub(crate) fn kind_cell(kind: Kind) -> usize
+pub fn kind_cell(kind: Kind) -> usize
     ensures { λ r. ⌜ kindOfCell r ≡ kindOf kind ⌝ }
 {
     match kind {
@@ -25,7 +25,7 @@ pub(crate) fn kind_cell(kind: Kind) -> usize
 }
 
 // The type of a number.
-pub(crate) fn kind_by(n: usize) -> Kind
+pub fn kind_by(n: usize) -> Kind
     ensures { λ r. ⌜ kindOf r ≡ kindOfCell n ⌝ }
 {
     if n == 0 {

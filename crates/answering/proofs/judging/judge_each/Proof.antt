@@ -1,45 +1,37 @@
--- `answering::judging::judge_each` meets its contract. The loop's invariant: the rows gone through are judged, and what is
--- remembered is right. Assumes nothing.
+-- `answering::judging::judge_each` meets its contract. The loop's invariant: the rows gone through are judged. Assumes nothing.
 use Prim.Native.Nat.{_-_, _≤_, ℕ}
 use Rattle.answering.proofs.FateLaws.{Fewer, fewer-more, judged-more, judged-none}
-use Rattle.answering.proofs.TruthLaws.{remembered-by, remembered-none}
-use Rattle.answering.specs.Judging.{AllReady, JudgedTo, Remembered, SchemeOf}
-use Rattle.answering.specs.Prepared.{Prepared}
+use Rattle.answering.specs.Judging.{JudgedTo, Judgeable}
 use Rattle.document.specs.Policy.{Doc}
 use Rattle.index.specs.Rows.{rowIn}
 use Rattle.query.specs.Query.{Query}
 use borrow.Author.Needs.{needs}
 use lib.ListN.{length, length-set}
-use mathlib.Core.Bool.{Bool}
-use mathlib.Core.List.{List}
 use mathlib.Core.Path.{_∙_, _≡_, refl, subst}
 use native.Mathlib.Omega.{arith}
 use Rattle.answering.proofs.judging.judge_each.Statement.{statement}
 use Rattle.answering.proofs.judging.judge_each.Tie as tie
 
 abbrev Inv-loop : tie.InvT-loop
-Inv-loop text t scheme rows count opened query test ops m columns chosen kinds operators values ranks ends marks₀ truths₀ last₀ x₀ r₀ marks truths last x r = (r ≤ count) × (length marks ≡ length marks₀) × Fewer r x × Remembered query test m truths last × ((ts : List ℕ) (d : Doc) (q : Query) (selecting : Bool) → SchemeOf ts t scheme → AllReady ts t query ops m columns chosen kinds operators values ranks → Prepared text ts rows t count opened query test ops m columns selecting chosen d q → JudgedTo d q (rowIn text rows) r marks x)
+Inv-loop text rows count opened query s scheme columns tests marks₀ x₀ r₀ marks x r = (r ≤ count) × (length marks ≡ length marks₀) × Fewer r x × ((d : Doc) (q : Query) → Judgeable text rows count opened query s scheme columns tests d q → JudgedTo d q (rowIn text rows) r marks x)
 
 abbrev μ-loop : tie.MeasureT-loop
-μ-loop text t scheme rows count opened query test ops m columns chosen kinds operators values ranks ends marks₀ truths₀ last₀ x₀ r₀ marks truths last x r = count - r
+μ-loop text rows count opened query s scheme columns tests marks₀ x₀ r₀ marks x r = count - r
 
 loop-holds : tie.Need-loop-holds Inv-loop μ-loop
-loop-holds c = let a = c .before .before .before .args in (omega arith, refl, record { passed = omega arith; withheld = omega arith; unmatched = omega arith }, remembered-none (a .query .now) (a .test) (a .m) _, λ ts d q u says al pr. judged-none d q (rowIn (a .text .now) (a .rows .now)) (a .marks .now))
+loop-holds c = let a = c .before .before .before .args in (omega arith, refl, record { passed = omega arith; withheld = omega arith; unmatched = omega arith }, λ d q jd. judged-none d q (rowIn (a .text .now) (a .rows .now)) (a .marks .now))
 
 fate-of-requires : tie.Need-fate-of-requires Inv-loop μ-loop
-fate-of-requires c κs = (c .before .before .before .before .before .before .pre .0, c .before .before .before .before .before .before .pre .1, c .before .before .loop .inv .3, c .before .before .before .before .before .before .pre .4)
-
-last-by-requires : tie.Need-last-by-requires Inv-loop μ-loop
-last-by-requires c κs = search needs
+fate-of-requires c κs = (c .before .before .before .before .before .pre .0, c .before .before .before .before .before .pre .1)
 
 is-passed-requires : tie.Need-is-passed-requires Inv-loop μ-loop
 is-passed-requires c κs = search needs
 
 slice-write-marks : tie.Need-slice-write-marks Inv-loop μ-loop
-slice-write-marks c = omega (arith, c .before .before .before .before .before .loop .inv .1, c .before .before .before .before .before .before .before .before .before .pre .3)
+slice-write-marks c = omega (arith, c .before .before .before .loop .inv .1, c .before .before .before .before .before .before .before .pre .3)
 
 count-row-requires : tie.Need-count-row-requires Inv-loop μ-loop
-count-row-requires c κs = omega (arith, c .before .before .before .before .before .loop .inv .2 .passed, c .before .before .before .before .before .loop .inv .2 .withheld, c .before .before .before .before .before .loop .inv .2 .unmatched, c .before .before .before .before .before .before .before .before .before .pre .2)
+count-row-requires c κs = omega (arith, c .before .before .before .loop .inv .2 .passed, c .before .before .before .loop .inv .2 .withheld, c .before .before .before .loop .inv .2 .unmatched, c .before .before .before .before .before .before .before .pre .2)
 
 add-r : tie.Need-add-r Inv-loop μ-loop
 add-r c = search needs
@@ -48,19 +40,20 @@ loop-less : tie.Need-loop-less Inv-loop μ-loop
 loop-less c = omega arith
 
 loop-again : tie.Need-loop-again Inv-loop μ-loop
-loop-again c = let a = c .before .before .before .before .before .before .before .before .before .before .args in let l = c .before .before .before .before .before .before .loop in (
-  omega arith,
-  length-set (l .marks) (l .r) _ ∙ l .inv .1,
-  fewer-more (l .r) (l .x) _ (c .before .before .before .fate-of .result) (l .inv .2) (c .count-row .ensures),
-  remembered-by (a .query .now) (a .test) (a .m) _ _ _ (c .before .before .last-by .ensures) (c .before .before .before .fate-of .ensures .1),
-  λ ts d q u says al pr. judged-more d q (rowIn (a .text .now) (a .rows .now)) (l .r) (l .marks) (l .x) (omega (arith, c .before .before .before .before .before .before .loop .inv .1, c .before .before .before .before .before .before .before .before .before .before .pre .3)) (l .inv .4 ts d q u says al pr) (c .before .before .before .fate-of .result) (c .before .before .before .fate-of .ensures .0 ts (a .count) d q u says al pr (c .before .before .before .before .before .loop-test .taken)) (c .before .is-passed .result) (c .before .is-passed .ensures) _ (c .count-row .ensures),
-)
+loop-again c = 
+    let a = c .before .before .before .before .before .before .before .before .args in
+    let l = c .before .before .before .before .loop in
+    (omega arith, length-set (l .marks) (l .r) _ ∙ l .inv .1, fewer-more (l .r) (l .x) _ (c .before .before .fate-of .result) (l .inv .2) (c .count-row .ensures), λ d q jd. judged-more d q (rowIn (a .text .now) (a .rows .now)) (l .r) (l .marks) (l .x) (omega (arith, c .before .before .before .before .loop .inv .1, c .before .before .before .before .before .before .before .before .pre .3)) (l .inv .3 d q jd) (c .before .before .fate-of .result) (c .before .before .fate-of .ensures (a .count) d q jd (c .before .before .before .loop-test .taken)) (c .before .is-passed .result) (c .before .is-passed .ensures) _ (c .count-row .ensures))
 
 same-length : tie.Need-same-length Inv-loop μ-loop
 same-length c = c .before .loop .inv .1
 
 returns : tie.Need-returns Inv-loop μ-loop
-returns c = let a = c .before .before .before .before .before .args in let l = c .before .loop in let e : c .before .loop .r ≡ c .before .before .before .before .before .args .count = omega arith in λ ts d q u says al pr. subst (λ (k : ℕ). JudgedTo d q (rowIn (a .text .now) (a .rows .now)) k (l .marks) (l .x)) e (l .inv .4 ts d q u says al pr)
+returns c = 
+    let a = c .before .before .before .before .before .args in
+    let l = c .before .loop in
+    let e : c .before .loop .r ≡ c .before .before .before .before .before .args .count = omega arith in
+    λ d q jd. subst (λ (k : ℕ). JudgedTo d q (rowIn (a .text .now) (a .rows .now)) k (l .marks) (l .x)) e (l .inv .3 d q jd)
 
 pub judge-each-spec : {M : Type 1} → statement M
 judge-each-spec =
@@ -70,7 +63,6 @@ judge-each-spec =
     μ-loop
     loop-holds
     fate-of-requires
-    last-by-requires
     is-passed-requires
     slice-write-marks
     count-row-requires

@@ -1,31 +1,23 @@
--- `answering::judging::judge_rows` meets its contract: a prepared query is within the bounds. Assumes nothing.
-use Rattle.answering.proofs.FateLaws.{judged-all}
+-- `answering::judging::judge_rows` meets its contract. Assumes nothing.
+use Rattle.answering.proofs.FateLaws.{judgeable, judged-all}
 use borrow.Author.Needs.{needs}
-use native.Mathlib.Omega.{arith}
 use Rattle.answering.proofs.judging.judge_rows.Statement.{statement}
 use Rattle.answering.proofs.judging.judge_rows.Tie as tie
 
-judge-bounded-requires : tie.Need-judge-bounded-requires
-judge-bounded-requires c κs = search needs
+read-tests-requires : tie.Need-read-tests-requires
+read-tests-requires c κs = search needs
+
+table-scheme-requires : tie.Need-table-scheme-requires
+table-scheme-requires c κs = search needs
+
+judge-each-requires : tie.Need-judge-each-requires
+judge-each-requires c κs = search needs
 
 returns : tie.Need-returns
-returns c = let a = c .before .before .before .before .before .before .before .args in λ d q u pr. judged-all (a .text .now) (a .rows .now) (a .count) d q _ _ (pr .rows) (c .judge-bounded .ensures d q u pr)
-
-returns-2 : tie.Need-returns-2
-returns-2 c = λ d q u pr. absurd (omega (arith, pr .rows .few, c .if3 .left))
-
-returns-3 : tie.Need-returns-3
-returns-3 c = λ d q u pr. absurd (omega (arith, pr .few, c .if2 .left))
-
-returns-4 : tie.Need-returns-4
-returns-4 c = λ d q u pr. absurd (omega (arith, pr .fewChosen, c .if1 .left))
+returns c = 
+    let a = c .before .before .before .before .before .before .before .before .args in
+    λ d q pr. judged-all (a .text .now) (a .rows .now) (a .count) d q _ _ (pr .rows) (c .judge-each .ensures d q (judgeable (a .text .now) (a .tables .now) (a .rows .now) (a .count) (a .opened .now) (a .query .now) (a .s) (a .ops .now) (a .columns .now) d q pr (c .before .before .before .table-scheme .result) (c .before .before .before .table-scheme .ensures) _ (c .before .before .before .before .read-tests .ensures (a .text .now) (a .rows .now) (a .count) (a .opened .now) d q pr)))
 
 pub judge-rows-spec : {M : Type 1} → statement M
 judge-rows-spec =
-    tie.close
-    (tie.spec
-    judge-bounded-requires
-    returns
-    returns-2
-    returns-3
-    returns-4)
+    tie.close (tie.spec read-tests-requires table-scheme-requires judge-each-requires returns)
