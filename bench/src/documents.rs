@@ -228,7 +228,7 @@ fn purpose(number: usize) -> String {
 }
 
 /// The cases that are made to be bad, which the goals leave out.
-pub const BAD: [&str; 4] = ["full", "turns", "dear", "front"];
+pub const BAD: [&str; 7] = ["full", "turns", "dear", "front", "nots", "alike", "wide"];
 
 /// Lookups that are dear: 64 labels of 24 bytes that differ in the last two, each of 16 cells in a row with the last of them.
 pub fn dear_lookups() -> Case {
@@ -286,4 +286,41 @@ fn condition(scheme: &'static str, joined: &str, compared: fn(usize) -> String) 
         select: format!("(select ana desk post sub (who due) ({joined}{compared}))"),
         count: format!("(count ana desk post sub ({joined}{compared}))"),
     }
+}
+
+/// A policy without conditions or labels, and one table of these columns with 1,024 rows of these values.
+fn plain_rows(columns: &str, values: &str) -> Vec<u8> {
+    let mut text = String::from("(purpose all)\n(role desk)\n(user ana desk)\n(cond-role any desk (ge hour 0))\n(grant all any)\n");
+    text.push_str(&format!("(table sub none{columns})\n"));
+    text.push_str(&format!("(row sub{values})\n").repeat(1_024));
+    text.into_bytes()
+}
+
+/// A value of 24 bytes.
+const LONG: &str = "value-with-a-long-name-x";
+
+fn plain(scheme: &'static str, columns: &str, values: &str, selected: &str, condition: &str) -> Case {
+    Case {
+        scheme,
+        size: "60",
+        text: plain_rows(columns, values),
+        select: format!("(select ana desk all sub ({selected}) {condition})"),
+        count: format!("(count ana desk all sub {condition})"),
+    }
+}
+
+/// 64 comparisons below five `not`s each, every one of which is met in every row.
+pub fn nested_nots() -> Case {
+    let compared = "(not (not (not (not (not (lt c00 0))))))";
+    plain("nots", " (c00 num)", " 5", "c00", &format!("(and{})", format!(" {compared}").repeat(64)))
+}
+
+/// 64 comparisons of names that are the same to the last byte, every one of which is met in every row.
+pub fn alike_names() -> Case {
+    plain("alike", " (c00 name)", &format!(" {LONG}"), "c00", &format!("(or{})", format!(" (ne c00 {LONG})").repeat(64)))
+}
+
+/// One column of long names, selected sixteen times.
+pub fn wide_answer() -> Case {
+    plain("wide", " (c00 name)", &format!(" {LONG}"), &["c00"; 16].join(" "), &format!("(eq c00 {LONG})"))
 }

@@ -24,7 +24,7 @@ use std::io::Write;
 use std::time::{Duration, Instant};
 
 /// How long a buffer is lent: the largest reserve.
-const BUFFER: usize = 60_021;
+const BUFFER: usize = 500_000;
 /// Calls in a row of one kind, before the next kind has its turn.
 const IN_A_ROW: usize = 3;
 const SECONDS: u64 = 45;
@@ -205,6 +205,9 @@ fn main() -> std::io::Result<()> {
     cases.push(documents::turning_condition());
     cases.push(documents::dear_lookups());
     cases.push(documents::front_lookups());
+    cases.push(documents::nested_nots());
+    cases.push(documents::alike_names());
+    cases.push(documents::wide_answer());
     let words: Vec<String> = std::env::args().skip(1).collect();
     let words: Vec<&str> = words.iter().map(String::as_str).collect();
     let named = |wanted: &str| cases.iter().find(|case| key(case) == wanted).expect("a key that `bench keys` prints");

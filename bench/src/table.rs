@@ -50,7 +50,8 @@ pub fn print(cases: &[Case], measured: &[Measured], turns: usize, in_a_row: usiz
     println!("bytes: one pass of two byte classes over the same text; nine: the same with nine classes.");
     println!("chain: no rows, 64 and 256 purposes, each below the one before it; growth is that of the second over the first.");
     println!("Bad inputs. full: scheme none, a condition of 64 comparisons that come out alike in most rows; turns: that come out otherwise in nearly every row.");
-    println!("dear: 64 labels of 24 bytes alike but for the last two; front: but for the first two.\n");
+    println!("dear: 64 labels of 24 bytes alike but for the last two; front: but for the first two.");
+    println!("nots: 64 comparisons below five nots each; alike: 64 of names that are the same; wide: one column selected sixteen times.\n");
     println!(
         "{:7}{:>7}{:>6} {:7}{:>9}{:>10}{:>8}{:>8}{:>9}{:>10}{:>9}{:>8}{:>10}{:>8}",
         "scheme", "bytes", "rows", "call", "gate", "reference", "bytes", "nine", "SQLite", "gate/ref", "g/bytes", "g/nine", "g/SQLite", "growth"

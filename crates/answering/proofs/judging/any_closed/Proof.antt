@@ -1,7 +1,7 @@
 -- `answering::judging::any_closed` meets its contract. The loop's invariant: no column gone through is closed. Assumes nothing.
-use Prim.Native.Nat.{_+_, _-_, _<_, _≤_, ℕ}
+use Prim.Native.Nat.{_-_, _<_, _≤_, ℕ}
 use borrow.Author.Needs.{needs}
-use lib.ListN.{getD, take}
+use lib.ListN.{take}
 use mathlib.Core.Bool.{false, not}
 use mathlib.Core.Path.{_∙_, _≡_, ap, sym}
 use native.Mathlib.Omega.{arith}
@@ -9,12 +9,13 @@ use Rattle.answering.proofs.OpenCells.{any-found, any-more, any-none}
 use Rattle.answering.specs.Judging.{openIn}
 use Rattle.document.specs.Policy.{Policy}
 use Rattle.index.specs.Labels.{Opened}
+use Rattle.index.specs.Rows.{labelCountIn}
 use Rattle.lists.specs.Lists.{anyOf}
 use Rattle.answering.proofs.judging.any_closed.Statement.{statement}
 use Rattle.answering.proofs.judging.any_closed.Tie as tie
 
 abbrev Inv-loop : tie.InvT-loop
-Inv-loop rows opened r columns n i₀ i = (i ≤ n) × ((d : Policy) (p : ℕ) → Opened d p opened → r < 1024 → getD rows (2048 + r) 0 ≤ 16 → anyOf (λ k. not (openIn d p rows r k)) (take i columns) ≡ false)
+Inv-loop rows opened r columns n i₀ i = (i ≤ n) × ((d : Policy) (p : ℕ) → Opened d p opened → r < 1024 → labelCountIn rows r ≤ 16 → anyOf (λ k. not (openIn d p rows r k)) (take i columns) ≡ false)
 
 abbrev μ-loop : tie.MeasureT-loop
 μ-loop rows opened r columns n i₀ i = n - i
