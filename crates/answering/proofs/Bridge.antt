@@ -10,10 +10,10 @@ use Rattle.answer.proofs.AccountedRows.{gives-exactly}
 use Rattle.answer.specs.Answer.{Answer, answerTo, counted, endLine, rowLine}
 use Rattle.answer.specs.Exactly.{GivesExactly, isGiven}
 use Rattle.answer.specs.Seen.{rowsIn, seenRows}
-use Rattle.answering.specs.Prepared.{Judged, Prepared, wantedBy}
+use Rattle.judging.specs.Prepared.{Judged, Prepared, wantedBy}
 use Rattle.answering.specs.Lines.{answerMarked, lineMarked, linesMarked}
-use Rattle.answering.specs.declared.sought.Sought.{Sought}
-use Rattle.answering.specs.declared.tally.Tally.{Tally}
+use Rattle.judging.specs.declared.sought.Sought.{Sought}
+use Rattle.judging.specs.declared.tally.Tally.{Tally}
 use Rattle.document.specs.Policy.{Doc, Row}
 use Rattle.index.proofs.ListedLaws.{listed-map, listed-same}
 use Rattle.index.proofs.RowLaws.{row-at}

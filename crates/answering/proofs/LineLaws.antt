@@ -2,7 +2,7 @@
 use Prim.Native.Nat.{_*_, _+_, _<_, _≤_, suc, zero, ℕ}
 use borrow.Author.Tests.{ltb-false, ltb-true}
 use lib.Dec.{ltb}
-use lib.ListN.{List·getD-eq-default, drop, drop-of-length-le, getD, length, length-append, length-drop}
+use lib.ListN.{drop, drop-of-length-le, getD, length, length-append, length-drop}
 use mathlib.Core.Bool.{Bool, false, true}
 use mathlib.Core.List.{List, [], _++_, _∷_, append-assoc, append-nil, flatten}
 use mathlib.Core.Path.{_∙_, _≡_, ap, refl, subst, sym}
@@ -10,10 +10,11 @@ use native.Mathlib.Omega.{arith}
 use Rattle.answer.specs.Answer.{rowLine}
 use Rattle.answering.specs.Lines.{lineMarked, linesMarked, spaced}
 use Rattle.document.specs.Policy.{Row}
-use Rattle.index.proofs.ListedLaws.{length-listed, listed-getD, listed-more}
+use Rattle.index.proofs.ListedLaws.{listed-getD, listed-more}
 use Rattle.index.specs.Rows.{Rows, rowIn, valueCountIn, valueIn, valuePlaceIn}
 use Rattle.index.specs.Tables.{Cut}
 use Rattle.index.specs.Listed.{listed}
+use Rattle.judging.proofs.ValueLaws.{no-value}
 use Rattle.text.proofs.Lefts.{drop-here}
 use Rattle.text.specs.Bytes.{ascii, isNameByte}
 use Rattle.text.specs.Numbers.{Value}
@@ -37,26 +38,7 @@ value-short : (s : List ℕ) (at : ℕ) → length (writtenAt s at) ≤ length s
 unfolding writtenAt
 value-short s at = omega (arith, run-short (drop at s), length-drop at s)
 
--- at the end stands the empty value
-value-end : (s : List ℕ) → writtenAt s (length s) ≡ []
-unfolding nameBytes writtenAt
-value-end s = let l : length s ≤ length s = omega arith in rw (drop-of-length-le s l)
-
 -- ---- the values of a row
-
--- the value of a column stands in the text
-pub value-place : (text ws : List ℕ) (r width c p : ℕ) → c < width → p ≡ valuePlaceIn ws r c → writtenAt text p ≡ getD (listed (valueIn text ws r) width) c []
-value-place text ws r width c p l e = ap (writtenAt text) e ∙ sym (listed-getD (valueIn text ws r) width c [] l)
-
--- past the last column stands none
-no-value : (text ws : List ℕ) (r width c : ℕ) → width ≤ c → getD (listed (valueIn text ws r) width) c [] ≡ []
-no-value text ws r width c l =
-    let h : length (listed (valueIn text ws r) width) ≤ c = omega (arith, l, length-listed (valueIn text ws r) width) in
-    List·getD-eq-default (listed (valueIn text ws r) width) [] h
-
--- past the last column it is the empty one
-pub value-past : (text ws : List ℕ) (r width c : ℕ) → width ≤ c → writtenAt text (length text) ≡ getD (listed (valueIn text ws r) width) c []
-value-past text ws r width c l = value-end text ∙ sym (no-value text ws r width c l)
 
 module _ (text ws : List ℕ) (r : ℕ) where
   -- a value is no longer than the text

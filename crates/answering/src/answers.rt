@@ -1,14 +1,14 @@
 // The whole answer: measured first, and then, where there is room, written straight into the lent buffer.
-use crate::judging::judge_rows;
 use crate::lines::put_end;
 use crate::lines::put_lines;
-use crate::sought::Sought;
-use crate::tally::Tally;
 use index::layout::COLUMNS;
 use index::layout::LABELS;
 use index::layout::ROW_CELLS;
 use index::layout::ROWS;
 use index::layout::TABLE_CELLS;
+use judging::fates::judge_rows;
+use judging::sought::Sought;
+use judging::tally::Tally;
 ghost use Prim.Native.Nat.{_≤_, ℕ};
 ghost use lib.ListN.{length, take};
 ghost use mathlib.Core.List.{List};
@@ -17,7 +17,7 @@ ghost use Rattle.answer.specs.Answer.{answerTo};
 ghost use Rattle.answer.specs.Seen.{seenRows};
 ghost use Rattle.answering.specs.Answering.{Writes};
 ghost use Rattle.answering.specs.Lines.{answerMarked};
-ghost use Rattle.answering.specs.Prepared.{Prepared};
+ghost use Rattle.judging.specs.Prepared.{Prepared};
 ghost use Rattle.document.specs.Policy.{Doc, Row};
 ghost use Rattle.index.specs.Rows.{Rows};
 ghost use Rattle.query.specs.Query.{Query};
@@ -25,9 +25,6 @@ ghost use Rattle.writing.specs.Write.{Stored};
 
 // How long a text may be.
 const TEXT_BYTES: usize = 60000;
-
-// How many comparisons a condition may have.
-const TESTS: usize = 64;
 
 // An answer's length and its counts.
 pub struct Measured {
@@ -156,9 +153,6 @@ pub fn answer_rows(
         return unmeasured();
     }
     if COLUMNS < s.chosen {
-        return unmeasured();
-    }
-    if TESTS < s.tests {
         return unmeasured();
     }
     if ROWS < count {

@@ -7,7 +7,7 @@ use mathlib.Core.List.{List, [], _++_, _∷_, append-assoc, map}
 use mathlib.Core.Option.{Option, Option·getD, Option·map, none, some}
 use mathlib.Core.Path.{_∙_, _≡_, ap, refl, subst, sym}
 use native.Mathlib.Omega.{arith}
-use Rattle.answering.specs.Prepared.{Prepared, wantedBy}
+use Rattle.judging.specs.Prepared.{Prepared, wantedBy}
 use Rattle.condition.specs.Answers.{Placed, comparedAt, comparisonsAt}
 use Rattle.condition.specs.Cond.{comparisonsIn, mapCond}
 use Rattle.condition.specs.CondForm.{Compared, conditionInForm, mistyped}

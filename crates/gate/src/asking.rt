@@ -1,6 +1,5 @@
 // Asking: a query over a document, its answer in a lent buffer.
 use answering::answers::answer_rows;
-use answering::sought::Sought;
 use authority::grants::authorising_grant;
 use authority::purposes::purpose_closure;
 use checker::loading::Loaded;
@@ -22,6 +21,7 @@ use index::layout::TABLE_CELLS;
 use index::layout::USER_CELLS;
 use index::names::find_purpose;
 use index::tables::find_table;
+use judging::sought::Sought;
 use purpose::Closure;
 use query::clock::Clock;
 use query::clock::in_range;

@@ -23,13 +23,7 @@ unmeasured-requires-3 : tie.Need-unmeasured-requires-3
 unmeasured-requires-3 c κs = search needs
 
 returns-3 : tie.Need-returns-3
-returns-3 c = λ d q h. absurd (omega (arith, h .few, c .before .if3 .taken))
-
-unmeasured-requires-4 : tie.Need-unmeasured-requires-4
-unmeasured-requires-4 c κs = search needs
-
-returns-4 : tie.Need-returns-4
-returns-4 c = λ d q h. absurd (omega (arith, h .rows .few, c .before .if4 .taken))
+returns-3 c = λ d q h. absurd (omega (arith, h .rows .few, c .before .if3 .taken))
 
 judge-rows-requires : tie.Need-judge-rows-requires
 judge-rows-requires c κs = search needs
@@ -40,10 +34,10 @@ put-measured-requires c κs = search needs
 same-length : tie.Need-same-length
 same-length c = search needs
 
-returns-5 : tie.Need-returns-5
-returns-5 c = 
+returns-4 : tie.Need-returns-4
+returns-4 c =
     λ d q h.
-    subst (λ a. Writes a (c .before .before .before .before .before .before .before .before .before .before .before .before .before .before .before .before .args .out .now) (c .before .before .put-measured .last .0) (c .before .before .put-measured .result)) (sym (answer-is h (c .before .before .before .before .before .judge-rows .ensures d q h)))
+    subst (λ a. Writes a (c .before .before .before .before .before .before .before .before .before .before .before .before .before .before .args .out .now) (c .before .before .put-measured .last .0) (c .before .before .put-measured .result)) (sym (answer-is h (c .before .before .before .before .before .judge-rows .ensures d q h)))
     (c .before .before .put-measured .ensures (d .rows) (h .rows))
 
 pub answer-rows-spec : {M : Type 1} → statement M
@@ -56,9 +50,7 @@ answer-rows-spec =
     returns-2
     unmeasured-requires-3
     returns-3
-    unmeasured-requires-4
-    returns-4
     judge-rows-requires
     put-measured-requires
     same-length
-    returns-5)
+    returns-4)

@@ -1,0 +1,215 @@
+-- The condition of a prepared query: running its program by the comparisons that were read is evaluating it. Assumes nothing.
+use Prim.Native.Nat.{_+_, _<_, _≤_, suc, zero, ℕ}
+use lib.ListN.{drop, getD, getElem?, length, length-append, length-map, take}
+use lib.Seq.{getD-drop, getD-take, length-take-le}
+use mathlib.Core.Bool.{Bool, false, true}
+use mathlib.Core.List.{List, [], _∷_, map}
+use mathlib.Core.Option.{Option, Option·getD, Option·map, bind, none, some}
+use mathlib.Core.Path.{_∙_, _≡_, ap, refl, subst, sym}
+use native.Mathlib.Omega.{arith}
+use Rattle.answer.specs.Answer.{matches}
+use Rattle.judging.specs.Prepared.{Prepared}
+use Rattle.judging.specs.Tests.{ProgramOf, TestOf, Tested, comparisonBy, testIn}
+use Rattle.judging.specs.declared.sought.Sought.{Sought}
+use Rattle.judging.specs.declared.tests.TestRead.{TestRead}
+use Rattle.condition.proofs.CondLaws.{holds-map}
+use Rattle.condition.specs.Answers.{comparedAt, comparedIn, heldRead}
+use Rattle.condition.specs.Comparison.{Comparison, meets}
+use Rattle.condition.specs.Cond.{Cond, Conds, both, comparisons, comparisonsIn, comparisonsOf, either, last, mapCond, more, negate, test}
+use Rattle.condition.specs.CondForm.{Compared, conditionInForm}
+use Rattle.condition.specs.Kinds.{numbers}
+use Rattle.condition.specs.declared.conditions.Read.{Read}
+use Rattle.document.specs.Lookup.{columnKind, columnOf, columnsAt}
+use Rattle.document.specs.Policy.{Column, Doc, Policy}
+use Rattle.index.proofs.TableLaws.{column-at, column-inside, table-inside}
+use Rattle.index.specs.Tables.{Tables, columnIn, columnKindIn}
+use Rattle.lists.proofs.ListLaws.{all-map, findIndex-found, map-map, there-some}
+use Rattle.lists.proofs.Tests.{and-left, and-right}
+use Rattle.lists.specs.Lists.{allOf, known, there}
+use Rattle.program.proofs.ProgramLaws.{Agree, program-holds}
+use Rattle.program.specs.Program.{Programmed, comesTo}
+use Rattle.query.specs.Asked.{conditionAt}
+use Rattle.query.specs.Query.{Query, columnComparison}
+use Rattle.query.specs.declared.reading.Test.the-variants as tests
+use Rattle.query.specs.declared.reading.Test.{Test}
+use Rattle.text.specs.Numbers.{Value}
+use Rattle.text.specs.Reader.{Left, from}
+use Rattle.text.specs.Words.{isCalled, wordAt}
+
+-- a condition has one comparison at least
+mutual
+  unfolding comparisons
+
+  comparisons-some : {C : Type 0} (c : Cond C) → 1 ≤ length (comparisons c)
+  comparisons-some (test c) = omega arith
+  comparisons-some (negate c) = comparisons-some c
+  comparisons-some (both cs) = comparisonsOf-some cs
+  comparisons-some (either cs) = comparisonsOf-some cs
+
+  comparisonsOf-some : {C : Type 0} (cs : Conds C) → 1 ≤ length (comparisonsOf cs)
+  comparisonsOf-some (last c) = comparisons-some c
+  comparisonsOf-some (more c cs) = omega (arith, comparisons-some c, length-append (comparisons c) (comparisonsOf cs))
+
+-- the comparisons of what was read, either way
+comparisons-read : (o : Option (Cond Compared × Left)) → comparedIn o ≡ comparisonsIn (Option·map (λ x. x .0) o)
+unfolding comparisonsIn
+comparisons-read none = refl
+comparisons-read (some r) = refl
+
+-- g resolves the comparisons, vs are the values of a row
+module _ (g : Compared → Comparison) (vs : List Value) where
+  -- the comparison holds of the values
+  abbrev holdsHere : Compared → Bool
+  holdsHere x = meets (g x) (getD vs (g x .of) [])
+
+  -- where a condition was read that has comparisons, the row matches if it holds
+  matches-read : (o : Option (Cond Compared × Left)) → 1 ≤ length (comparedIn o) → matches (Option·map (mapCond g) (Option·map (λ x. x .0) o)) vs ≡ heldRead holdsHere o
+  unfolding matches
+  matches-read none l = absurd (omega (arith, l))
+  matches-read (some r) l = holds-map (λ t. meets t (getD vs (t .of) [])) g (r .0)
+
+  -- where there are no comparisons there is no condition
+  matches-none : (o : Option (Cond Compared)) → length (comparisonsIn o) ≡ 0 → matches (Option·map (mapCond g) o) vs ≡ true
+  unfolding matches comparisonsIn
+  matches-none none e = refl
+  matches-none (some c) e = absurd (omega (arith, comparisons-some c, e))
+
+-- ---- the first m of a list, by their numbers
+
+all-taken : (g : ℕ → Bool) (m j : ℕ) (ops : List ℕ) → allOf g (take m ops) ≡ true → j < m → j < length ops → g (getD ops j 0) ≡ true
+unfolding allOf
+all-taken g zero j ops e l k = absurd (omega (arith, l))
+all-taken g (suc m) j [] e l k = absurd (omega (arith, k))
+all-taken g (suc m) zero (o ∷ ops) e l k = and-left (g o) _ e
+all-taken g (suc m) (suc j) (o ∷ ops) e l k = all-taken g m j ops (and-right (g o) _ e) (omega (arith, l)) (omega (arith, k))
+
+getD-mapped : {A : Type 0} (h : ℕ → A) (m j : ℕ) (ops : List ℕ) (z : A) → j < m → j < length ops → getD (map h (take m ops)) j z ≡ h (getD ops j 0)
+getD-mapped h zero j ops z l k = absurd (omega (arith, l))
+getD-mapped h (suc m) j [] z l k = absurd (omega (arith, k))
+getD-mapped h (suc m) zero (o ∷ ops) z l k = refl
+getD-mapped h (suc m) (suc j) (o ∷ ops) z l k = getD-mapped h m j ops z (omega (arith, l)) (omega (arith, k))
+
+-- ---- one comparison, whose column has the number c
+
+module _ (text ts : List ℕ) (k t : ℕ) (d : Policy) (tables : Tables text ts k (d .tables)) (inside : t < k) (s : List ℕ) (op c : ℕ) (is : there (columnOf (columnsAt d t) (comparedAt s op .of)) ≡ true) (number : c ≡ known (columnOf (columnsAt d t) (comparedAt s op .of))) where
+  number-found : columnOf (columnsAt d t) (comparedAt s op .of) ≡ some c
+  number-found = there-some (columnOf (columnsAt d t) (comparedAt s op .of)) is ∙ ap some (sym number)
+
+  number-inside : c < length (columnsAt d t)
+  unfolding columnOf
+  number-inside = findIndex-found (λ x. isCalled (comparedAt s op .of) (x .name)) (columnsAt d t) c number-found .1
+
+  kind-is : columnKind (columnsAt d t) (comparedAt s op .of) ≡ columnKindIn ts t c
+  unfolding columnKind columnIn bind
+  kind-is =
+      ap (λ (o : Option ℕ). Option·getD (Option·map (λ x. x .kind) (bind o (getElem? (columnsAt d t)))) numbers) number-found
+      ∙ ap (λ (o : Option Column). Option·getD (Option·map (λ x. x .kind) o) numbers) (column-at text ts k t d tables inside c number-inside)
+
+  -- what is read of it is the comparison of the definitions
+  comparison-is : (y n : ℕ) (x : TestRead) → TestOf ts t s op c y n x → comparisonBy s x ≡ columnComparison (columnsAt d t) (comparedAt s op)
+  unfolding columnComparison comparedAt
+  comparison-is y n x h = λ i. record {
+    of = (h .column ∙ number) i;
+    kind = (h .kind (table-inside text ts k t d tables inside) (column-inside text ts k t d tables inside c number-inside) ∙ sym kind-is) i;
+    op = h .operator i;
+    value = wordAt s (h .place i);
+  }
+
+-- ---- the condition of a prepared query
+
+module _ (text ts ws : List ℕ) (count : ℕ) (os : List Bool) (s : List ℕ) (g : Sought) (ops cs : List ℕ) (d : Doc) (q : Query)
+    (pr : Prepared text ts ws count os s g ops cs d q) (long : g .tests ≤ length ops) where
+  abbrev columns : List Column
+  columns = columnsAt (d .policy) (g .table)
+
+  abbrev number : ℕ → ℕ
+  number p = known (columnOf columns (comparedAt s p .of))
+
+  number-at : (j : ℕ) → j < g .tests → getD cs (g .chosen + j) 0 ≡ number (getD ops j 0)
+  number-at j l =
+      sym (getD-drop (g .chosen) cs j 0) ∙ sym (getD-take (g .tests) (drop (g .chosen) cs) j 0 l)
+      ∙ ap (λ ys. getD ys j 0) (pr .numbers ∙ ap (map (λ x. known (columnOf columns (x .of)))) (sym (pr .compared)) ∙ map-map (λ x. known (columnOf columns (x .of))) (comparedAt s) (take (g .tests) ops))
+      ∙ getD-mapped number (g .tests) j ops 0 l (omega (arith, l, long))
+
+  there-at : (j : ℕ) → j < g .tests → there (columnOf columns (comparedAt s (getD ops j 0) .of)) ≡ true
+  there-at j l =
+      all-taken (λ p. there (columnOf columns (comparedAt s p .of))) (g .tests) j ops
+      (sym (all-map (λ x. there (columnOf columns (x .of))) (comparedAt s) (take (g .tests) ops)) ∙ ap (allOf (λ x. there (columnOf columns (x .of)))) (pr .compared) ∙ pr .allThere)
+      l (omega (arith, l, long))
+
+  compared-many : length (comparisonsIn (conditionAt s (g .test))) ≡ g .tests
+  compared-many = ap length (sym (pr .compared)) ∙ length-map (take (g .tests) ops) (comparedAt s) ∙ length-take-le (g .tests) ops long
+
+  -- no comparisons, and so no condition
+  absent-here : g .tests ≡ 0 → (vs : List Value) → matches (q .condition) vs ≡ true
+  absent-here e vs = ap (λ c. matches c vs) (pr .condition) ∙ matches-none (columnComparison columns) vs (conditionAt s (g .test)) (compared-many ∙ e)
+
+  -- the comparisons that were read, by the numbers of their places
+  module _ (trues falses : List ℕ) (flips : List Bool) (rs : List ℕ)
+      (each : (j : ℕ) → j < g .tests → TestOf ts (g .table) s (getD ops j 0) (getD cs (g .chosen + j) 0) (getD trues j 0) (getD falses j 0) (testIn rs j)) where
+    -- F says which of them hold of the values
+    module _ (F : ℕ → Bool) (vs : List Value) (says : (j : ℕ) → j < g .tests → F j ≡ meets (comparisonBy s (testIn rs j)) (getD vs (testIn rs j .column) [])) where
+      abbrev holdsOfIt : Compared → Bool
+      holdsOfIt = holdsHere (columnComparison columns) vs
+
+      says-it : (j : ℕ) → j < g .tests → F j ≡ holdsOfIt (comparedAt s (getD ops j 0))
+      says-it j l =
+          says j l
+          ∙ ap (λ (c : Comparison). meets c (getD vs (c .of) []))
+          (comparison-is text ts (pr .tableCount) (g .table) (d .policy) (pr .tables) (pr .inside) s (getD ops j 0) (getD cs (g .chosen + j) 0) (there-at j l) (number-at j l) (getD trues j 0) (getD falses j 0) (testIn rs j) (each j l))
+
+      agreed : Agree F holdsOfIt 0 (map (comparedAt s) (take (g .tests) ops))
+      agreed j h =
+          let l : j < g .tests = omega (arith, h, length-map (take (g .tests) ops) (comparedAt s), length-take-le (g .tests) ops long) in
+          let z : 0 + j ≡ j = omega arith in
+          ap F z ∙ says-it j l
+          ∙ sym (getD-mapped (λ p. holdsOfIt (comparedAt s p)) (g .tests) j ops false l (omega (arith, l, long)))
+          ∙ ap (λ (bs : List Bool). getD bs j false) (sym (map-map holdsOfIt (comparedAt s) (take (g .tests) ops)))
+
+      -- the condition at a place of the query
+      module _ (at n : ℕ) (e : g .test ≡ tests.When at n) (result : Read) (p : Programmed s at result trues falses flips) (least : 0 < g .tests) where
+        here : conditionAt s (g .test) ≡ Option·map (λ x. x .0) (conditionInForm (from s at))
+        unfolding conditionAt
+        here = ap (conditionAt s) e
+
+        compared-here : comparedIn (conditionInForm (from s at)) ≡ map (comparedAt s) (take (g .tests) ops)
+        compared-here = comparisons-read (conditionInForm (from s at)) ∙ ap comparisonsIn (sym here) ∙ sym (pr .compared)
+
+        some-here : 1 ≤ length (comparedIn (conditionInForm (from s at)))
+        some-here = omega (arith, least, ap length compared-here, length-map (take (g .tests) ops) (comparedAt s), length-take-le (g .tests) ops long)
+
+        held-here : matches (q .condition) vs ≡ heldRead holdsOfIt (conditionInForm (from s at))
+        held-here =
+            ap (λ c. matches c vs) (pr .condition ∙ ap (Option·map (mapCond (columnComparison columns))) here)
+            ∙ matches-read (columnComparison columns) vs (conditionInForm (from s at)) some-here
+
+        runs-read : (o : Option (Cond Compared × Left)) → conditionInForm (from s at) ≡ o → comesTo (λ odd. F) trues falses flips (g .tests) ≡ heldRead holdsOfIt o
+        runs-read none z = absurd (omega (arith, some-here, ap (λ (o : Option (Cond Compared × Left)). length (comparedIn o)) z))
+        runs-read (some r) z =
+            let same : comparisons (r .0) ≡ map (comparedAt s) (take (g .tests) ops) = ap comparedIn (sym z) ∙ compared-here in
+            let many : length (comparisons (r .0)) ≡ g .tests = ap length same ∙ length-map (take (g .tests) ops) (comparedAt s) ∙ length-take-le (g .tests) ops long in
+            let fits : length (comparisons (r .0)) ≤ 64 = omega (arith, many, pr .few) in
+            let agree : Agree F holdsOfIt 0 (comparisons (r .0)) = subst (λ (xs : List Compared). Agree F holdsOfIt 0 xs) (sym same) agreed in
+            ap (comesTo (λ odd. F) trues falses flips) (sym many)
+            ∙ program-holds s at result trues falses flips p (r .0) (r .1) z fits (λ odd. F) holdsOfIt agree agree
+
+        runs-when : comesTo (λ odd. F) trues falses flips (g .tests) ≡ matches (q .condition) vs
+        runs-when = runs-read (conditionInForm (from s at)) refl ∙ sym held-here
+
+      runs-by : ProgramOf s (g .test) trues falses flips → 0 < g .tests → (t : Test) → g .test ≡ t → comesTo (λ odd. F) trues falses flips (g .tests) ≡ matches (q .condition) vs
+      unfolding conditionAt comparisonsIn
+      runs-by p least tests.Always e = absurd (omega (arith, least, compared-many, ap (λ (z : Test). length (comparisonsIn (conditionAt s z))) e))
+      runs-by p least (tests.When at n) e = runs-when at n e (p .result) (p .is at n e) least
+
+    pub condition-tested : ProgramOf s (g .test) trues falses flips → Tested s rs (g .tests) (q .condition)
+    condition-tested p = record {
+      few = pr .few;
+      sized = λ j l. each j l .sized;
+      trues = trues;
+      falses = falses;
+      flips = flips;
+      hit = λ j l. each j l .hit;
+      miss = λ j l. each j l .miss;
+      absent = absent-here;
+      runs = λ least F vs says. runs-by F vs says p least (g .test) refl;
+    }

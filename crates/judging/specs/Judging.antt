@@ -1,0 +1,75 @@
+-- Contract: what becomes of a row, and what the arrays say of its cells.
+use Prim.Native.Nat.{_+_, _<_, ℕ}
+use lib.Dec.{eqb}
+use lib.ListN.{getD, getElem?, take}
+use mathlib.Core.Bool.{Bool, _&&_, cond, false, true}
+use mathlib.Core.List.{List}
+use mathlib.Core.Path.{_≡_}
+use Rattle.answer.specs.Answer.{matches}
+use Rattle.answer.specs.Exactly.{isGiven, isUnmatchedRow, isWithheldRow}
+use Rattle.answer.specs.Seen.{rowsIn}
+use Rattle.judging.specs.Tests.{Tested}
+use Rattle.judging.specs.declared.fates.Fate.the-variants as fate
+use Rattle.judging.specs.declared.fates.Fate.{Fate}
+use Rattle.judging.specs.declared.sought.Sought.{Sought}
+use Rattle.judging.specs.declared.tally.Tally.{Tally}
+use Rattle.document.specs.Lookup.{schemeAt}
+use Rattle.document.specs.Open.{labelOpen}
+use Rattle.document.specs.Policy.{Doc, Policy, Row}
+use Rattle.index.specs.Labels.{Opened}
+use Rattle.index.specs.Listed.{listed}
+use Rattle.index.specs.Rows.{Rows, labelsIn}
+use Rattle.index.specs.Tables.{schemeBy}
+use Rattle.form.specs.declared.lines.Scheme as coded
+use Rattle.lists.specs.Lists.{countOf}
+use Rattle.query.specs.Query.{Query, named}
+
+-- cell c of row r is open to the purpose p
+unfoldable pub openIn : Policy → ℕ → List ℕ → ℕ → ℕ → Bool
+openIn d p ws r c = labelOpen d p (getElem? (labelsIn ws r) c)
+
+-- ---- the rows
+
+-- what becomes of a row of the table: a withheld row is that, whether its condition holds or not
+abbrev pub fateHere : Bool → Bool → Fate
+fateHere held met = cond held fate.Withheld (cond met fate.Passed fate.Unmatched)
+
+-- what becomes of a row
+unfoldable pub fateOf : Doc → Query → Row → Fate
+fateOf d q row =
+    cond (eqb (row .table) (q .table))
+    (fateHere (isWithheldRow d q row) (matches (q .condition) (row .values)))
+    fate.Elsewhere
+
+-- the row passes
+abbrev pub passedBy : Fate → Bool
+passedBy fate.Elsewhere = false
+passedBy fate.Withheld = false
+passedBy fate.Passed = true
+passedBy fate.Unmatched = false
+
+-- the counts with one row more
+abbrev pub countedBy : Tally → Fate → Tally
+countedBy x fate.Elsewhere = x
+countedBy x fate.Withheld = record { passed = x .passed; withheld = x .withheld + 1; unmatched = x .unmatched }
+countedBy x fate.Passed = record { passed = x .passed + 1; withheld = x .withheld; unmatched = x .unmatched }
+countedBy x fate.Unmatched = record { passed = x .passed; withheld = x .withheld; unmatched = x .unmatched + 1 }
+
+-- a query and what is read of it, ready for each of the rows: g is what is sought of them, in a table of this scheme; the numbers cs
+-- are those of the columns that it names, and the condition's comparisons are read
+pub record Judgeable (text ws : List ℕ) (count : ℕ) (os : List Bool) (s : List ℕ) (g : Sought) (scheme : coded.Scheme) (cs read : List ℕ) (d : Doc) (q : Query) : Type 0 where
+  pub rows : Rows text ws count (d .rows)
+  pub table : q .table ≡ g .table
+  pub label : ℕ
+  pub labels : List ℕ
+  pub schemed : schemeBy scheme label labels ≡ schemeAt (d .policy) (q .table)
+  pub opened : Opened (d .policy) (q .purpose) os
+  pub named : take (g .chosen + g .tests) cs ≡ named q
+  pub tested : Tested s read (g .tests) (q .condition)
+
+-- the same as Judged, for the first k rows
+pub record JudgedTo (d : Doc) (q : Query) (row : ℕ → Row) (k : ℕ) (marks : List Bool) (x : Tally) : Type 0 where
+  pub given : (r : ℕ) → r < k → getD marks r false ≡ (eqb (row r .table) (q .table) && isGiven d q (row r))
+  pub passed : x .passed ≡ countOf (isGiven d q) (rowsIn (q .table) (listed row k))
+  pub withheld : x .withheld ≡ countOf (isWithheldRow d q) (rowsIn (q .table) (listed row k))
+  pub unmatched : x .unmatched ≡ countOf (isUnmatchedRow d q) (rowsIn (q .table) (listed row k))

@@ -1,0 +1,298 @@
+// What becomes of each row: it is withheld, or given, or its condition does not hold.
+use crate::comparing::row_matches;
+use crate::sought::Sought;
+use crate::tally::Tally;
+use crate::tests::TEST_CELLS;
+use crate::tests::read_tests;
+use form::lines::Scheme;
+use index::labels::opened_at;
+use index::layout::COLUMNS;
+use index::layout::LABELS;
+use index::layout::ROW_CELLS;
+use index::layout::ROWS;
+use index::layout::TABLE_CELLS;
+use index::rows::row_label;
+use index::rows::row_labels;
+use index::rows::row_table;
+use index::tables::table_scheme;
+ghost use Prim.Native.Nat.{_+_, _<_, _≤_, ℕ};
+ghost use lib.ListN.{getD, length, take};
+ghost use mathlib.Core.Bool.{_&&_, false, not};
+ghost use mathlib.Core.List.{List};
+ghost use mathlib.Core.Option.{Option};
+ghost use mathlib.Core.Path.{_≡_};
+ghost use Rattle.answer.specs.Answer.{matches};
+ghost use Rattle.judging.specs.Judging.{JudgedTo, Judgeable, countedBy, fateHere, fateOf, openIn, passedBy};
+ghost use Rattle.judging.specs.Prepared.{Judged, Prepared};
+ghost use Rattle.judging.specs.Tests.{Tested};
+ghost use Rattle.condition.specs.Comparison.{Comparison};
+ghost use Rattle.condition.specs.Cond.{Cond};
+ghost use Rattle.document.specs.Open.{labelOpen, rowWithheld};
+ghost use Rattle.document.specs.Policy.{Doc, Policy};
+ghost use Rattle.index.specs.Labels.{Opened};
+ghost use Rattle.index.specs.Rows.{labelCountIn, labelsIn, rowIn, valueCountIn};
+ghost use Rattle.index.specs.Tables.{schemeBy};
+ghost use Rattle.lists.specs.Lists.{anyOf};
+ghost use Rattle.query.specs.Query.{Query};
+
+// What becomes of a row: it lies in another table, or is withheld, or passes, or its condition does not hold.
+pub enum Fate {
+    Elsewhere,
+    Withheld,
+    Passed,
+    Unmatched,
+}
+
+// Whether label c of row r is open; a label that the row has not is closed.
+fn cell_open(rows: &[usize; ROW_CELLS], opened: &[bool; LABELS], r: usize, c: usize) -> bool
+    ensures { λ x. ⌜ ((d : Policy) (p : ℕ) → Opened d p (now (opened .entry)) → r < 1024 → labelCountIn (now (rows .entry)) r ≤ 16 → x ≡ openIn d p (now (rows .entry)) r c) ⌝ }
+{
+    let n = row_labels(rows, r);
+    if c < n {
+        return opened_at(opened, row_label(rows, r, c));
+    }
+    false
+}
+
+// Whether a cell of row r in one of the first n columns is closed.
+fn any_closed(
+    rows: &[usize; ROW_CELLS],
+    opened: &[bool; LABELS],
+    r: usize,
+    columns: &[usize],
+    n: usize,
+) -> bool
+    requires { ⌜ n ≤ length (now columns) ⌝ }
+    ensures { λ x. ⌜ ((d : Policy) (p : ℕ) → Opened d p (now (opened .entry)) → r < 1024 → labelCountIn (now (rows .entry)) r ≤ 16 → x ≡ anyOf (λ c. not (openIn d p (now (rows .entry)) r c)) (take n (now (columns .entry)))) ⌝ }
+{
+    let mut i = 0;
+    while i < n {
+        if !cell_open(rows, opened, r, columns[i]) {
+            return true;
+        }
+        i += 1;
+    }
+    false
+}
+
+// Whether row r is withheld in a table of this scheme, where the first n columns are named.
+fn is_withheld(
+    scheme: Scheme,
+    rows: &[usize; ROW_CELLS],
+    opened: &[bool; LABELS],
+    r: usize,
+    columns: &[usize; 80],
+    n: usize,
+) -> bool
+    requires { ⌜ n ≤ 80 ⌝ }
+    ensures { λ x. ⌜ ((d : Policy) (p l : ℕ) (ls : List ℕ) → Opened d p (now (opened .entry)) → r < 1024 → labelCountIn (now (rows .entry)) r ≤ 16 → x ≡ rowWithheld (labelOpen d p) (schemeBy scheme l ls) (take n (now (columns .entry))) (labelsIn (now (rows .entry)) r)) ⌝ }
+{
+    match scheme {
+        Scheme::Unlabelled => false,
+        Scheme::ByTable => false,
+        Scheme::ByColumn => false,
+        Scheme::ByRow => !cell_open(rows, opened, r, 0),
+        Scheme::ByCell => any_closed(rows, opened, r, columns, n),
+    }
+}
+
+// Whether row r is not withheld and its condition holds: of a withheld row the condition is not looked at.
+fn row_met(
+    skip: bool,
+    text: &[u8],
+    rows: &[usize; ROW_CELLS],
+    r: usize,
+    query: &[u8],
+    tests: &[usize; TEST_CELLS],
+    m: usize,
+) -> bool
+    requires { ⌜ m ≤ 64 ⌝ }
+    ensures { λ x. ⌜ ((o : Option (Cond Comparison)) → Tested (now (query .entry)) (now (tests .entry)) m o → r < 1024 → valueCountIn (now (rows .entry)) r ≤ 16 → x ≡ (not skip && matches o (rowIn (now (text .entry)) (now (rows .entry)) r .values))) ⌝ }
+{
+    if skip {
+        return false;
+    }
+    row_matches(text, rows, r, query, tests, m)
+}
+
+// What becomes of a row of the table: a withheld row is that, whether its condition holds or not.
+fn fate_here(held: bool, met: bool) -> Fate
+    ensures { λ x. ⌜ x ≡ fateHere held met ⌝ }
+{
+    if held {
+        return Fate::Withheld;
+    }
+    if met {
+        return Fate::Passed;
+    }
+    Fate::Unmatched
+}
+
+// What becomes of row r of a document, where the table has this scheme.
+fn fate_of(
+    text: &[u8],
+    rows: &[usize; ROW_CELLS],
+    r: usize,
+    opened: &[bool; LABELS],
+    query: &[u8],
+    s: Sought,
+    scheme: Scheme,
+    columns: &[usize; 80],
+    tests: &[usize; TEST_CELLS],
+) -> Fate
+    requires { ⌜ (s .chosen ≤ 16) × (s .tests ≤ 64) ⌝ }
+    ensures { λ x. ⌜ ((count : ℕ) (d : Doc) (q : Query) → Judgeable (now (text .entry)) (now (rows .entry)) count (now (opened .entry)) (now (query .entry)) s scheme (now (columns .entry)) (now (tests .entry)) d q → r < count → x ≡ fateOf d q (rowIn (now (text .entry)) (now (rows .entry)) r)) ⌝ }
+{
+    let m = s.tests;
+    if row_table(rows, r) != s.table {
+        return Fate::Elsewhere;
+    }
+    let held = is_withheld(scheme, rows, opened, r, columns, s.chosen + m);
+    let met = row_met(held, text, rows, r, query, tests, m);
+    fate_here(held, met)
+}
+
+// Whether the row passes.
+fn is_passed(f: Fate) -> bool
+    ensures { λ x. ⌜ x ≡ passedBy f ⌝ }
+{
+    match f {
+        Fate::Elsewhere => false,
+        Fate::Withheld => false,
+        Fate::Passed => true,
+        Fate::Unmatched => false,
+    }
+}
+
+// One row more is counted.
+fn count_row(x: Tally, f: Fate) -> Tally
+    requires { ⌜ (x .passed < 1024) × (x .withheld < 1024) × (x .unmatched < 1024) ⌝ }
+    ensures { λ y. ⌜ y ≡ countedBy x f ⌝ }
+{
+    let passed = x.passed;
+    let withheld = x.withheld;
+    let unmatched = x.unmatched;
+    match f {
+        Fate::Elsewhere => x,
+        Fate::Withheld => Tally {
+            passed,
+            withheld: withheld + 1,
+            unmatched,
+        },
+        Fate::Passed => Tally {
+            passed: passed + 1,
+            withheld,
+            unmatched,
+        },
+        Fate::Unmatched => Tally {
+            passed,
+            withheld,
+            unmatched: unmatched + 1,
+        },
+    }
+}
+
+// Judges each row once by the comparisons that were read, where there is room for the marks.
+fn judge_each(
+    text: &[u8],
+    rows: &[usize; ROW_CELLS],
+    count: usize,
+    opened: &[bool; LABELS],
+    query: &[u8],
+    s: Sought,
+    scheme: Scheme,
+    columns: &[usize; 80],
+    tests: &[usize; TEST_CELLS],
+    marks: &mut [bool],
+) -> Tally
+    requires { ⌜ (s .chosen ≤ 16) × (s .tests ≤ 64) × (count ≤ 1024) × (count ≤ length (now marks)) ⌝ }
+    ensures { λ x. ⌜ ((d : Doc) (q : Query) → Judgeable (now (text .entry)) (now (rows .entry)) count (now (opened .entry)) (now (query .entry)) s scheme (now (columns .entry)) (now (tests .entry)) d q → JudgedTo d q (rowIn (now (text .entry)) (now (rows .entry))) count (now (marks .exit)) x) ⌝ }
+{
+    let mut x = Tally {
+        passed: 0,
+        withheld: 0,
+        unmatched: 0,
+    };
+    let mut r = 0;
+    while r < count {
+        let f = fate_of(text, rows, r, opened, query, s, scheme, columns, tests);
+        marks[r] = is_passed(f);
+        x = count_row(x, f);
+        r += 1;
+    }
+    x
+}
+
+// Reads the comparisons, and judges each row once.
+fn judge_bounded(
+    text: &[u8],
+    tables: &[usize; TABLE_CELLS],
+    rows: &[usize; ROW_CELLS],
+    count: usize,
+    opened: &[bool; LABELS],
+    query: &[u8],
+    s: Sought,
+    ops: &[usize; 64],
+    columns: &[usize; 80],
+    marks: &mut [bool; ROWS],
+) -> Tally
+    requires { ⌜ (s .chosen ≤ 16) × (s .tests ≤ 64) × (count ≤ 1024) ⌝ }
+    ensures { λ x. ⌜ ((d : Doc) (q : Query) → Prepared (now (text .entry)) (now (tables .entry)) (now (rows .entry)) count (now (opened .entry)) (now (query .entry)) s (now (ops .entry)) (now (columns .entry)) d q → Judged d q (now (marks .exit)) x) ⌝ }
+{
+    let mut tests = [0usize; TEST_CELLS];
+    read_tests(tables, query, s, ops, columns, &mut tests);
+    let scheme = table_scheme(tables, s.table);
+    judge_each(
+        text,
+        rows,
+        count,
+        opened,
+        query,
+        s,
+        scheme,
+        columns,
+        &tests,
+        marks,
+    )
+}
+
+// Judges each row once: marks those that are given, and counts. A prepared query passes the tests, which keep numbers within the
+// arrays.
+pub fn judge_rows(
+    text: &[u8],
+    tables: &[usize; TABLE_CELLS],
+    rows: &[usize; ROW_CELLS],
+    count: usize,
+    opened: &[bool; LABELS],
+    query: &[u8],
+    s: Sought,
+    ops: &[usize; 64],
+    columns: &[usize; 80],
+    marks: &mut [bool; ROWS],
+) -> Tally
+    ensures { λ x. ⌜ ((d : Doc) (q : Query) → Prepared (now (text .entry)) (now (tables .entry)) (now (rows .entry)) count (now (opened .entry)) (now (query .entry)) s (now (ops .entry)) (now (columns .entry)) d q → Judged d q (now (marks .exit)) x) ⌝ }
+{
+    if s.chosen <= COLUMNS {
+        if s.tests <= 64 {
+            if count <= ROWS {
+                return judge_bounded(
+                    text,
+                    tables,
+                    rows,
+                    count,
+                    opened,
+                    query,
+                    s,
+                    ops,
+                    columns,
+                    marks,
+                );
+            }
+        }
+    }
+    Tally {
+        passed: 0,
+        withheld: 0,
+        unmatched: 0,
+    }
+}
