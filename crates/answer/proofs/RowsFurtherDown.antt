@@ -21,7 +21,7 @@ use Rattle.lists.specs.Lists.{known}
 use Rattle.purpose.specs.Compliance.{descends}
 use Rattle.query.proofs.Below.{forPurpose}
 use Rattle.query.proofs.NamedColumns.{columnNumber}
-use Rattle.query.proofs.QueryPlaces.{closed-placeless, column-placeless, party-placeless, placelessQuery, resolved-placeless, types-placeless}
+use Rattle.query.proofs.QueryPlaceless.{closed-placeless, column-placeless, party-placeless, placelessQuery, resolved-placeless, types-placeless}
 use Rattle.query.specs.Authority.{Clock}
 use Rattle.query.specs.Query.{Query, resolved, select, wantedOf}
 use Rattle.query.specs.QueryForm.{QueryForm}

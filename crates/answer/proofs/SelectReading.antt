@@ -10,7 +10,7 @@ use Rattle.condition.proofs.CondPlaces.{conditionInForm-agree}
 use Rattle.condition.specs.CondForm.{conditionInForm}
 use Rattle.answer.specs.Further.{selectText}
 use Rattle.query.proofs.Below.{forPurpose}
-use Rattle.query.proofs.QueryPlaces.{bounds-placeless, placelessQuery}
+use Rattle.query.proofs.QueryPlaceless.{bounds-placeless, placelessQuery}
 use Rattle.query.specs.QueryForm.{QueryForm, columnList, ifWithinBounds, queryBody, queryForm, queryForms, queryOf, selectColumns, selectedWords, withinBounds}
 use Rattle.text.proofs.ByteLaws.{name-nameBytes, run-stops}
 use Rattle.lists.proofs.ListLaws.{drop-append}

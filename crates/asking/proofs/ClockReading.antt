@@ -12,7 +12,7 @@ use Rattle.answer.specs.Session.{clockNumbers, natural}
 use Rattle.form.proofs.KeywordLaws.{keyword-at}
 use Rattle.lists.specs.Lists.{isEmpty}
 use Rattle.query.proofs.WholeLaws.{whole-long, whole-open, whole-read, whole-shut, whole-wrong}
-use Rattle.query.specs.Asked.{clockOf}
+use Rattle.query.specs.HostClock.{clockOf}
 use Rattle.query.specs.Authority.{Clock, inRange}
 use Rattle.text.proofs.CodeLaws.{limited-is}
 use Rattle.text.proofs.ReaderLaws.{byte-at-read}

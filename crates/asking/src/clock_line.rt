@@ -8,7 +8,7 @@ use text::words::word_end;
 ghost use Rattle.answer.specs.Session as session;
 ghost use Rattle.asking.specs.ClockLine.{SameTime};
 ghost use Rattle.asking.specs.ClockParts.{ReadsNumber, ReadsNumbers};
-ghost use Rattle.query.specs.Asked.{clockOf};
+ghost use Rattle.query.specs.HostClock.{clockOf};
 
 // A number behind a space: where it ends, and the number.
 enum Spaced {

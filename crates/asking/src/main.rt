@@ -3,7 +3,6 @@
 // policy one such line with `document`, and stops. It stops too, and standard error says why, where something can't be read or
 // written: no query gets another's answer.
 use clock_line::read_clock;
-use gate::asking::Answered;
 use gate::asking::ask;
 use gate::documents::Checked;
 use gate::documents::check;
@@ -17,6 +16,7 @@ use programs::output::write_out;
 use programs::policy;
 use programs::policy::load;
 use query::clock::Clock;
+use stages::answered::Answered;
 use text::refusals::Refusal;
 
 mod clock_line;

@@ -36,7 +36,7 @@ ghost use Rattle.document.specs.Policy.{Attribute, CondRole, Policy, User};
 ghost use Rattle.index.specs.Attributes.{Attributes};
 ghost use Rattle.index.specs.CondRoles.{CondRoles, attributesKnown, condRoleIn, conditionRead};
 ghost use Rattle.lists.specs.Lists.{allOf, holdsOf, there};
-ghost use Rattle.query.specs.Asked.{clockOf};
+ghost use Rattle.query.specs.HostClock.{clockOf};
 ghost use Rattle.query.specs.Authority.{clockNumber, inRange, userValue};
 ghost use Rattle.text.specs.Numbers.{rankOf};
 ghost use Rattle.text.specs.Reader.{from};

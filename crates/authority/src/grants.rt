@@ -4,6 +4,7 @@ use crate::line::line_of;
 use crate::values::VALUES;
 use crate::values::store_values;
 use index::conds::cond_role_role;
+use index::counts::Counts;
 use index::found::Found;
 use index::grants::grant_cond_role;
 use index::grants::grant_purpose;
@@ -26,19 +27,17 @@ ghost use lib.ListN.{getElem?, length};
 ghost use mathlib.Core.Bool.{true};
 ghost use mathlib.Core.List.{List};
 ghost use mathlib.Core.Path.{_≡_};
+ghost use Rattle.authority.specs.Authorities.{Authorities};
 ghost use Rattle.authority.specs.Held.{Held, conditionHolds};
-ghost use Rattle.document.specs.Invariants.{Formed};
 ghost use Rattle.document.specs.Policy.{CondRole, Node, Policy, User, treeOf};
-ghost use Rattle.index.specs.Attributes.{Attributes};
 ghost use Rattle.index.specs.CondRoles.{CondRoles};
 ghost use Rattle.index.specs.Found.{foundAs};
 ghost use Rattle.index.specs.Grants.{Grants};
 ghost use Rattle.index.specs.Nodes.{Nodes};
-ghost use Rattle.index.specs.Users.{Users};
 ghost use Rattle.lists.specs.Lists.{findIndex, holdsOf};
 ghost use Rattle.purpose.specs.Compliance.{inTree, parent};
 ghost use Rattle.purpose.specs.Meaning.{ClosureOf};
-ghost use Rattle.query.specs.Asked.{clockOf};
+ghost use Rattle.query.specs.HostClock.{clockOf};
 ghost use Rattle.query.specs.Authority as authority;
 
 // The parent of role r, among the first k; a role that is not there is its own.
@@ -107,32 +106,29 @@ pub fn authorising_grant(
     text: &[u8],
     closure: Closure,
     roles: &[usize; ROLE_CELLS],
-    rcount: usize,
     attributes: &[usize; ATTRIBUTE_CELLS],
-    acount: usize,
     users: &[usize; USER_CELLS],
     conds: &[usize; COND_ROLE_CELLS],
-    ccount: usize,
     grants: &[usize; GRANT_CELLS],
-    gcount: usize,
+    c: Counts,
     clock: Clock,
     user: usize,
 ) -> Found
-    ensures { λ x. ⌜ ((d : Policy) (ucount p : ℕ) → Formed d → Nodes 64 (now (text .entry)) (now (roles .entry)) rcount (d .roles) → Attributes (now (text .entry)) (now (attributes .entry)) acount (d .attributes) → Users d (now (text .entry)) (now (users .entry)) ucount (d .users) → user < ucount → CondRoles d (now (text .entry)) (now (conds .entry)) ccount (d .condRoles) → Grants (now (grants .entry)) gcount (d .grants) → ClosureOf (treeOf (d .purposes)) p closure → inTree (treeOf (d .purposes)) p ≡ true → authority.inRange (clockOf clock) ≡ true → foundAs x ≡ authority.firstGrant d (clockOf clock) user p) ⌝ }
+    ensures { λ x. ⌜ ((d : Policy) (p : ℕ) → Authorities (now (text .entry)) (now (roles .entry)) (now (attributes .entry)) (now (users .entry)) (now (conds .entry)) (now (grants .entry)) c d → user < c .users → ClosureOf (treeOf (d .purposes)) p closure → inTree (treeOf (d .purposes)) p ≡ true → authority.inRange (clockOf clock) ≡ true → foundAs x ≡ authority.firstGrant d (clockOf clock) user p) ⌝ }
 {
     let start = user_start(users, user);
     let end = user_end(users, user);
     let line = line_of(text, start, end);
     let mut values = [0usize; VALUES];
     let place = user_place(users, user);
-    store_values(text, attributes, acount, line, place, &mut values);
+    store_values(text, attributes, c.attributes, line, place, &mut values);
     let mut held = [false; COND_ROLES];
     store_held(
         text,
         attributes,
-        acount,
+        c.attributes,
         conds,
-        ccount,
+        c.conds,
         clock,
         line,
         &values,
@@ -142,11 +138,11 @@ pub fn authorising_grant(
     first_grant(
         closure,
         roles,
-        rcount,
+        c.roles,
         conds,
-        ccount,
+        c.conds,
         grants,
-        gcount,
+        c.grants,
         &held,
         role,
     )

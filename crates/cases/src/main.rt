@@ -1,10 +1,10 @@
 // The cases of the request that are not marked with a star: each is run and printed, and the output is held to the file stdout.
-use gate::asking::Answered;
 use gate::asking::ask;
 use gate::documents::Checked;
 use gate::documents::check;
 use libc::STDOUT_FILENO;
 use query::clock::Clock;
+use stages::answered::Answered;
 use text::refusals::Refusal;
 use text::refusals::number;
 

@@ -8,10 +8,11 @@ use Rattle.answer.specs.Ask.{Answered, after, ask}
 use Rattle.answer.specs.Further.{SelectsBelow}
 use Rattle.gate.proofs.ExportLaws.{figures-accepted}
 use Rattle.gate.specs.Below.{AsksBelow, GivesBelow, IsGiven}
-use Rattle.gate.specs.Outside.{Asks, Figures, answeredAs, inFigures}
+use Rattle.gate.specs.Outside.{Asks}
+use Rattle.stages.specs.Figures.{Figures, answeredAs, inFigures}
 use Rattle.query.specs.Authority.{Clock}
 use Rattle.text.specs.Refusal.{accepted}
-use Rattle.gate.specs.declared.asking.Answered as code
+use Rattle.stages.specs.declared.answered.Answered as code
 use Rattle.gate.specs.declared.two.Pair.{Pair}
 
 -- an asking that is accepted gives its answer

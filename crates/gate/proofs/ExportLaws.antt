@@ -12,11 +12,12 @@ use Rattle.gate.specs.declared.documents.Checked.{Checked}
 use Rattle.gate.specs.declared.documents.Checked.the-variants as checked
 use Rattle.document.specs.Check.{Accepted, check}
 use Rattle.gate.specs.Exports.{ExportsAsk, ExportsCheck, ExportsImport, ExportsMeasure, ExportsMeasureImport, Refuses, StoresLength, askFigures, checkFigures, codeOf, measureFigures}
-use Rattle.gate.specs.Outside.{Asks, Figures, Measures, answeredAs, figuresOf, inFigures, measuredAs}
+use Rattle.gate.specs.Outside.{Asks, Measures, measuredAs}
+use Rattle.stages.specs.Figures.{Figures, answeredAs, figuresOf, inFigures}
 use Rattle.gate.specs.Reserved.{ChecksDocument, HasReserve}
-use Rattle.gate.specs.declared.asking.Answered.{Answered}
-use Rattle.gate.specs.declared.asking.Answered.the-variants as answered
-use Rattle.gate.specs.declared.asking.Figures as code
+use Rattle.stages.specs.declared.answered.Answered.{Answered}
+use Rattle.stages.specs.declared.answered.Answered.the-variants as answered
+use Rattle.stages.specs.declared.answered.Figures as code
 use Rattle.gate.specs.declared.measuring.Measured.{Measured}
 use Rattle.gate.specs.declared.measuring.Measured.the-variants as measured
 use Rattle.import.specs.Importing.{measureImport}

@@ -5,10 +5,11 @@ use mathlib.Core.List.{List}
 use mathlib.Core.Path.{_≡_}
 use Rattle.answer.specs.Ask.{Answered, after}
 use Rattle.answer.specs.Further.{Contains, SelectsBelow}
-use Rattle.gate.specs.Outside.{Asks, Figures, answeredAs, inFigures}
+use Rattle.gate.specs.Outside.{Asks}
+use Rattle.stages.specs.Figures.{Figures, answeredAs, inFigures}
 use Rattle.query.specs.Authority.{Clock}
 use Rattle.text.specs.Refusal.{accepted}
-use Rattle.gate.specs.declared.asking.Answered as code
+use Rattle.stages.specs.declared.answered.Answered as code
 use Rattle.gate.specs.declared.two.Pair.{Pair}
 
 -- the code's answer r is this answer, and it stands in the buffer

@@ -3,7 +3,8 @@ use Prim.Native.Nat.{ℕ}
 use mathlib.Core.List.{List}
 use mathlib.Core.Path.{_≡_}
 use Rattle.answer.specs.Alike.{Alike}
-use Rattle.gate.specs.Outside.{Asks, answeredAs}
+use Rattle.gate.specs.Outside.{Asks}
+use Rattle.stages.specs.Figures.{answeredAs}
 use Rattle.query.specs.Authority.{Clock}
 use Rattle.gate.specs.declared.two.Pair.{Pair}
 

@@ -11,7 +11,7 @@ use Rattle.import.specs.Importing.{bufferAfter, importing, lengthOnly, measureI
 use Rattle.query.specs.Authority.{Clock}
 use Rattle.text.specs.Names.{Name}
 use Rattle.text.specs.Refusal.{Refusal, Result, Source, accepted, document, file, query, refused}
-use Rattle.gate.specs.Outside.{Figures, inFigures}
+use Rattle.stages.specs.Figures.{Figures, inFigures}
 
 -- the code of a result: 0, or the refusal's number
 unfoldable pub codeOf : {A : Type 0} → Result A → ℕ

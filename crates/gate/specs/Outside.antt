@@ -1,40 +1,17 @@
--- Meaning: what the gate's outside functions answer (01, "Asking"): the figures of an outcome, and the lent buffer afterwards.
+-- Meaning: what the gate's outside functions answer (01, "Asking"): 18, the figures of an outcome, and the lent buffer afterwards.
 use Prim.Native.Nat.{ℕ}
 use lib.Dec.{ltb}
 use lib.ListN.{length}
 use mathlib.Core.List.{List}
 use mathlib.Core.Path.{_≡_}
-use Rattle.answer.specs.Ask.{Outcome, after, ask, measure}
+use Rattle.answer.specs.Ask.{after, ask, measure}
 use Rattle.query.specs.Authority.{Clock}
+use Rattle.stages.specs.Figures.{Figures, answeredAs, inFigures}
 use Rattle.text.specs.Reasons.{refusalOf}
 use Rattle.text.specs.Refusal.{Result, _>>=_, _>>_, accepted, pointingNowhere, query, refuseIf, refused}
-use Rattle.gate.specs.declared.asking.Answered.{Answered}
-use Rattle.gate.specs.declared.asking.Answered.the-variants as answered
-use Rattle.gate.specs.declared.asking.Figures as code
 use Rattle.gate.specs.declared.measuring.Measured.{Measured}
 use Rattle.gate.specs.declared.measuring.Measured.the-variants as measured
-
--- an accepted answer in figures: its length, the grant and the three counts
-pub record Figures : Type 0 where
-  pub len : ℕ
-  pub grant : ℕ
-  pub passed : ℕ
-  pub withheld : ℕ
-  pub unmatched : ℕ
-
--- the figures that the code's answer gives
-unfoldable pub figuresOf : code.Figures → Figures
-figuresOf x = record { len = x .len; grant = x .grant; passed = x .passed; withheld = x .withheld; unmatched = x .unmatched }
-
--- what the code's answer stands for: a refusal, or the figures of an answer
-unfoldable pub answeredAs : Answered → Result Figures
-answeredAs (answered.Given x) = accepted (figuresOf x)
-answeredAs (answered.Refused r) = refused (refusalOf r)
-
--- the outcome of asking in figures
-unfoldable pub inFigures : Outcome → Result Figures
-inFigures (refused r) = refused r
-inFigures (accepted a) = accepted (record { len = length (a .answer .bytes); grant = a .grant; passed = a .answer .passed; withheld = a .answer .withheld; unmatched = a .answer .unmatched })
+use Rattle.stages.specs.declared.answered.Answered.{Answered}
 
 -- 18 where the answer is longer than the lent buffer, whose length is `room`, by its figures
 unfoldable pub figuresFit : (room : ℕ) → Result Figures → Result Figures

@@ -3,7 +3,7 @@ use crate::asking::ask;
 use crate::two::Pair;
 use query::clock::Clock;
 ghost use Rattle.gate.specs.Below.{AsksBelow};
-ghost use Rattle.query.specs.Asked.{clockOf};
+ghost use Rattle.query.specs.HostClock.{clockOf};
 
 // Asks a document with a select, and with the same select for a purpose below, at one time, each into its own lent buffer.
 pub fn ask_below(

@@ -1,5 +1,4 @@
 // The gate for hosts in C or Rust: a code, which is 0 or a refusal's number, and five figures.
-use crate::asking::Answered;
 use crate::asking::ask;
 use crate::documents::Checked;
 use crate::documents::check;
@@ -9,6 +8,7 @@ use import::importing::Imported;
 use import::importing::import_rows;
 use import::importing::measure_rows;
 use query::clock::Clock;
+use stages::answered::Answered;
 use text::refusals::Refusal;
 use text::refusals::Source;
 use text::refusals::number;

@@ -1,10 +1,10 @@
 // How long an answer is, so that a host can lend exactly enough.
-use crate::asking::Answered;
 use crate::asking::ask_unbounded;
 use query::clock::Clock;
+use stages::answered::Answered;
 use text::refusals::Refusal;
 ghost use Rattle.gate.specs.Outside.{Measures};
-ghost use Rattle.query.specs.Asked.{clockOf};
+ghost use Rattle.query.specs.HostClock.{clockOf};
 
 // The refusal that no buffer would change, or the length of the answer.
 pub enum Measured {

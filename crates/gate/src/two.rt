@@ -1,9 +1,9 @@
 // Two documents asked alike.
-use crate::asking::Answered;
 use crate::asking::ask;
 use query::clock::Clock;
+use stages::answered::Answered;
 ghost use Rattle.gate.specs.Both.{AsksBoth};
-ghost use Rattle.query.specs.Asked.{clockOf};
+ghost use Rattle.query.specs.HostClock.{clockOf};
 
 // The answers of two documents.
 pub struct Pair {

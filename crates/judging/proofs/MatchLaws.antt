@@ -28,7 +28,7 @@ use Rattle.lists.proofs.Tests.{and-left, and-right}
 use Rattle.lists.specs.Lists.{allOf, known, there}
 use Rattle.program.proofs.ProgramLaws.{Agree, program-holds}
 use Rattle.program.specs.Program.{Programmed, comesTo}
-use Rattle.query.specs.Asked.{conditionAt}
+use Rattle.query.specs.QueryPlaces.{conditionAt}
 use Rattle.query.specs.Query.{Query, columnComparison}
 use Rattle.query.specs.declared.reading.Test.the-variants as tests
 use Rattle.query.specs.declared.reading.Test.{Test}

@@ -16,7 +16,7 @@ use Rattle.index.specs.Labels.{Opened}
 use Rattle.index.specs.Rows.{Rows}
 use Rattle.index.specs.Tables.{Tables}
 use Rattle.lists.specs.Lists.{allOf, countOf, known, there}
-use Rattle.query.specs.Asked.{conditionAt}
+use Rattle.query.specs.QueryPlaces.{conditionAt}
 use Rattle.query.specs.Query.{Query, Wanted, columnComparison, countsOnly, named, select}
 use Rattle.judging.specs.declared.sought.Sought.{Sought}
 use Rattle.judging.specs.declared.tally.Tally.{Tally}

@@ -5,8 +5,8 @@ use borrow.Author.Tests.{le-leb, leb-true, lt-leb}
 use lib.Dec.{leb}
 use lib.ListN.{getD, length}
 use mathlib.Core.Bool.{Bool, _&&_, cond, false, true}
-use mathlib.Core.List.{List}
-use mathlib.Core.Option.{Option, Option·map, bind, none, some}
+use mathlib.Core.List.{List, []}
+use mathlib.Core.Option.{Option, Option·getD, Option·map, bind, none, some}
 use mathlib.Core.Path.{_∙_, _≡_, ap, refl, sym}
 use native.Mathlib.Omega.{arith}
 use Rattle.condition.specs.Answers.{comparedIn}
@@ -14,9 +14,10 @@ use Rattle.condition.specs.Cond.{Cond, comparisonsIn}
 use Rattle.condition.specs.CondForm.{Compared, conditionInForm}
 use Rattle.form.proofs.KeywordLaws.{keyword-at}
 use Rattle.lists.proofs.Tests.{and-left, and-right}
+use Rattle.lists.specs.Lists.{there}
 use Rattle.query.proofs.WholeLaws.{whole-long, whole-open, whole-read, whole-shut, whole-wrong}
-use Rattle.query.specs.Asked.{Asks, Few, FewTests, Selects, TestWithin, Within, conditionAt, queryAt, queryWith, selectedFrom}
-use Rattle.query.specs.AskedParts.{BodyWithin, HeadedWithin, ListedWithin, ReadsBody, ReadsColumns, ReadsHead, ReadsTest, TestedWithin, bodyAt, comparisonCount, headThen, headTo, isBounded, listedAt, testedAt}
+use Rattle.query.specs.QueryPartPlaces.{BodyWithin, HeadedWithin, ListedWithin, ReadsBody, ReadsColumns, ReadsHead, ReadsTest, TestedWithin, bodyAt, headThen, headTo, isBounded, listedAt, testedAt}
+use Rattle.query.specs.QueryPlaces.{IsQuery, Few, ReadsQuery, Selects, TestWithin, WantedWithin, Within, chosenCount, comparisonCount, conditionAt, formAt, isSelect, selectedFrom, wantedAt}
 use Rattle.query.specs.QueryForm.{QueryForm, ifWithinBounds, queryBody, queryForm, queryForms, queryOf, selectColumns, selectedWords, withinBounds}
 use Rattle.text.specs.Brackets.{among, keyword, optional}
 use Rattle.text.specs.Bytes.{ascii}
@@ -30,9 +31,12 @@ use Rattle.query.specs.declared.reading.Body.the-variants as body
 use Rattle.query.specs.declared.reading.Head.{Head}
 use Rattle.query.specs.declared.reading.Headed.the-variants as headed
 use Rattle.query.specs.declared.reading.Listed.the-variants as listed
+use Rattle.query.specs.declared.reading.Question.{Question}
 use Rattle.query.specs.declared.reading.Test.{Test}
 use Rattle.query.specs.declared.reading.Test.the-variants as test
 use Rattle.query.specs.declared.reading.Tested.the-variants as tested
+use Rattle.query.specs.declared.reading.Wanted.{Wanted}
+use Rattle.query.specs.declared.reading.Wanted.the-variants as wanted
 
 -- ---- behind the keyword
 
@@ -57,18 +61,18 @@ module _ (s : List ℕ) {at : ℕ} where
     unfolding queryBody headThen headTo testedAt bodyAt BodyWithin
     count-wrong c = record { is = a .is (rest (give none)) ∙ rw (c .is); within = tt }
 
-    pub count-read : {t : Test} {g : ℕ} → ReadsTest s e (tested.At t g) → ReadsBody s (queryBody (give none) (from s at)) (body.At (asked.Count h t) g)
-    unfolding queryBody headThen headTo testedAt bodyAt queryAt queryWith BodyWithin Within HeadedWithin TestedWithin
-    count-read c = record { is = a .is (rest (give none)) ∙ rw (c .is); within = (a .within, c .within) }
+    pub count-read : {t : Test} {g : ℕ} → ReadsTest s e (tested.At t g) → ReadsBody s (queryBody (give none) (from s at)) (body.At (record { head = h; wanted = wanted.Count; test = t }) g)
+    unfolding queryBody headThen headTo testedAt bodyAt formAt wantedAt BodyWithin WantedWithin HeadedWithin TestedWithin
+    count-read c = record { is = a .is (rest (give none)) ∙ rw (c .is); within = record { head = a .within; wanted = tt; test = c .within } }
 
     module _ {p n f : ℕ} (l : ReadsColumns s e (listed.At p n f)) where
       pub select-wrong : ReadsTest s f tested.Refused → ReadsBody s (queryBody selectColumns (from s at)) body.Refused
       unfolding queryBody selectColumns headThen headTo listedAt testedAt bodyAt BodyWithin
       select-wrong c = record { is = a .is (rest selectColumns) ∙ rw (l .is, c .is); within = tt }
 
-      pub select-read : {t : Test} {g : ℕ} → ReadsTest s f (tested.At t g) → ReadsBody s (queryBody selectColumns (from s at)) (body.At (asked.Select h p n t) g)
-      unfolding queryBody selectColumns headThen headTo listedAt testedAt bodyAt queryAt queryWith BodyWithin Within HeadedWithin ListedWithin TestedWithin
-      select-read c = record { is = a .is (rest selectColumns) ∙ rw (l .is, c .is); within = (a .within, l .within, c .within) }
+      pub select-read : {t : Test} {g : ℕ} → ReadsTest s f (tested.At t g) → ReadsBody s (queryBody selectColumns (from s at)) (body.At (record { head = h; wanted = wanted.Select p n; test = t }) g)
+      unfolding queryBody selectColumns headThen headTo listedAt testedAt bodyAt formAt wantedAt BodyWithin WantedWithin HeadedWithin ListedWithin TestedWithin
+      select-read c = record { is = a .is (rest selectColumns) ∙ rw (l .is, c .is); within = record { head = a .within; wanted = l .within; test = c .within } }
 
 -- ---- the keyword
 
@@ -95,22 +99,30 @@ pub count-when : {t : Test} {p n : ℕ} → t ≡ test.When p n → n ≡ compar
 unfolding comparisonCount
 count-when h = rw h
 
-pub wrong-bounded : {a : Asked} → a ≡ asked.Wrong → true ≡ isBounded a
-unfolding isBounded
-wrong-bounded h = rw h
+pub chosen-select : {w : Wanted} {p n : ℕ} → w ≡ wanted.Select p n → n ≡ chosenCount w
+unfolding chosenCount
+chosen-select h = rw h
 
-module _ {a : Asked} {h : Head} {p n : ℕ} {t : Test} (is : a ≡ asked.Select h p n t) where
-  pub over-columns : 16 < n → false ≡ isBounded a
+pub select-is : {w : Wanted} {p n : ℕ} → w ≡ wanted.Select p n → true ≡ isSelect w
+unfolding isSelect
+select-is h = rw h
+
+pub count-is : {w : Wanted} → w ≡ wanted.Count → false ≡ isSelect w
+unfolding isSelect
+count-is h = rw h
+
+pub chosen-none : {w : Wanted} → w ≡ wanted.Count → 0 ≡ chosenCount w
+unfolding chosenCount
+chosen-none h = rw h
+
+module _ (q : Question) {n : ℕ} (e : n ≡ chosenCount (q .wanted)) where
+  pub over-columns : 16 < n → false ≡ isBounded q
   unfolding isBounded
-  over-columns k = rw is (rw (lt-leb n 16 k))
+  over-columns k = rw (sym e, lt-leb n 16 k)
 
-  pub select-tests : n ≤ 16 → {k : ℕ} → k ≡ comparisonCount t → leb k 64 ≡ isBounded a
+  pub few-columns : n ≤ 16 → {k : ℕ} → k ≡ comparisonCount (q .test) → leb k 64 ≡ isBounded q
   unfolding isBounded
-  select-tests b {k} z = rw is (rw (le-leb n 16 b, z))
-
-pub count-tests : {a : Asked} {h : Head} {t : Test} → a ≡ asked.Count h t → {k : ℕ} → k ≡ comparisonCount t → leb k 64 ≡ isBounded a
-unfolding isBounded
-count-tests h {k} z = rw h (rw z)
+  few-columns b {k} z = rw (sym e, sym z, le-leb n 16 b)
 
 -- the condition has as many comparisons as the answer says
 pub first-of : (o : Option (Cond Compared × Left)) → comparisonsIn (Option·map (λ x. x .0) o) ≡ comparedIn o
@@ -118,28 +130,34 @@ unfolding comparisonsIn
 first-of none = refl
 first-of (some r) = refl
 
-test-count : (s : List ℕ) (t : Test) → TestWithin s t → length (comparisonsIn (conditionAt s t)) ≡ comparisonCount t
+pub test-count : (s : List ℕ) (t : Test) → TestWithin s t → length (comparisonsIn (conditionAt s t)) ≡ comparisonCount t
 unfolding TestWithin conditionAt comparisonCount comparisonsIn
 test-count s test.Always w = refl
 test-count s (test.When t n) w = ap length (first-of (conditionInForm (from s t))) ∙ w .number
 
--- so the query is within the bounds where the numbers of the answer are
-asked-bounds : (s : List ℕ) (a : Asked) → Within s a → bind (queryAt s a) ifWithinBounds ≡ cond (isBounded a) (queryAt s a) none
-unfolding Within queryAt isBounded bind ifWithinBounds withinBounds selectedWords queryWith
-asked-bounds s asked.Wrong w = refl
-asked-bounds s (asked.Select h p n t) w = rw (w .1 .number, test-count s t (w .2))
-asked-bounds s (asked.Count h t) w = rw (test-count s t (w .1))
+-- as many columns are selected as the answer says
+pub wanted-count : (s : List ℕ) (v : Wanted) → WantedWithin s v → length (Option·getD (wantedAt s v) []) ≡ chosenCount v
+unfolding WantedWithin wantedAt chosenCount
+wanted-count s (wanted.Select p n) w = w .number
+wanted-count s wanted.Count w = refl
 
-few-tests : (t : Test) → leb (comparisonCount t) 64 ≡ true → FewTests t
-unfolding FewTests comparisonCount
-few-tests test.Always h = tt
-few-tests (test.When t n) h = leb-true n 64 h
+-- columns are asked for as the answer says
+pub wanted-there : (s : List ℕ) (v : Wanted) → there (wantedAt s v) ≡ isSelect v
+unfolding wantedAt isSelect there
+wanted-there s (wanted.Select p n) = refl
+wanted-there s wanted.Count = refl
 
-asked-few : (a : Asked) → isBounded a ≡ true → Few a
-unfolding Few isBounded
-asked-few asked.Wrong h = tt
-asked-few (asked.Select h p n t) k = (leb-true n 16 (and-left (leb n 16) (leb (comparisonCount t) 64) k), few-tests t (and-right (leb n 16) (leb (comparisonCount t) 64) k))
-asked-few (asked.Count h t) k = few-tests t k
+-- so the query is within the bounds where the numbers of the question are
+form-bounds : (s : List ℕ) (q : Question) → Within s q → ifWithinBounds (formAt s q) ≡ cond (isBounded q) (some (formAt s q)) none
+unfolding isBounded ifWithinBounds withinBounds selectedWords formAt
+form-bounds s q w = rw (wanted-count s (q .wanted) (w .wanted), test-count s (q .test) (w .test))
+
+bounded-few : (q : Question) → isBounded q ≡ true → Few q
+unfolding isBounded
+bounded-few q k = record {
+  columns = leb-true (chosenCount (q .wanted)) 16 (and-left (leb (chosenCount (q .wanted)) 16) (leb (comparisonCount (q .test)) 64) k);
+  tests = leb-true (comparisonCount (q .test)) 64 (and-right (leb (chosenCount (q .wanted)) 16) (leb (comparisonCount (q .test)) 64) k);
+}
 
 -- ---- the whole text
 
@@ -148,53 +166,54 @@ module _ (s : List ℕ) where
   none-either true = refl
   none-either false = refl
 
-  pub query-long : 4096 < length s → Asks s asked.Wrong
-  unfolding queryOf queryAt Within Few
-  query-long h = record { is = rw (lt-leb (length s) 4096 h); within = tt; few = tt }
+  pub query-long : 4096 < length s → ReadsQuery s asked.Wrong
+  unfolding queryOf ReadsQuery
+  query-long h = rw (lt-leb (length s) 4096 h)
 
-  query-none : whole queryForm s ≡ none → Asks s asked.Wrong
-  unfolding queryOf queryAt Within Few bind
-  query-none h = record { is = rw h (none-either (leb (length s) 4096)); within = tt; few = tt }
+  query-none : whole queryForm s ≡ none → ReadsQuery s asked.Wrong
+  unfolding queryOf ReadsQuery bind
+  query-none h = rw h (none-either (leb (length s) 4096))
 
-  pub query-shut : (getD s 0 0 ≡ 40 → ⊥) → Asks s asked.Wrong
+  pub query-shut : (getD s 0 0 ≡ 40 → ⊥) → ReadsQuery s asked.Wrong
   unfolding queryForm
   query-shut h = query-none (whole-shut (keyword queryForms) s h)
 
   module _ (opens : getD s 0 0 ≡ 40) where
-    pub query-wrong : ReadsBody s (keyword queryForms (from s 1)) body.Refused → Asks s asked.Wrong
+    pub query-wrong : ReadsBody s (keyword queryForms (from s 1)) body.Refused → ReadsQuery s asked.Wrong
     unfolding queryForm bodyAt
     query-wrong b = query-none (whole-wrong (keyword queryForms) s opens (b .is))
 
-    module _ {a : Asked} {e : ℕ} (b : ReadsBody s (keyword queryForms (from s 1)) (body.At a e)) where
-      held : keyword queryForms (from s 1) ≡ Option·map (λ q. (q, from s e)) (queryAt s a)
+    module _ {q : Question} {e : ℕ} (b : ReadsBody s (keyword queryForms (from s 1)) (body.At q e)) where
+      held : keyword queryForms (from s 1) ≡ Option·map (λ x. (x, from s e)) (some (formAt s q))
       unfolding bodyAt
       held = b .is
 
-      pub query-open : (getD s e 0 ≡ 41 → ⊥) → Asks s asked.Wrong
+      pub query-open : (getD s e 0 ≡ 41 → ⊥) → ReadsQuery s asked.Wrong
       unfolding queryForm
-      query-open h = query-none (whole-open (keyword queryForms) s opens e (queryAt s a) held h)
+      query-open h = query-none (whole-open (keyword queryForms) s opens e (some (formAt s q)) held h)
 
       module _ (closes : getD s e 0 ≡ 41) where
-        pub query-trailing : (e + 1 ≡ length s → ⊥) → Asks s asked.Wrong
+        pub query-trailing : (e + 1 ≡ length s → ⊥) → ReadsQuery s asked.Wrong
         unfolding queryForm
-        query-trailing h = query-none (whole-long (keyword queryForms) s opens e (queryAt s a) held closes h)
+        query-trailing h = query-none (whole-long (keyword queryForms) s opens e (some (formAt s q)) held closes h)
 
         module _ (ends : e + 1 ≡ length s) where
-          read : whole queryForm s ≡ queryAt s a
+          read : whole queryForm s ≡ some (formAt s q)
           unfolding queryForm
-          read = whole-read (keyword queryForms) s opens e (queryAt s a) held closes ends
+          read = whole-read (keyword queryForms) s opens e (some (formAt s q)) held closes ends
 
-          inside : Within s a
+          inside : Within s q
           unfolding BodyWithin
           inside = b .within
 
-          bounds : bind (whole queryForm s) ifWithinBounds ≡ cond (isBounded a) (queryAt s a) none
-          bounds = ap (λ (o : Option QueryForm). bind o ifWithinBounds) read ∙ asked-bounds s a inside
+          bounds : bind (whole queryForm s) ifWithinBounds ≡ cond (isBounded q) (some (formAt s q)) none
+          unfolding bind
+          bounds = ap (λ (o : Option QueryForm). bind o ifWithinBounds) read ∙ form-bounds s q inside
 
-          pub query-read : length s ≤ 4096 → isBounded a ≡ true → Asks s a
-          unfolding queryOf
-          query-read h k = record { is = rw (le-leb (length s) 4096 h, bounds, k); within = inside; few = asked-few a k }
+          pub query-read : length s ≤ 4096 → isBounded q ≡ true → ReadsQuery s (asked.Query q)
+          unfolding queryOf ReadsQuery
+          query-read h k = record { is = rw (le-leb (length s) 4096 h, bounds, k); within = inside; few = bounded-few q k }
 
-          pub query-over : isBounded a ≡ false → Asks s asked.Wrong
-          unfolding queryOf queryAt Within Few
-          query-over k = record { is = rw (bounds, k) (none-either (leb (length s) 4096)); within = tt; few = tt }
+          pub query-over : isBounded q ≡ false → ReadsQuery s asked.Wrong
+          unfolding queryOf ReadsQuery
+          query-over k = rw (bounds, k) (none-either (leb (length s) 4096))

@@ -1,39 +1,32 @@
 -- Storing where the words stand that name columns: the columns of a select, and then those of the condition's comparisons. Each
 -- law gives what the code's answer promises, or what its loop keeps. Assumes nothing.
 use Prim.Native.Nat.{_+_, _<_, _≤_, suc, ℕ}
-use lib.Dec.{leb}
 use lib.ListN.{getD, length, length-append, length-map, length-set, set, take}
 use lib.Seq.{length-take-le, take-all, take-suc, take-suc-set}
-use borrow.Author.Tests.{leb-true}
-use mathlib.Core.Bool.{Bool, cond, false, true}
 use mathlib.Core.List.{List, [], _++_, _∷_, append-assoc, append-nil, map}
-use mathlib.Core.Option.{Option, Option·map, Option·some-injective, bind, none, some}
+use mathlib.Core.Option.{Option·getD, Option·map, some}
 use mathlib.Core.Path.{_∙_, _≡_, ap, refl, subst, sym}
 use native.Mathlib.Numerals.{add-one}
 use native.Mathlib.Omega.{arith}
-use Rattle.condition.proofs.ReadLaws.{condition-at, condition-none}
-use Rattle.condition.specs.Answers.{Placed, comparedAt, comparedIn, comparisonsAt}
+use Rattle.condition.specs.Answers.{Placed, comparedAt, comparisonsAt}
 use Rattle.condition.specs.Cond.{comparisonsIn}
 use Rattle.condition.specs.CondForm.{Compared, conditionInForm}
 use Rattle.form.proofs.WalkSteps.{names-more, names-stop}
 use Rattle.form.specs.Walks.{namesAt}
 use Rattle.lists.proofs.ListLaws.{map-append}
-use Rattle.lists.proofs.Tests.{and-left, and-right}
-use Rattle.query.proofs.BodiesRead.{first-of}
-use Rattle.query.specs.Asked.{Asks, conditionAt, queryAt, queryWith, selectedFrom}
-use Rattle.query.specs.Naming.{ComparedStored, NamesPlaced, NamesStored, Stored, TestStored, wordsAt}
-use Rattle.query.specs.QueryForm.{QueryForm, ifWithinBounds, namedWords, queryForm, queryOf, selectedWords, withinBounds}
-use Rattle.text.proofs.ReaderLaws.{not-read}
-use Rattle.text.specs.Reader.{from, whole}
+use Rattle.query.proofs.BodiesRead.{first-of, wanted-count}
+use Rattle.query.specs.Naming.{ComparedStored, NamesPlaced, Stored, TestStored, TestsPlaced, wordsAt}
+use Rattle.query.specs.QueryForm.{namedWords, selectedWords}
+use Rattle.query.specs.QueryPlaces.{IsQuery, TestWithin, chosenCount, comparisonCount, conditionAt, formAt, selectedFrom, wantedAt}
+use Rattle.text.specs.Reader.{from}
 use Rattle.text.specs.Walking.{nextWord, wordEndAt}
 use Rattle.text.specs.Words.{Word, wordAt, wordOf}
 use Rattle.condition.specs.declared.conditions.Read.{Read}
-use Rattle.condition.specs.declared.conditions.Read.the-variants as read
-use Rattle.query.specs.declared.reading.Asked.{Asked}
-use Rattle.query.specs.declared.reading.Asked.the-variants as asked
-use Rattle.query.specs.declared.reading.Head.{Head}
+use Rattle.query.specs.declared.reading.Question.{Question}
 use Rattle.query.specs.declared.reading.Test.{Test}
 use Rattle.query.specs.declared.reading.Test.the-variants as test
+use Rattle.query.specs.declared.reading.Wanted.{Wanted}
+use Rattle.query.specs.declared.reading.Wanted.the-variants as wanted
 
 -- the column that a comparison names
 abbrev ofAll : List Compared → List Word
@@ -142,97 +135,70 @@ module _ (s ops : List ℕ) (n k : ℕ) (before out : List ℕ) (j m : ℕ) (inv
 
 -- ---- a condition that may be absent
 
-module _ (s : List ℕ) {t : Test} (k r : ℕ) (before after : List ℕ) where
-  by-comparisons : (cs : List Compared) → comparisonsIn (conditionAt s t) ≡ cs → (k ≤ length before → r ≤ length before)
-      → (length cs ≤ 64 → k + length cs ≤ length before → wordsAt s r after ≡ wordsAt s k before ++ ofAll cs) → TestStored s t k r before after
-  by-comparisons cs e small f = record {
-    small = small;
-    named = subst (λ (xs : List Compared). length xs ≤ 64 → k + length xs ≤ length before → wordsAt s r after ≡ wordsAt s k before ++ ofAll xs) (sym e) f;
+module _ (s : List ℕ) (k : ℕ) (before ops : List ℕ) where
+  none-stored : TestStored s test.Always k k before before ops
+  unfolding conditionAt comparisonsIn comparisonCount
+  none-stored = record {
+    small = λ h. h;
+    placed = λ w f. record { few = f; number = refl; compared = refl };
+    named = λ w f g. sym (append-nil (wordsAt s k before));
   }
 
-module _ (s : List ℕ) {t : Test} (k : ℕ) (before : List ℕ) where
-  nothing-more : comparisonsIn (conditionAt s t) ≡ [] → TestStored s t k k before before
-  nothing-more e = by-comparisons s k k before before [] e (λ h. h) (λ h g. sym (append-nil (wordsAt s k before)))
+  pub tested-always : {t : Test} → t ≡ test.Always → TestStored s t k k before before ops
+  tested-always e = subst (λ v. TestStored s v k k before before ops) (sym e) none-stored
 
-  pub tested-always : t ≡ test.Always → TestStored s t k k before before
-  unfolding conditionAt comparisonsIn
-  tested-always h = nothing-more (rw h)
+module _ (s : List ℕ) {c : Read} {ops : List ℕ} where
+  when-placed : (p n : ℕ) → Placed s p c ops → TestWithin s (test.When p n) → n ≤ 64 → TestsPlaced s (test.When p n) ops
+  unfolding conditionAt TestWithin comparisonCount
+  when-placed p n placed w f =
+      let e : comparisonsIn (Option·map (λ x. x .0) (conditionInForm (from s p))) ≡ comparisonsAt s p = first-of (conditionInForm (from s p)) in
+      let m : length (comparisonsAt s p) ≡ n = w .number in
+      record {
+        few = f;
+        number = ap length e ∙ m;
+        compared = ap (λ i. map (comparedAt s) (take i ops)) (sym m) ∙ placed .places ∙ take-all 64 (comparisonsAt s p) (omega (arith, m, f)) ∙ sym e;
+      }
 
-  module _ {p n′ : ℕ} (when : t ≡ test.When p n′) {c : Read} {ops : List ℕ} (placed : Placed s p c ops) where
-    there-are : comparisonsIn (conditionAt s t) ≡ comparisonsAt s p
-    unfolding conditionAt
-    there-are = rw when (first-of (conditionInForm (from s p)))
-
-    pub tested-refused : c ≡ read.Refused → TestStored s t k k before before
-    tested-refused h = nothing-more (there-are ∙ ap comparedIn (condition-none s p (sym (placed .reads) ∙ h)))
-
-    pub tested-when : {e n : ℕ} → c ≡ read.At e n → {r : ℕ} {after : List ℕ} → ComparedStored s ops 64 n k r before after → TestStored s t k r before after
-    tested-when {e} {n} h {r} {after} d =
-        let q = condition-at s p e n (sym (placed .reads) ∙ h) in
-        let m : length (comparisonsAt s p) ≡ n = ap (λ o. length (comparedIn o)) (q .is) ∙ q .made in
-        by-comparisons s k r before after (comparisonsAt s p) there-are (d .small) (λ a b.
-        d .named (omega arith) (omega arith)
-        ∙ ap (λ (i : ℕ). wordsAt s k before ++ ofAll (map (comparedAt s) (take i ops))) (sym m)
-        ∙ ap (λ (xs : List Compared). wordsAt s k before ++ ofAll xs) (placed .places ∙ take-all 64 (comparisonsAt s p) a))
-
--- ---- the words that name columns
-
--- what is to be shown of a query
-abbrev Placing : List ℕ → ℕ → List ℕ → List ℕ → QueryForm → Type 0
-Placing s r before after q = length (comparisonsIn (q .condition)) ≤ 64 → length (namedWords q) ≤ length before → wordsAt s r after ≡ namedWords q
-
-pub named-wrong : (s : List ℕ) {a : Asked} (before : List ℕ) → a ≡ asked.Wrong → NamesStored s a 0 before before
-unfolding queryAt
-named-wrong s before e = record { small = omega arith; named = λ q h. not-read q (ap (queryAt s) (sym e) ∙ h) }
-
-module _ (s : List ℕ) {a : Asked} {h : Head} {t : Test} where
-  pub named-count : a ≡ asked.Count h t → {r : ℕ} {before after : List ℕ} → TestStored s t 0 r before after → NamesStored s a r before after
-  unfolding queryAt queryWith namedWords selectedWords
-  named-count is {r} {before} {after} d = record {
-    small = d .small (omega arith);
-    named = λ q e. subst (Placing s r before after) (Option·some-injective _ _ (ap (queryAt s) (sym is) ∙ e)) (λ x y. d .named x (omega (arith, length-map (comparisonsIn (conditionAt s t)) (λ (z : Compared). z .of))));
+  when-stored : {k r : ℕ} {before after : List ℕ} (p n : ℕ) → Placed s p c ops → ComparedStored s ops 64 n k r before after → TestStored s (test.When p n) k r before after ops
+  unfolding comparisonCount
+  when-stored {k} {before} p n placed d = record {
+    small = d .small;
+    placed = when-placed p n placed;
+    named = λ w f g. d .named f g ∙ ap (λ (xs : List Compared). wordsAt s k before ++ ofAll xs) (when-placed p n placed w f .compared);
   }
 
-  pub named-select : {p n : ℕ} → a ≡ asked.Select h p n t → {k r : ℕ} {before mid after : List ℕ} → Stored s (selectedFrom s p) k before mid → TestStored s t k r mid after → NamesStored s a r before after
-  unfolding queryAt queryWith namedWords selectedWords
-  named-select {p} {n} is {k} {r} {before} {mid} {after} b d = record {
-    small = omega (arith, b .same, d .small (omega (arith, b .small, b .same)));
-    named = λ q e. subst (Placing s r before after) (Option·some-injective _ _ (ap (queryAt s) (sym is) ∙ e)) (λ x y.
-        let z : length (selectedFrom s p ++ ofAll (comparisonsIn (conditionAt s t))) ≡ length (selectedFrom s p) + length (ofAll (comparisonsIn (conditionAt s t))) = length-append (selectedFrom s p) (ofAll (comparisonsIn (conditionAt s t))) in
-        let w : length (ofAll (comparisonsIn (conditionAt s t))) ≡ length (comparisonsIn (conditionAt s t)) = length-map (comparisonsIn (conditionAt s t)) (λ (v : Compared). v .of) in
-        let g : wordsAt s k mid ≡ selectedFrom s p = b .named (omega arith) in
-        let f : length (wordsAt s k mid) ≡ k = words-length s mid k (omega (arith, b .small, b .same)) in
-        let v : length (wordsAt s k mid) ≡ length (selectedFrom s p) = ap length g in
-        d .named x (omega (arith, b .same)) ∙ ap (λ (ws : List Word). ws ++ ofAll (comparisonsIn (conditionAt s t))) g);
-  }
+  pub tested-when : {k r : ℕ} {before after : List ℕ} {t : Test} {p n : ℕ} → t ≡ test.When p n → Placed s p c ops → ComparedStored s ops 64 n k r before after → TestStored s t k r before after ops
+  tested-when {k} {r} {before} {after} {p} {n} e placed d = subst (λ v. TestStored s v k r before after ops) (sym e) (when-stored p n placed d)
 
--- a query is within the bounds
-query-bounds : (s : List ℕ) (q : QueryForm) → queryOf s ≡ some q → withinBounds q ≡ true
-unfolding queryOf bind ifWithinBounds
-query-bounds s q h = long (leb (length s) 4096) h
-  where
-    checked : (x : QueryForm) (b : Bool) → withinBounds x ≡ b → cond b (some x) none ≡ some q → withinBounds q ≡ true
-    checked x true e k = subst (λ (y : QueryForm). withinBounds y ≡ true) (Option·some-injective _ _ k) e
-    checked x false e k = not-read q k
+-- ---- columns that may not be asked for
 
-    read-as : (o : Option QueryForm) → bind o ifWithinBounds ≡ some q → withinBounds q ≡ true
-    read-as none k = not-read q k
-    read-as (some x) k = checked x (withinBounds x) refl k
+abbrev wantedWords : List ℕ → Wanted → List Word
+wantedWords s w = Option·getD (wantedAt s w) []
 
-    long : (b : Bool) → cond b (bind (whole queryForm s) ifWithinBounds) none ≡ some q → withinBounds q ≡ true
-    long true k = read-as (whole queryForm s) k
-    long false k = not-read q k
+pub wanted-select : (s : List ℕ) {w : Wanted} {p n k : ℕ} {before after : List ℕ} → w ≡ wanted.Select p n → Stored s (selectedFrom s p) k before after → Stored s (wantedWords s w) k before after
+unfolding wantedAt
+wanted-select s {p} {k} {before} {after} e d = subst (λ v. Stored s (wantedWords s v) k before after) (sym e) d
 
--- so its words have room in 80 places
-pub names-placed : (s : List ℕ) {a : Asked} {r : ℕ} (before : List ℕ) {after : List ℕ} → length before ≡ 80 → NamesStored s a r before after → NamesPlaced s a r after
-unfolding withinBounds namedWords
-names-placed s {a} {r} before {after} l d = record {
-  small = omega (arith, d .small);
-  named = λ x q e.
-      let b = query-bounds s q e in
-      let m : length (selectedWords q) ≤ 16 = leb-true (length (selectedWords q)) 16 (and-left (leb (length (selectedWords q)) 16) (leb (length (comparisonsIn (q .condition))) 64) b) in
-      let c : length (comparisonsIn (q .condition)) ≤ 64 = leb-true (length (comparisonsIn (q .condition))) 64 (and-right (leb (length (selectedWords q)) 16) (leb (length (comparisonsIn (q .condition))) 64) b) in
-      let z : length (namedWords q) ≡ length (selectedWords q) + length (ofAll (comparisonsIn (q .condition))) = length-append (selectedWords q) (ofAll (comparisonsIn (q .condition))) in
-      let w : length (ofAll (comparisonsIn (q .condition))) ≡ length (comparisonsIn (q .condition)) = length-map (comparisonsIn (q .condition)) (λ (v : Compared). v .of) in
-      d .named q (sym (x .is) ∙ e) c (omega arith);
-}
+none-wanted : (s before : List ℕ) → Stored s (wantedWords s wanted.Count) 0 before before
+unfolding wantedAt
+none-wanted s before = record { small = omega arith; same = refl; named = λ h. refl }
+
+pub wanted-none : (s : List ℕ) {w : Wanted} (before : List ℕ) → w ≡ wanted.Count → Stored s (wantedWords s w) 0 before before
+wanted-none s before e = subst (λ v. Stored s (wantedWords s v) 0 before before) (sym e) (none-wanted s before)
+
+-- ---- the words that name columns: they have room in 80 places
+
+pub names-placed : (s : List ℕ) (q : Question) {k r : ℕ} {before mid after ops : List ℕ} → length before ≡ 80 → Stored s (wantedWords s (q .wanted)) k before mid
+    → TestStored s (q .test) k r mid after ops → IsQuery s q → NamesPlaced s q r after ops
+unfolding formAt namedWords selectedWords
+names-placed s q {k} {r} {before} {mid} {after} {ops} l b d h =
+    let w : length (wantedWords s (q .wanted)) ≡ chosenCount (q .wanted) = wanted-count s (q .wanted) (h .within .wanted) in
+    let v : length mid ≡ 80 = b .same ∙ l in
+    let g : wordsAt s k mid ≡ wantedWords s (q .wanted) = b .named (omega (arith, w, h .few .columns, l)) in
+    let f : length (wordsAt s k mid) ≡ k = words-length s mid k (omega (arith, b .small, b .same)) in
+    let z : k ≡ chosenCount (q .wanted) = sym f ∙ ap length g ∙ w in
+    record {
+      small = omega (arith, v, d .small (omega (arith, z, v, h .few .columns)));
+      words = d .named (h .within .test) (h .few .tests) (omega (arith, z, v, h .few .columns, h .few .tests)) ∙ ap (λ (ws : List Word). ws ++ ofAll (comparisonsIn (conditionAt s (q .test)))) g;
+      tests = d .placed (h .within .test) (h .few .tests);
+    }

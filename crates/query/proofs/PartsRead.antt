@@ -15,8 +15,8 @@ use Rattle.form.proofs.PartLaws.{Behind, space-before}
 use Rattle.form.proofs.WalkSteps.{names-more, names-stop}
 use Rattle.form.specs.Walks.{listAt, listUpTo, namesAt}
 use Rattle.lists.specs.Lists.{there}
-use Rattle.query.specs.Asked.{TestWithin, conditionAt, selectedFrom}
-use Rattle.query.specs.AskedParts.{HeadedWithin, ListedWithin, ReadsColumns, ReadsHead, ReadsTest, TestedWithin, headThen, headTo, listedAt, testedAt}
+use Rattle.query.specs.QueryPlaces.{TestWithin, conditionAt, selectedFrom}
+use Rattle.query.specs.QueryPartPlaces.{HeadedWithin, ListedWithin, ReadsColumns, ReadsHead, ReadsTest, TestedWithin, headThen, headTo, listedAt, testedAt}
 use Rattle.query.specs.QueryForm.{columnList}
 use Rattle.text.proofs.CodeLaws.{word-at, word-none, word-to}
 use Rattle.text.proofs.Lefts.{before-end}

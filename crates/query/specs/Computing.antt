@@ -8,9 +8,10 @@ use Rattle.document.specs.Computing as document
 use Rattle.query.specs.QueryForm as QueryForm
 use Rattle.query.specs.Authority as Authority
 use Rattle.query.specs.Query as Query
-use Rattle.query.specs.Asked as Asked
-use Rattle.query.specs.AskedParts as AskedParts
+use Rattle.query.specs.HostClock as HostClock
+use Rattle.query.specs.QueryPlaces as QueryPlaces
+use Rattle.query.specs.QueryPartPlaces as QueryPartPlaces
 
 unfoldable pub computing : Unit {0}
-unfolding mathlib.Core.Option.bind mathlib.Core.List.flatten lists.computing purpose.computing text.computing condition.computing form.computing document.computing QueryForm.columnList QueryForm.selectColumns QueryForm.queryBody QueryForm.queryForms QueryForm.queryForm QueryForm.selectedWords QueryForm.namedWords QueryForm.withinBounds QueryForm.ifWithinBounds QueryForm.queryOf Authority.leap Authority.daysIn Authority.inRange Authority.clockNumber Authority.userValue Authority.attributeMeets Authority.belongs Authority.authorises Authority.firstGrant Query.selected Query.named Query.unknownParty Query.unknownColumn Query.mistypedQuery Query.openFor Query.closedPart Query.columnComparison Query.wantedOf Query.resolved Asked.clockOf Asked.conditionAt Asked.selectedFrom Asked.queryWith Asked.queryAt Asked.TestWithin Asked.Within Asked.FewTests Asked.Few AskedParts.headThen AskedParts.headTo AskedParts.HeadedWithin AskedParts.listedAt AskedParts.ListedWithin AskedParts.testedAt AskedParts.TestedWithin AskedParts.bodyAt AskedParts.BodyWithin AskedParts.comparisonCount AskedParts.isBounded
+unfolding mathlib.Core.Option.bind mathlib.Core.List.flatten lists.computing purpose.computing text.computing condition.computing form.computing document.computing QueryForm.columnList QueryForm.selectColumns QueryForm.queryBody QueryForm.queryForms QueryForm.queryForm QueryForm.selectedWords QueryForm.namedWords QueryForm.withinBounds QueryForm.ifWithinBounds QueryForm.queryOf Authority.leap Authority.daysIn Authority.inRange Authority.clockNumber Authority.userValue Authority.attributeMeets Authority.belongs Authority.authorises Authority.firstGrant Query.selected Query.named Query.unknownParty Query.unknownColumn Query.mistypedQuery Query.openFor Query.closedPart Query.columnComparison Query.wantedOf Query.resolved HostClock.clockOf QueryPlaces.conditionAt QueryPlaces.selectedFrom QueryPlaces.wantedAt QueryPlaces.formAt QueryPlaces.isSelect QueryPlaces.chosenCount QueryPlaces.comparisonCount QueryPlaces.TestWithin QueryPlaces.WantedWithin QueryPlaces.ReadsQuery QueryPartPlaces.headThen QueryPartPlaces.headTo QueryPartPlaces.HeadedWithin QueryPartPlaces.listedAt QueryPartPlaces.ListedWithin QueryPartPlaces.testedAt QueryPartPlaces.TestedWithin QueryPartPlaces.bodyAt QueryPartPlaces.BodyWithin QueryPartPlaces.isBounded
 computing = tt

@@ -1,6 +1,6 @@
 // The host's clock, and its range.
 ghost use mathlib.Core.Path.{_≡_};
-ghost use Rattle.query.specs.Asked.{clockOf};
+ghost use Rattle.query.specs.HostClock.{clockOf};
 ghost use Rattle.query.specs.Authority.{inRange, leap, daysIn};
 
 // The host's clock. The day is counted from 1, the first of January.

@@ -1,14 +1,16 @@
 // The words of a query that name columns: where they stand, from left to right.
-use crate::reading::Asked;
+use crate::reading::Question;
 use crate::reading::Test;
-use condition::conditions::Read;
+use crate::reading::Wanted;
 use condition::conditions::read_places;
 use text::bytes::byte_at;
 use text::walking::next_word;
 use text::words::word_end;
 ghost use lib.ListN.{length};
-ghost use Rattle.query.specs.Naming.{ComparedStored, NamesPlaced, NamesStored, Stored, TestStored};
-ghost use Rattle.query.specs.Asked.{selectedFrom};
+ghost use mathlib.Core.List.{[]};
+ghost use mathlib.Core.Option.{Option·getD};
+ghost use Rattle.query.specs.Naming.{ComparedStored, NamesPlaced, Stored, TestStored};
+ghost use Rattle.query.specs.QueryPlaces.{IsQuery, selectedFrom, wantedAt};
 
 // Stores where the columns of a select stand, the first of them at p, as many as have room. Gives how many.
 fn store_selected(s: &[u8], p: usize, out: &mut [usize]) -> usize
@@ -26,6 +28,16 @@ fn store_selected(s: &[u8], p: usize, out: &mut [usize]) -> usize
         at = e + 1;
     }
     k
+}
+
+// The same for columns that may not be asked for.
+fn store_wanted(s: &[u8], w: Wanted, out: &mut [usize]) -> usize
+    ensures { λ r. ⌜ Stored (now (s .entry)) (Option·getD (wantedAt (now (s .entry)) w) []) r (now (out .entry)) (now (out .exit)) ⌝ }
+{
+    match w {
+        Wanted::Select(p, _) => store_selected(s, p, out),
+        Wanted::Count => 0,
+    }
 }
 
 // Stores behind the first k places where the columns stand that n comparisons name, by the places of their operators, as
@@ -56,40 +68,26 @@ fn store_placed(s: &[u8], ops: &[usize; 64], n: usize, k: usize, out: &mut [usiz
     store_compared(s, ops, n, k, out)
 }
 
-// The same for a condition that may be absent.
-fn store_tested(s: &[u8], t: Test, k: usize, out: &mut [usize]) -> usize
-    ensures { λ r. ⌜ TestStored (now (s .entry)) t k r (now (out .entry)) (now (out .exit)) ⌝ }
+// The same for a condition that may be absent, whose operators' places are lent out.
+fn store_tested(s: &[u8], t: Test, k: usize, out: &mut [usize], ops: &mut [usize; 64]) -> usize
+    ensures { λ r. ⌜ TestStored (now (s .entry)) t k r (now (out .entry)) (now (out .exit)) (now (ops .exit)) ⌝ }
 {
     match t {
         Test::Always => k,
-        Test::When(at, _) => {
-            let mut ops = [0; 64];
-            let c = read_places(s, at, &mut ops);
-            match c {
-                Read::At(_, n) => store_placed(s, &ops, n, k, out),
-                Read::Refused => k,
-            }
+        Test::When(at, n) => {
+            read_places(s, at, ops);
+            store_placed(s, ops, n, k, out)
         }
     }
 }
 
-// Stores where the words stand that name columns: those selected and every one in the condition.
-fn store_named(s: &[u8], a: Asked, out: &mut [usize]) -> usize
-    ensures { λ r. ⌜ NamesStored (now (s .entry)) a r (now (out .entry)) (now (out .exit)) ⌝ }
+// Stores where the words stand that name columns, those selected and every one in the condition, and where the condition's
+// operators stand: 16 columns and 64 comparisons have room. Gives how many words there are.
+pub fn named_places(s: &[u8], q: Question, places: &mut [usize; 80], ops: &mut [usize; 64]) -> usize
+    ensures { λ r. ⌜ (IsQuery (now (s .entry)) q → NamesPlaced (now (s .entry)) q r (now (places .exit)) (now (ops .exit))) ⌝ }
 {
-    match a {
-        Asked::Wrong => 0,
-        Asked::Select(_, p, _, t) => {
-            let k = store_selected(s, p, out);
-            store_tested(s, t, k, out)
-        }
-        Asked::Count(_, t) => store_tested(s, t, 0, out),
-    }
-}
-
-// The same for a query that read_query read: 16 columns and 64 comparisons have room. Gives how many words there are.
-pub fn named_places(s: &[u8], a: Asked, places: &mut [usize; 80]) -> usize
-    ensures { λ r. ⌜ NamesPlaced (now (s .entry)) a r (now (places .exit)) ⌝ }
-{
-    store_named(s, a, places)
+    let wanted = q.wanted;
+    let test = q.test;
+    let k = store_wanted(s, wanted, places);
+    store_tested(s, test, k, places, ops)
 }

@@ -1,2 +1,3 @@
 -- What resolving a query answers. Assumes nothing.
 pub mod Resolved
+pub mod Acting

@@ -1,6 +1,6 @@
 -- `authority::belonging::clock_number` meets its contract. Assumes nothing.
 use Rattle.authority.proofs.HeldLaws.{clock-day, clock-hour, clock-year}
-use Rattle.query.specs.Asked.{clockOf}
+use Rattle.query.specs.HostClock.{clockOf}
 use Rattle.authority.proofs.belonging.clock_number.Statement.{statement}
 use Rattle.authority.proofs.belonging.clock_number.Tie as tie
 

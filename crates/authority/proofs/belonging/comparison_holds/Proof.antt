@@ -2,7 +2,7 @@
 use mathlib.Core.Path.{_∙_}
 use Rattle.authority.proofs.HeldLaws.{compared-holds, compared-known}
 use Rattle.condition.specs.Answers.{opOf}
-use Rattle.query.specs.Asked.{clockOf}
+use Rattle.query.specs.HostClock.{clockOf}
 use borrow.Author.Needs.{needs}
 use Rattle.authority.proofs.belonging.comparison_holds.Statement.{statement}
 use Rattle.authority.proofs.belonging.comparison_holds.Tie as tie

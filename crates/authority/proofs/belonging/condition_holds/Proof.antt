@@ -5,7 +5,7 @@ use Rattle.authority.proofs.HeldLaws.{read-few, read-holds, read-known}
 use Rattle.condition.proofs.ReadLaws.{condition-at, condition-none}
 use Rattle.lists.proofs.Tests.{true-not-false}
 use Rattle.lists.specs.Lists.{there}
-use Rattle.query.specs.Asked.{clockOf}
+use Rattle.query.specs.HostClock.{clockOf}
 use borrow.Author.Needs.{needs}
 use Rattle.authority.proofs.belonging.condition_holds.Statement.{statement}
 use Rattle.authority.proofs.belonging.condition_holds.Tie as tie

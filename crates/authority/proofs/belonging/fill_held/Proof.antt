@@ -12,7 +12,7 @@ use Rattle.authority.specs.Held.{Told, conditionHolds}
 use Rattle.condition.specs.Cond.{comparisons}
 use Rattle.document.specs.Policy.{CondRole, Policy, User}
 use Rattle.index.specs.CondRoles.{CondRoles, condRoleIn}
-use Rattle.query.specs.Asked.{clockOf}
+use Rattle.query.specs.HostClock.{clockOf}
 use Rattle.authority.proofs.belonging.fill_held.Statement.{statement}
 use Rattle.authority.proofs.belonging.fill_held.Tie as tie
 

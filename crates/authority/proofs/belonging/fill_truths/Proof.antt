@@ -11,7 +11,7 @@ use Rattle.condition.specs.Answers.{comparedAt}
 use Rattle.document.specs.Lookup.{attributeOf}
 use Rattle.document.specs.Policy.{Policy, User}
 use Rattle.lists.specs.Lists.{there}
-use Rattle.query.specs.Asked.{clockOf}
+use Rattle.query.specs.HostClock.{clockOf}
 use Rattle.authority.proofs.belonging.fill_truths.Statement.{statement}
 use Rattle.authority.proofs.belonging.fill_truths.Tie as tie
 

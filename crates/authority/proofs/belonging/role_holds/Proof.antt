@@ -6,7 +6,7 @@ use Rattle.authority.proofs.HeldLaws.{role-few, role-is, role-read, rol
 use Rattle.authority.specs.Held.{comparisonHolds}
 use Rattle.condition.specs.Cond.{comparisons, holds}
 use Rattle.index.specs.CondRoles.{attributesKnown}
-use Rattle.query.specs.Asked.{clockOf}
+use Rattle.query.specs.HostClock.{clockOf}
 use borrow.Author.Needs.{needs}
 use Rattle.authority.proofs.belonging.role_holds.Statement.{statement}
 use Rattle.authority.proofs.belonging.role_holds.Tie as tie

@@ -3,7 +3,7 @@ use Prim.Native.Nat.{_≤_}
 use lib.ListN.{length}
 use native.Mathlib.Omega.{arith}
 use Rattle.authority.proofs.HeldLaws.{places-known, truths-told}
-use Rattle.query.specs.Asked.{clockOf}
+use Rattle.query.specs.HostClock.{clockOf}
 use borrow.Author.Needs.{needs}
 use Rattle.authority.proofs.belonging.store_truths.Statement.{statement}
 use Rattle.authority.proofs.belonging.store_truths.Tie as tie

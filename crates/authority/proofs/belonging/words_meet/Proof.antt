@@ -4,7 +4,7 @@ use native.Mathlib.Omega.{arith}
 use Rattle.authority.proofs.HeldLaws.{attribute-there, clock-there, meets-clock, meets-user}
 use Rattle.condition.specs.Answers.{opOf}
 use Rattle.condition.specs.Comparison.{ranksMeet}
-use Rattle.query.specs.Asked.{clockOf}
+use Rattle.query.specs.HostClock.{clockOf}
 use Rattle.text.specs.Numbers.{rankOf}
 use Rattle.text.specs.Words.{wordAt, wordOf}
 use borrow.Author.Needs.{needs}

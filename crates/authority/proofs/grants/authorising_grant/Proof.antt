@@ -2,7 +2,7 @@
 use mathlib.Core.Path.{_∙_}
 use Rattle.authority.proofs.ActingLaws.{first-for, role-of, user-at, values-of}
 use Rattle.index.specs.Users.{userIn}
-use Rattle.query.specs.Asked.{clockOf}
+use Rattle.query.specs.HostClock.{clockOf}
 use borrow.Author.Needs.{needs}
 use Rattle.authority.proofs.grants.authorising_grant.Statement.{statement}
 use Rattle.authority.proofs.grants.authorising_grant.Tie as tie
@@ -32,15 +32,15 @@ first-grant-requires : tie.Need-first-grant-requires
 first-grant-requires c κs = search needs
 
 returns : tie.Need-returns
-returns c d ucount p formed nodes attributes users below conditions given near inside range =
+returns c d p held below near inside range =
     let a = c .before .before .before .before .before .before .before .before .before .before .before .before .before .args in
     let u = userIn d (a .text .now) (a .users .now) (a .user) in
-    c .first-grant .ensures d (a .text .now) (clockOf (a .clock)) u p nodes conditions given near inside
-    (c .before .before .before .store-held .ensures d u attributes conditions (formed .short) range
-    (values-of users (a .user) below (c .before .before .before .before .before .before .before .before .before .before .before .user-start .result) (c .before .before .before .before .before .before .before .before .before .before .user-end .result) (c .before .before .before .before .before .before .before .before .user-place .result) _ _
-    (c .before .before .before .before .before .before .before .before .before .before .before .user-start .ensures) (c .before .before .before .before .before .before .before .before .before .before .user-end .ensures) (c .before .before .before .before .before .before .before .before .user-place .ensures) (c .before .before .before .before .before .before .before .before .before .line-of .ensures) (c .before .before .before .before .before .before .store-values .ensures d attributes)))
-    (role-of users (a .user) below (c .before .before .user-role .result) (c .before .before .user-role .ensures))
-    ∙ first-for d (clockOf (a .clock)) (a .user) p u (user-at users (a .user) below)
+    c .first-grant .ensures d (a .text .now) (clockOf (a .clock)) u p (held .roles) (held .conds) (held .grants) near inside
+    (c .before .before .before .store-held .ensures d u (held .attributes) (held .conds) (held .formed .short) range
+    (values-of (held .users) (a .user) below (c .before .before .before .before .before .before .before .before .before .before .before .user-start .result) (c .before .before .before .before .before .before .before .before .before .before .user-end .result) (c .before .before .before .before .before .before .before .before .user-place .result) _ _
+    (c .before .before .before .before .before .before .before .before .before .before .before .user-start .ensures) (c .before .before .before .before .before .before .before .before .before .before .user-end .ensures) (c .before .before .before .before .before .before .before .before .user-place .ensures) (c .before .before .before .before .before .before .before .before .before .line-of .ensures) (c .before .before .before .before .before .before .store-values .ensures d (held .attributes))))
+    (role-of (held .users) (a .user) below (c .before .before .user-role .result) (c .before .before .user-role .ensures))
+    ∙ first-for d (clockOf (a .clock)) (a .user) p u (user-at (held .users) (a .user) below)
 
 pub authorising-grant-spec : {M : Type 1} → statement M
 authorising-grant-spec =

@@ -2,9 +2,10 @@
 use borrow.Author.Needs.{needs}
 use mathlib.Core.Path.{refl}
 use Rattle.document.proofs.Formed.{formed}
-use Rattle.gate.proofs.Chain.{ask-refused, ask-tails, gives-refused, gives-same}
-use Rattle.gate.proofs.Parties.{standing}
-use Rattle.query.specs.Asked.{clockOf}
+use Rattle.gate.proofs.Chain.{ask-refused, ask-tails, standing}
+use Rattle.stages.proofs.Chain.{gives-refused, gives-same}
+use Rattle.stages.specs.Figures.{answeredAs}
+use Rattle.query.specs.HostClock.{clockOf}
 use Rattle.gate.proofs.asking.ask_unbounded.Statement.{statement}
 use Rattle.gate.proofs.asking.ask_unbounded.Tie as tie
 
@@ -21,6 +22,7 @@ ask-accepted-requires : tie.Need-ask-accepted-requires
 ask-accepted-requires c κs = search needs
 
 returns : tie.Need-returns
+unfolding answeredAs
 returns c =
     gives-refused (ask-refused (c .before .before .before .before .before .before .before .before .before .before .before .before .before .before .before .before .before .args .doc .now) (c .before .before .before .before .before .before .before .before .before .before .before .before .before .before .before .before .before .args .query .now) (clockOf (c .before .before .before .before .before .before .before .before .before .before .before .before .before .before .before .before .before .args .clock)) (c .before .before .before .load .ensures .refuses _ (c .before .r .given .1))) refl
 
@@ -30,7 +32,7 @@ same-length c = search needs
 returns-2 : tie.Need-returns-2
 returns-2 c =
     let held = c .before .before .before .before .before .before .before .before .before .before .before .before .before .before .before .before .load .ensures .accepts _ _ (c .before .before .before .before .before .before .before .before .before .before .before .before .before .before .r2 .given .1) in
-    gives-same (ask-tails (c .before .before .before .before .before .before .before .before .before .before .before .before .before .before .before .before .before .before .before .before .before .before .before .before .before .before .before .before .before .before .args .doc .now) (c .before .before .before .before .before .before .before .before .before .before .before .before .before .before .before .before .before .before .before .before .before .before .before .before .before .before .before .before .before .before .args .query .now) (clockOf (c .before .before .before .before .before .before .before .before .before .before .before .before .before .before .before .before .before .before .before .before .before .before .before .before .before .before .before .before .before .before .args .clock)) (held .is)) (c .before .before .ask-accepted .ensures (held .what) _ (standing held (formed _ _ (held .is))))
+    gives-same (ask-tails (c .before .before .before .before .before .before .before .before .before .before .before .before .before .before .before .before .before .before .before .before .before .before .before .before .before .before .before .before .before .before .args .doc .now) (c .before .before .before .before .before .before .before .before .before .before .before .before .before .before .before .before .before .before .before .before .before .before .before .before .before .before .before .before .before .before .args .query .now) (clockOf (c .before .before .before .before .before .before .before .before .before .before .before .before .before .before .before .before .before .before .before .before .before .before .before .before .before .before .before .before .before .before .args .clock)) (held .is)) (c .before .before .ask-accepted .ensures (held .what) (standing held (formed _ _ (held .is))))
 
 pub ask-unbounded-spec : {M : Type 1} → statement M
 ask-unbounded-spec =

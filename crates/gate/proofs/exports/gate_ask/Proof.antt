@@ -2,7 +2,7 @@
 use borrow.Author.Needs.{needs}
 use Rattle.gate.proofs.ExportLaws.{given-ask, refused-ask}
 use Rattle.gate.specs.Exports.{clockAt}
-use Rattle.query.specs.Asked.{clockOf}
+use Rattle.query.specs.HostClock.{clockOf}
 use Rattle.gate.proofs.exports.gate_ask.Statement.{statement}
 use Rattle.gate.proofs.exports.gate_ask.Tie as tie
 

@@ -3,7 +3,7 @@
 use borrow.Author.Needs.{needs}
 use native.Mathlib.Omega.{arith}
 use Rattle.query.proofs.ClockLaws.{by-hour, day-high, day-low, year-high, year-low}
-use Rattle.query.specs.Asked.{clockOf}
+use Rattle.query.specs.HostClock.{clockOf}
 use Rattle.query.proofs.clock.in_range.Statement.{statement}
 use Rattle.query.proofs.clock.in_range.Tie as tie
 

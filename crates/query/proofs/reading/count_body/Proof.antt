@@ -4,7 +4,7 @@ use borrow.Author.Needs.{needs}
 use mathlib.Core.Option.{none}
 use mathlib.Core.Path.{subst}
 use Rattle.query.proofs.BodiesRead.{body-headless, count-read, count-wrong}
-use Rattle.query.specs.AskedParts.{ReadsHead, ReadsTest}
+use Rattle.query.specs.QueryPartPlaces.{ReadsHead, ReadsTest}
 use Rattle.text.specs.Reader.{give}
 use Rattle.query.proofs.reading.count_body.Statement.{statement}
 use Rattle.query.proofs.reading.count_body.Tie as tie

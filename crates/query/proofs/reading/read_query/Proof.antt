@@ -6,7 +6,7 @@ use mathlib.Core.Path.{_∙_, _≡_, subst, sym}
 use native.Mathlib.Omega.{arith}
 use Rattle.query.proofs.BodiesRead.{query-long, query-open, query-over, query-read, query-shut, query-trailing, query-wrong}
 use Rattle.query.proofs.WholeLaws.{closes-before}
-use Rattle.query.specs.AskedParts.{ReadsBody}
+use Rattle.query.specs.QueryPartPlaces.{ReadsBody}
 use Rattle.query.specs.QueryForm.{queryForms}
 use Rattle.text.specs.Brackets.{keyword}
 use Rattle.text.specs.Reader.{from}

@@ -3,7 +3,7 @@
 use borrow.Author.Needs.{needs}
 use mathlib.Core.Path.{subst}
 use Rattle.query.proofs.BodiesRead.{body-headless, select-no-columns, select-read, select-wrong}
-use Rattle.query.specs.AskedParts.{ReadsColumns, ReadsHead, ReadsTest}
+use Rattle.query.specs.QueryPartPlaces.{ReadsColumns, ReadsHead, ReadsTest}
 use Rattle.query.specs.QueryForm.{selectColumns}
 use Rattle.query.proofs.reading.select_body.Statement.{statement}
 use Rattle.query.proofs.reading.select_body.Tie as tie

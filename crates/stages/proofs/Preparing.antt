@@ -1,0 +1,249 @@
+-- A query prepared for the rows: its columns by number, its comparisons by the places of their operators. Assumes nothing.
+use Prim.Native.Nat.{_+_, _≤_, ℕ}
+use lib.ListN.{drop, length, length-append, length-map, take, take-append-drop}
+use lib.Seq.{drop-at, take-at}
+use mathlib.Core.Bool.{Bool, true}
+use mathlib.Core.List.{List, [], _++_, _∷_, append-assoc, map}
+use mathlib.Core.Option.{Option, Option·getD, Option·map, none, some}
+use mathlib.Core.Path.{_∙_, _≡_, ap, refl, subst, sym}
+use native.Mathlib.Omega.{arith}
+use Rattle.condition.specs.Answers.{comparedAt}
+use Rattle.condition.specs.Cond.{comparisonsIn, mapCond}
+use Rattle.condition.specs.CondForm.{Compared, mistyped}
+use Rattle.document.specs.Lookup.{columnKind, columnOf, columnsAt, columnsOf, purposeOf, schemeAt, schemeOf, tableOf}
+use Rattle.document.specs.Open.{columnOpen, labelOpen, tableOpen}
+use Rattle.document.specs.Policy.{Column, Doc, Policy}
+use Rattle.form.specs.Form.{Scheme}
+use Rattle.index.specs.Found.{FoundBelow, foundAs}
+use Rattle.index.specs.Labels.{Opened}
+use Rattle.judging.specs.Prepared.{Prepared, wantedBy}
+use Rattle.lists.proofs.ListLaws.{all-map, all-parts, map-append, map-map}
+use Rattle.lists.specs.Lists.{allOf, known, there}
+use Rattle.query.proofs.BodiesRead.{wanted-count, wanted-there}
+use Rattle.query.proofs.NamedColumns.{columnNumber, named-words}
+use Rattle.query.specs.Naming.{NamesPlaced, TestsPlaced, wordsAt}
+use Rattle.query.specs.Query.{closedPart, columnComparison, countsOnly, mistypedQuery, named, openFor, resolved, select, unknownColumn, wantedOf}
+use Rattle.query.specs.QueryForm.{QueryForm, namedWords, selectedWords}
+use Rattle.query.specs.QueryPlaces.{IsQuery, chosenCount, comparisonCount, conditionAt, formAt, isSelect, wantedAt}
+use Rattle.resolving.specs.Resolved.{Compares, Resolves, offendingIn}
+use Rattle.stages.proofs.Chain.{no-word, number-found}
+use Rattle.stages.specs.Stages.{ColumnsKnown, InTable, Ready}
+use Rattle.text.proofs.OffendingLaws.{leftmost-only, missing-none}
+use Rattle.text.specs.Offending.{leftmost, missing, unless}
+use Rattle.text.specs.Words.{Word, wordOf}
+use Rattle.index.specs.declared.counts.Counts.{Counts}
+use Rattle.index.specs.declared.found.Found.{Found}
+use Rattle.index.specs.declared.found.Found.the-variants as found
+use Rattle.judging.specs.declared.sought.Sought.{Sought}
+use Rattle.query.specs.declared.reading.Question.{Question}
+use Rattle.resolving.specs.declared.offending.Offending.{Offending}
+use Rattle.resolving.specs.declared.offending.Offending.the-variants as offending
+
+-- ---- a list whose first n are two lists joined
+
+module _ {A : Type 0} (n k m : ℕ) (xs as′ bs : List A) (e : take n xs ≡ as′ ++ bs) (la : length as′ ≡ k) (lb : length bs ≡ m) where
+  joined : xs ≡ (as′ ++ bs) ++ drop n xs
+  joined = sym (take-append-drop n xs) ∙ ap (λ l. l ++ drop n xs) e
+
+  split : xs ≡ as′ ++ (bs ++ drop n xs)
+  split = joined ∙ append-assoc as′ bs (drop n xs)
+
+  firsts : take k xs ≡ as′
+  firsts = ap (take k) split ∙ take-at as′ (bs ++ drop n xs) k la
+
+  rest : take m (drop k xs) ≡ bs
+  rest = ap (λ l. take m (drop k l)) split ∙ ap (take m) (drop-at as′ (bs ++ drop n xs) k la) ∙ take-at bs (drop n xs) m lb
+
+  all-of-both : take (k + m) xs ≡ as′ ++ bs
+  all-of-both = ap (take (k + m)) joined ∙ take-at (as′ ++ bs) (drop n xs) (k + m) (omega (arith, length-append as′ bs, la, lb))
+
+-- ---- the table, by its number
+
+-- the word of a table that is not there is the first that is unknown
+pub table-unknown : (d : Policy) (q : QueryForm) → none ≡ tableOf d (q .table) → some (q .table) ≡ unknownColumn d q
+unfolding unknownColumn leftmost unless there
+table-unknown d q e = rw (sym e)
+
+pub table-found : (d : Policy) (q : QueryForm) {x : Found} {t k : ℕ} → x ≡ found.At t → foundAs x ≡ tableOf d (q .table) → FoundBelow x k → InTable d q t k
+table-found d q {k} e h b = record { is = sym (number-found e h); inside = subst (λ r. FoundBelow r k) e b }
+
+module _ {d : Policy} {q : QueryForm} {t k : ℕ} (table : InTable d q t k) where
+  number-is : known (tableOf d (q .table)) ≡ t
+  unfolding known
+  number-is = ap known (table .is)
+
+  columns-are : columnsOf d (q .table) ≡ columnsAt d t
+  unfolding columnsOf
+  columns-are = ap (columnsAt d) number-is
+
+  scheme-is : schemeOf d (q .table) ≡ schemeAt d t
+  unfolding schemeOf
+  scheme-is = ap (schemeAt d) number-is
+
+  -- 15, where the table is there
+  column-unknown : unknownColumn d q ≡ missing (λ w. there (columnOf (columnsAt d t) w)) (namedWords q)
+  unfolding unknownColumn unless there leftmost
+  column-unknown =
+      ap (λ cs. leftmost (unless (there (tableOf d (q .table))) (q .table) ∷ missing (λ w. there (columnOf cs w)) (namedWords q) ∷ [])) columns-are
+      ∙ ap (λ o. leftmost (unless (there o) (q .table) ∷ missing (λ w. there (columnOf (columnsAt d t) w)) (namedWords q) ∷ [])) (table .is)
+      ∙ leftmost-only (missing (λ w. there (columnOf (columnsAt d t) w)) (namedWords q))
+
+-- the named columns were looked for: 15, or their numbers
+module _ {d : Policy} {s : List ℕ} (q : Question) {t k n : ℕ} {places ops numbers : List ℕ} {x : Offending} (table : InTable d (formAt s q) t k)
+    (placed : NamesPlaced s q n places ops) (r : Resolves (columnsAt d t) s n places x numbers) where
+  pub resolves-unknown : offendingIn s x ≡ unknownColumn d (formAt s q)
+  resolves-unknown = r .offends ∙ ap (missing (λ w. there (columnOf (columnsAt d t) w))) (placed .words) ∙ sym (column-unknown table)
+
+  pub resolves-known : x ≡ offending.Nothing → ColumnsKnown d (formAt s q) t numbers
+  resolves-known e = record {
+    number = n;
+    numbered = r .numbered e ∙ ap (map (λ w. known (columnOf (columnsAt d t) w))) (placed .words);
+    allThere = missing-none (λ w. there (columnOf (columnsAt d t) w)) (namedWords (formAt s q)) (sym (no-word s e resolves-unknown ∙ column-unknown table));
+  }
+
+  -- what is closed to purpose p, where y is the table's scheme and ys are its columns
+  abbrev closed : ℕ → Scheme ℕ → List Column → List Word → Option Word
+  closed p y ys ws = leftmost (unless (tableOpen (labelOpen d p) y) (wordOf s (q .head .table)) ∷ missing (λ w. columnOpen (labelOpen d p) y (known (columnOf ys w))) ws ∷ [])
+
+  abbrev purpose-of : ℕ
+  purpose-of = known (purposeOf d (formAt s q .purpose))
+
+  parts-are : closed purpose-of (schemeAt d t) (columnsAt d t) (wordsAt s n places) ≡ closedPart d (formAt s q)
+  unfolding closedPart openFor formAt
+  parts-are =
+      ap (closed purpose-of (schemeAt d t) (columnsAt d t)) (placed .words)
+      ∙ ap (λ ys. closed purpose-of (schemeAt d t) ys (namedWords (formAt s q))) (sym (columns-are table))
+      ∙ ap (λ y. closed purpose-of y (columnsOf d (wordOf s (q .head .table))) (namedWords (formAt s q))) (sym (scheme-is table))
+
+  -- 17: what is closed is what the definition says
+  pub parts-judged : x ≡ offending.Nothing → (y : Offending) {os : List Bool} → Opened d purpose-of os
+      → (n ≤ 80 → Opened d purpose-of os → take n numbers ≡ map (λ w. known (columnOf (columnsAt d t) w)) (wordsAt s n places) → offendingIn s y ≡ closed purpose-of (schemeAt d t) (columnsAt d t) (wordsAt s n places))
+      → offendingIn s y ≡ closedPart d (formAt s q)
+  parts-judged e y o f = f (placed .small) o (r .numbered e) ∙ parts-are
+
+-- what is asked for, by the numbers of the columns
+wanted-by : (cs : Option (List Word)) (ys : List Column) (b : Bool) (ns : List ℕ) → there cs ≡ b → ns ≡ map (λ w. known (columnOf ys w)) (Option·getD cs []) → wantedOf ys cs ≡ wantedBy b ns
+unfolding wantedOf wantedBy there
+wanted-by none ys b ns e h = ap (λ v. wantedBy v ns) e
+wanted-by (some ws) ys b ns e h = ap select (sym h) ∙ ap (λ v. wantedBy v ns) e
+
+-- ---- the query by its parts
+
+module _ {d : Policy} {s : List ℕ} (q : Question) {t k : ℕ} {numbers ops : List ℕ} (read : IsQuery s q) (table : InTable d (formAt s q) t k)
+    (columns : ColumnsKnown d (formAt s q) t numbers) (tests : TestsPlaced s (q .test) ops) where
+  -- the number of the column that a word names
+  abbrev K : Word → ℕ
+  K w = known (columnOf (columnsAt d t) w)
+
+  abbrev chosen : ℕ
+  chosen = chosenCount (q .wanted)
+
+  abbrev m : ℕ
+  m = comparisonCount (q .test)
+
+  abbrev selected-words : List Word
+  selected-words = Option·getD (wantedAt s (q .wanted)) []
+
+  abbrev comparisons : List Compared
+  comparisons = comparisonsIn (conditionAt s (q .test))
+
+  abbrev compared-words : List Word
+  compared-words = map (λ x. x .of) comparisons
+
+  words-are : namedWords (formAt s q) ≡ selected-words ++ compared-words
+  unfolding namedWords selectedWords formAt
+  words-are = refl
+
+  numbers-are : take (columns .number) numbers ≡ map K selected-words ++ map K compared-words
+  numbers-are = columns .numbered ∙ ap (map K) words-are ∙ map-append K selected-words compared-words
+
+  chosen-many : length (map K selected-words) ≡ chosen
+  chosen-many = length-map selected-words K ∙ wanted-count s (q .wanted) (read .within .wanted)
+
+  tests-many : length (map K compared-words) ≡ m
+  tests-many = length-map compared-words K ∙ length-map comparisons (λ (x : Compared). x .of) ∙ tests .number
+
+  first-numbers : take chosen numbers ≡ map K selected-words
+  first-numbers = firsts (columns .number) chosen m numbers (map K selected-words) (map K compared-words) numbers-are chosen-many tests-many
+
+  last-numbers : take m (drop chosen numbers) ≡ map (λ x. K (x .of)) comparisons
+  last-numbers = rest (columns .number) chosen m numbers (map K selected-words) (map K compared-words) numbers-are chosen-many tests-many ∙ map-map K (λ (x : Compared). x .of) comparisons
+
+  both-numbers : take (chosen + m) numbers ≡ map K (namedWords (formAt s q))
+  both-numbers = all-of-both (columns .number) chosen m numbers (map K selected-words) (map K compared-words) numbers-are chosen-many tests-many ∙ sym (map-append K selected-words compared-words) ∙ ap (map K) (sym words-are)
+
+  all-there : allOf (λ x. there (columnOf (columnsAt d t) (x .of))) comparisons ≡ true
+  all-there =
+      sym (all-map (λ w. there (columnOf (columnsAt d t) w)) (λ (x : Compared). x .of) comparisons)
+      ∙ all-parts (λ w. there (columnOf (columnsAt d t) w)) selected-words compared-words (ap (allOf (λ w. there (columnOf (columnsAt d t) w))) (sym words-are) ∙ columns .allThere) .1
+
+  -- 16: the comparisons' columns are right, so what is mistyped is what the definition says
+  compares : Compares (columnsAt d t) (map (comparedAt s) (take m ops)) (take m (drop chosen numbers))
+  compares = record {
+    are = last-numbers ∙ ap (map (λ x. K (x .of))) (sym (tests .compared));
+    there = ap (allOf (λ x. there (columnOf (columnsAt d t) (x .of)))) (tests .compared) ∙ all-there;
+  }
+
+  types-are : leftmost (map (λ x. mistyped (columnKind (columnsAt d t) (x .of)) x) (map (comparedAt s) (take m ops))) ≡ mistypedQuery d (formAt s q)
+  unfolding mistypedQuery formAt
+  types-are =
+      ap (λ xs. leftmost (map (λ x. mistyped (columnKind (columnsAt d t) (x .of)) x) xs)) (tests .compared)
+      ∙ ap (λ ys. leftmost (map (λ x. mistyped (columnKind ys (x .of)) x) comparisons)) (sym (columns-are table))
+
+  pub types-judged : (x : Offending) {b n : ℕ} → b ≡ chosen → n ≡ m
+      → (n ≤ 64 → b + n ≤ 80 → Compares (columnsAt d t) (map (comparedAt s) (take n ops)) (take n (drop b numbers)) → offendingIn s x ≡ leftmost (map (λ x. mistyped (columnKind (columnsAt d t) (x .of)) x) (map (comparedAt s) (take n ops))))
+      → offendingIn s x ≡ mistypedQuery d (formAt s q)
+  types-judged x {b} {n} e h f =
+      let g = subst (λ i. i ≤ 64 → chosen + i ≤ 80 → Compares (columnsAt d t) (map (comparedAt s) (take i ops)) (take i (drop chosen numbers)) → offendingIn s x ≡ leftmost (map (λ x. mistyped (columnKind (columnsAt d t) (x .of)) x) (map (comparedAt s) (take i ops)))) h
+      (subst (λ i. n ≤ 64 → i + n ≤ 80 → Compares (columnsAt d t) (map (comparedAt s) (take n ops)) (take n (drop i numbers)) → offendingIn s x ≡ leftmost (map (λ x. mistyped (columnKind (columnsAt d t) (x .of)) x) (map (comparedAt s) (take n ops)))) e f) in
+      g (tests .few) (omega (arith, read .few .columns, tests .few)) compares ∙ types-are
+
+  wanted-are : wantedOf (columnsOf d (wordOf s (q .head .table))) (wantedAt s (q .wanted)) ≡ wantedBy (isSelect (q .wanted)) (take chosen numbers)
+  unfolding formAt
+  wanted-are = ap (λ ys. wantedOf ys (wantedAt s (q .wanted))) (columns-are table) ∙ wanted-by (wantedAt s (q .wanted)) (columnsAt d t) (isSelect (q .wanted)) (take chosen numbers) (wanted-there s (q .wanted)) first-numbers
+
+  named-are : take (chosen + m) numbers ≡ named (resolved d (formAt s q))
+  named-are =
+      both-numbers
+      ∙ ap (λ ys. map (columnNumber ys) (namedWords (formAt s q))) (sym (columns-are table))
+      ∙ sym (named-words d (formAt s q))
+
+  condition-is : Option·map (mapCond (columnComparison (columnsOf d (wordOf s (q .head .table))))) (conditionAt s (q .test)) ≡ Option·map (mapCond (columnComparison (columnsAt d t))) (conditionAt s (q .test))
+  unfolding formAt
+  condition-is = ap (λ ys. Option·map (mapCond (columnComparison ys)) (conditionAt s (q .test))) (columns-are table)
+
+-- what is sought of table t: so many comparisons n, whether it is a select, and of how many columns k
+abbrev sought : Question → ℕ → ℕ → Bool → ℕ → Sought
+sought q t n b k = record { table = t; test = q .test; tests = n; select = b; chosen = k }
+
+-- what judging asks for, by the question's own numbers
+as-read : {text ts ws : List ℕ} {c : Counts} {os : List Bool} {s : List ℕ} (q : Question) {t : ℕ} {numbers ops : List ℕ} {d : Doc}
+    → Ready text ts ws c os s q t numbers ops d
+    → Prepared text ts ws (c .rows) os s (sought q t (comparisonCount (q .test)) (isSelect (q .wanted)) (chosenCount (q .wanted))) ops numbers d (resolved (d .policy) (formAt s q))
+unfolding resolved formAt
+as-read {c} q h = record {
+  small = h .granted .small;
+  tableCount = c .tables;
+  tables = h .granted .tables;
+  inside = h .table .inside;
+  rows = h .granted .rows;
+  table = number-is (h .table);
+  opened = h .granted .opened;
+  few = h .tests .few;
+  fewChosen = h .granted .query .few .columns;
+  wanted = wanted-are q (h .granted .query) (h .table) (h .columns) (h .tests);
+  named = named-are q (h .granted .query) (h .table) (h .columns) (h .tests);
+  condition = condition-is q (h .granted .query) (h .table) (h .columns) (h .tests);
+  compared = h .tests .compared;
+  numbers = last-numbers q (h .granted .query) (h .table) (h .columns) (h .tests);
+  allThere = all-there q (h .granted .query) (h .table) (h .columns) (h .tests);
+}
+
+-- the same by the code's
+pub prepared : {text ts ws : List ℕ} {c : Counts} {os : List Bool} {s : List ℕ} (q : Question) {t : ℕ} {numbers ops : List ℕ} {d : Doc} {selecting : Bool} {n chosen : ℕ}
+    → n ≡ comparisonCount (q .test) → selecting ≡ isSelect (q .wanted) → chosen ≡ chosenCount (q .wanted) → Ready text ts ws c os s q t numbers ops d
+    → Prepared text ts ws (c .rows) os s (sought q t n selecting chosen) ops numbers d (resolved (d .policy) (formAt s q))
+prepared {text} {ts} {ws} {c} {os} {s} q {t} {numbers} {ops} {d} {selecting} {n} {chosen} e f g h =
+    subst (λ i. Prepared text ts ws (c .rows) os s (sought q t i selecting chosen) ops numbers d (resolved (d .policy) (formAt s q))) (sym e)
+    (subst (λ b. Prepared text ts ws (c .rows) os s (sought q t (comparisonCount (q .test)) b chosen) ops numbers d (resolved (d .policy) (formAt s q))) (sym f)
+    (subst (λ i. Prepared text ts ws (c .rows) os s (sought q t (comparisonCount (q .test)) (isSelect (q .wanted)) i) ops numbers d (resolved (d .policy) (formAt s q))) (sym g) (as-read q h)))

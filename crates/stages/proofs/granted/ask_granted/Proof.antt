@@ -1,0 +1,155 @@
+-- `stages::granted::ask_granted` meets its contract: the table and the named columns by number, or 15; then 16, then 17, and the rows.
+-- Assumes nothing.
+use Rattle.document.specs.Lookup.{tableOf}
+use Rattle.query.specs.QueryPlaces.{formAt}
+use Rattle.stages.proofs.Chain.{gives-refused, gives-same, known-passes, known-refused, nothing-found, open-passes, open-refused, table-refused, typed-passes, typed-refused}
+use Rattle.stages.proofs.Preparing.{parts-judged, resolves-known, resolves-unknown, table-found, table-unknown, types-judged}
+use borrow.Author.Needs.{needs}
+use mathlib.Core.Path.{_∙_}
+use Rattle.stages.proofs.granted.ask_granted.Statement.{statement}
+use Rattle.stages.proofs.granted.ask_granted.Tie as tie
+
+find-table-requires : tie.Need-find-table-requires
+find-table-requires c κs = search needs
+
+enum-known-table : tie.Need-enum-known-table
+enum-known-table c = search needs
+
+enum-told : tie.Need-enum-told
+enum-told c = search needs
+
+refused-at-requires : tie.Need-refused-at-requires
+refused-at-requires c κs = search needs
+
+returns : tie.Need-returns
+unfolding formAt tableOf
+returns c d held =
+    let a = c .before .before .before .before .before .before .before .before .args in
+    gives-refused (table-refused d _ _ (a .query .now) (a .q .head .table) (table-unknown (d .policy) (formAt (a .query .now) (a .q)) (nothing-found (c .before .enum-told .given .1) (c .before .before .before .find-table .ensures .0 (d .policy .tables) (held .tables))))) (c .refused-at .ensures)
+
+named-places-requires : tie.Need-named-places-requires
+named-places-requires c κs = search needs
+
+resolve-columns-requires : tie.Need-resolve-columns-requires
+resolve-columns-requires c κs = search needs
+
+enum-known-unknown : tie.Need-enum-known-unknown
+enum-known-unknown c = search needs
+
+refused-at-requires-2 : tie.Need-refused-at-requires-2
+refused-at-requires-2 c κs = search needs
+
+returns-2 : tie.Need-returns-2
+unfolding formAt tableOf
+returns-2 c d held =
+    let a = c .before .before .before .before .before .before .before .before .before .before .before .before .before .before .before .before .before .before .args in
+    let table = table-found (d .policy) (formAt (a .query .now) (a .q)) (c .before .before .before .before .before .before .before .before .before .before .before .table .given .1) (c .before .before .before .before .before .before .before .before .before .before .before .before .before .find-table .ensures .0 (d .policy .tables) (held .tables)) (c .before .before .before .before .before .before .before .before .before .before .before .before .before .find-table .ensures .1) in
+    let placed = c .before .before .before .before .before .before .before .named-places .ensures (held .query) in
+    let resolved = c .before .before .before .before .resolve-columns .ensures (d .policy) _ (held .tables) (table .inside) (placed .small) in
+    gives-refused (known-refused d _ _ (a .query .now) (c .before .before .unknown .given .1) (resolves-unknown (a .q) table placed resolved)) (c .refused-at2 .ensures)
+
+enum-told-2 : tie.Need-enum-told-2
+enum-told-2 c = search needs
+
+chosen-count-requires : tie.Need-chosen-count-requires
+chosen-count-requires c κs = search needs
+
+comparison-count-requires : tie.Need-comparison-count-requires
+comparison-count-requires c κs = search needs
+
+mistyped-comparison-requires : tie.Need-mistyped-comparison-requires
+mistyped-comparison-requires c κs = search needs
+
+enum-known-wrong : tie.Need-enum-known-wrong
+enum-known-wrong c = search needs
+
+refused-at-requires-3 : tie.Need-refused-at-requires-3
+refused-at-requires-3 c κs = search needs
+
+returns-3 : tie.Need-returns-3
+unfolding formAt tableOf
+returns-3 c d held =
+    let a = c .before .before .before .before .before .before .before .before .before .before .before .before .before .before .before .before .before .before .before .before .before .before .before .before .before .args in
+    let table = table-found (d .policy) (formAt (a .query .now) (a .q)) (c .before .before .before .before .before .before .before .before .before .before .before .before .before .before .before .before .before .before .table .given .1) (c .before .before .before .before .before .before .before .before .before .before .before .before .before .before .before .before .before .before .before .before .find-table .ensures .0 (d .policy .tables) (held .tables)) (c .before .before .before .before .before .before .before .before .before .before .before .before .before .before .before .before .before .before .before .before .find-table .ensures .1) in
+    let placed = c .before .before .before .before .before .before .before .before .before .before .before .before .before .before .named-places .ensures (held .query) in
+    let resolved = c .before .before .before .before .before .before .before .before .before .before .before .resolve-columns .ensures (d .policy) _ (held .tables) (table .inside) (placed .small) in
+    let columns = resolves-known (a .q) table placed resolved (c .before .before .before .before .before .before .before .before .before .enum-told2 .given .1) in
+    let types = types-judged (a .q) (held .query) table columns (placed .tests) (c .before .before .before .before .mistyped-comparison .result) (c .before .before .before .before .before .before .before .before .chosen-count .ensures) (c .before .before .before .before .before .before .before .comparison-count .ensures) (c .before .before .before .before .mistyped-comparison .ensures (d .policy) (a .text .now) _ (held .tables) (table .inside)) in
+    gives-refused (known-passes d _ _ (a .query .now) (c .before .before .before .before .before .before .before .before .before .enum-told2 .given .1) (resolves-unknown (a .q) table placed resolved) ∙ typed-refused d _ _ (a .query .now) (c .before .before .wrong .given .1) types) (c .refused-at3 .ensures)
+
+enum-told-3 : tie.Need-enum-told-3
+enum-told-3 c = search needs
+
+closed-part-requires : tie.Need-closed-part-requires
+closed-part-requires c κs = search needs
+
+enum-known-closed : tie.Need-enum-known-closed
+enum-known-closed c = search needs
+
+refused-at-requires-4 : tie.Need-refused-at-requires-4
+refused-at-requires-4 c κs = search needs
+
+returns-4 : tie.Need-returns-4
+unfolding formAt tableOf
+returns-4 c d held =
+    let a = c .before .before .before .before .before .before .before .before .before .before .before .before .before .before .before .before .before .before .before .before .before .before .before .before .before .before .before .before .before .before .args in
+    let table = table-found (d .policy) (formAt (a .query .now) (a .q)) (c .before .before .before .before .before .before .before .before .before .before .before .before .before .before .before .before .before .before .before .before .before .before .before .table .given .1) (c .before .before .before .before .before .before .before .before .before .before .before .before .before .before .before .before .before .before .before .before .before .before .before .before .before .find-table .ensures .0 (d .policy .tables) (held .tables)) (c .before .before .before .before .before .before .before .before .before .before .before .before .before .before .before .before .before .before .before .before .before .before .before .before .before .find-table .ensures .1) in
+    let placed = c .before .before .before .before .before .before .before .before .before .before .before .before .before .before .before .before .before .before .before .named-places .ensures (held .query) in
+    let resolved = c .before .before .before .before .before .before .before .before .before .before .before .before .before .before .before .before .resolve-columns .ensures (d .policy) _ (held .tables) (table .inside) (placed .small) in
+    let columns = resolves-known (a .q) table placed resolved (c .before .before .before .before .before .before .before .before .before .before .before .before .before .before .enum-told2 .given .1) in
+    let types = types-judged (a .q) (held .query) table columns (placed .tests) (c .before .before .before .before .before .before .before .before .before .mistyped-comparison .result) (c .before .before .before .before .before .before .before .before .before .before .before .before .before .chosen-count .ensures) (c .before .before .before .before .before .before .before .before .before .before .before .before .comparison-count .ensures) (c .before .before .before .before .before .before .before .before .before .mistyped-comparison .ensures (d .policy) (a .text .now) _ (held .tables) (table .inside)) in
+    let closed = parts-judged (a .q) table placed resolved (c .before .before .before .before .before .before .before .before .before .before .before .before .before .before .enum-told2 .given .1) (c .before .before .before .before .closed-part .result) (held .opened) (c .before .before .before .before .closed-part .ensures (d .policy) (a .text .now) _ _ (held .tables) (table .inside)) in
+    gives-refused (known-passes d _ _ (a .query .now) (c .before .before .before .before .before .before .before .before .before .before .before .before .before .before .enum-told2 .given .1) (resolves-unknown (a .q) table placed resolved) ∙ typed-passes d _ _ (a .query .now) (c .before .before .before .before .before .before .before .enum-told3 .given .1) types ∙ open-refused d _ _ (a .query .now) (c .before .before .closed .given .1) closed) (c .refused-at4 .ensures)
+
+enum-told-4 : tie.Need-enum-told-4
+enum-told-4 c = search needs
+
+ask-rows-requires : tie.Need-ask-rows-requires
+ask-rows-requires c κs = search needs
+
+same-length : tie.Need-same-length
+same-length c = search needs
+
+returns-5 : tie.Need-returns-5
+unfolding formAt tableOf
+returns-5 c d held =
+    let a = c .before .before .before .before .before .before .before .before .before .before .before .before .before .before .before .before .before .before .before .before .before .before .before .before .before .before .before .before .before .before .before .before .before .before .args in
+    let table = table-found (d .policy) (formAt (a .query .now) (a .q)) (c .before .before .before .before .before .before .before .before .before .before .before .before .before .before .before .before .before .before .before .before .before .before .before .before .before .before .before .table .given .1) (c .before .before .before .before .before .before .before .before .before .before .before .before .before .before .before .before .before .before .before .before .before .before .before .before .before .before .before .before .before .find-table .ensures .0 (d .policy .tables) (held .tables)) (c .before .before .before .before .before .before .before .before .before .before .before .before .before .before .before .before .before .before .before .before .before .before .before .before .before .before .before .before .before .find-table .ensures .1) in
+    let placed = c .before .before .before .before .before .before .before .before .before .before .before .before .before .before .before .before .before .before .before .before .before .before .before .named-places .ensures (held .query) in
+    let resolved = c .before .before .before .before .before .before .before .before .before .before .before .before .before .before .before .before .before .before .before .before .resolve-columns .ensures (d .policy) _ (held .tables) (table .inside) (placed .small) in
+    let columns = resolves-known (a .q) table placed resolved (c .before .before .before .before .before .before .before .before .before .before .before .before .before .before .before .before .before .before .enum-told2 .given .1) in
+    let types = types-judged (a .q) (held .query) table columns (placed .tests) (c .before .before .before .before .before .before .before .before .before .before .before .before .before .mistyped-comparison .result) (c .before .before .before .before .before .before .before .before .before .before .before .before .before .before .before .before .before .chosen-count .ensures) (c .before .before .before .before .before .before .before .before .before .before .before .before .before .before .before .before .comparison-count .ensures) (c .before .before .before .before .before .before .before .before .before .before .before .before .before .mistyped-comparison .ensures (d .policy) (a .text .now) _ (held .tables) (table .inside)) in
+    let closed = parts-judged (a .q) table placed resolved (c .before .before .before .before .before .before .before .before .before .before .before .before .before .before .before .before .before .before .enum-told2 .given .1) (c .before .before .before .before .before .before .before .before .closed-part .result) (held .opened) (c .before .before .before .before .before .before .before .before .closed-part .ensures (d .policy) (a .text .now) _ _ (held .tables) (table .inside)) in
+    gives-same (known-passes d _ _ (a .query .now) (c .before .before .before .before .before .before .before .before .before .before .before .before .before .before .before .before .before .before .enum-told2 .given .1) (resolves-unknown (a .q) table placed resolved) ∙ typed-passes d _ _ (a .query .now) (c .before .before .before .before .before .before .before .before .before .before .before .enum-told3 .given .1) types ∙ open-passes d _ _ (a .query .now) (c .before .before .before .before .before .before .enum-told4 .given .1) closed)
+    (c .before .before .ask-rows .ensures d (record { granted = held; table = table; columns = columns; tests = placed .tests }))
+
+pub ask-granted-spec : {M : Type 1} → statement M
+ask-granted-spec =
+    tie.close
+    (tie.spec
+    find-table-requires
+    enum-known-table
+    enum-told
+    refused-at-requires
+    returns
+    named-places-requires
+    resolve-columns-requires
+    enum-known-unknown
+    refused-at-requires-2
+    returns-2
+    enum-told-2
+    chosen-count-requires
+    comparison-count-requires
+    mistyped-comparison-requires
+    enum-known-wrong
+    refused-at-requires-3
+    returns-3
+    enum-told-3
+    closed-part-requires
+    enum-known-closed
+    refused-at-requires-4
+    returns-4
+    enum-told-4
+    ask-rows-requires
+    same-length
+    returns-5)

@@ -1,0 +1,54 @@
+-- Contract: what the functions know of the document and of the query, from one stage of asking to the next.
+use Prim.Native.Nat.{_<_, _≤_, ℕ}
+use lib.ListN.{length, take}
+use mathlib.Core.Bool.{Bool, true}
+use mathlib.Core.List.{List, map}
+use mathlib.Core.Option.{some}
+use mathlib.Core.Path.{_≡_}
+use Rattle.document.specs.Invariants.{Formed}
+use Rattle.document.specs.Lookup.{columnOf, columnsAt, purposeOf, tableOf}
+use Rattle.document.specs.Policy.{Doc, Policy}
+use Rattle.index.specs.Labels.{Opened}
+use Rattle.index.specs.Rows.{Rows}
+use Rattle.index.specs.Tables.{Tables}
+use Rattle.index.specs.Workspace.{Indexed}
+use Rattle.lists.specs.Lists.{allOf, known, there}
+use Rattle.query.specs.Naming.{TestsPlaced}
+use Rattle.query.specs.QueryForm.{QueryForm, namedWords}
+use Rattle.query.specs.QueryPlaces.{IsQuery, formAt}
+use Rattle.index.specs.declared.counts.Counts.{Counts}
+use Rattle.query.specs.declared.reading.Question.{Question}
+
+-- the arrays hold an accepted document d; where the labels' names stand is not asked for
+pub record Standing (text ps rs bs us cs gs ms ts ws : List ℕ) (c : Counts) (d : Doc) : Type 0 where
+  pub names : List ℕ
+  pub indexed : Indexed text ps rs bs us cs gs names ms ts ws c d
+  pub formed : Formed (d .policy)
+  pub small : length text ≤ 60000
+
+-- so much of it as the answer needs: the tables ts, the rows ws, and which labels are open to the query's purpose; the question q is
+-- the query that the text s is
+pub record Granted (text ts ws : List ℕ) (c : Counts) (os : List Bool) (s : List ℕ) (q : Question) (d : Doc) : Type 0 where
+  pub small : length text ≤ 60000
+  pub tables : Tables text ts (c .tables) (d .policy .tables)
+  pub rows : Rows text ws (c .rows) (d .rows)
+  pub opened : Opened (d .policy) (known (purposeOf (d .policy) (formAt s q .purpose))) os
+  pub query : IsQuery s q
+
+-- t is the query's table, of k
+pub record InTable (d : Policy) (q : QueryForm) (t k : ℕ) : Type 0 where
+  pub is : tableOf d (q .table) ≡ some t
+  pub inside : t < k
+
+-- table t has all the columns that the query names, and these are their numbers
+pub record ColumnsKnown (d : Policy) (q : QueryForm) (t : ℕ) (numbers : List ℕ) : Type 0 where
+  pub number : ℕ
+  pub numbered : take number numbers ≡ map (λ w. known (columnOf (columnsAt d t) w)) (namedWords q)
+  pub allThere : allOf (λ w. there (columnOf (columnsAt d t) w)) (namedWords q) ≡ true
+
+-- the query is ready for the rows of table t: its columns have these numbers, and its operators stand at the places ops
+pub record Ready (text ts ws : List ℕ) (c : Counts) (os : List Bool) (s : List ℕ) (q : Question) (t : ℕ) (numbers ops : List ℕ) (d : Doc) : Type 0 where
+  pub granted : Granted text ts ws c os s q d
+  pub table : InTable (d .policy) (formAt s q) t (c .tables)
+  pub columns : ColumnsKnown (d .policy) (formAt s q) t numbers
+  pub tests : TestsPlaced s (q .test) ops

@@ -1,0 +1,133 @@
+// The answer under a grant: what the query names, and the rows.
+use crate::answered::Answered;
+use crate::answered::Figures;
+use crate::refusing::refused_at;
+use answering::answers::answer_rows;
+use index::counts::Counts;
+use index::found::Found;
+use index::layout::LABELS;
+use index::layout::ROW_CELLS;
+use index::layout::TABLE_CELLS;
+use index::tables::find_table;
+use judging::sought::Sought;
+use query::naming::named_places;
+use query::reading::Question;
+use query::reading::chosen_count;
+use query::reading::comparison_count;
+use query::reading::is_select;
+use resolving::columns::NAMED;
+use resolving::columns::resolve_columns;
+use resolving::offending::Offending;
+use resolving::openness::closed_part;
+use resolving::types::mistyped_comparison;
+use text::refusals::Reason;
+ghost use Rattle.document.specs.Policy.{Doc};
+ghost use Rattle.query.specs.QueryPlaces.{formAt};
+ghost use Rattle.stages.specs.Stages.{Granted, Ready};
+ghost use Rattle.stages.specs.Tails.{Gives, answerUnder, ifKnown};
+ghost use Rattle.text.specs.Refusal.{accepted};
+
+// The answer of the rows of table t, to a query that is ready for them.
+fn ask_rows(
+    text: &[u8],
+    tables: &[usize; TABLE_CELLS],
+    rows: &[usize; ROW_CELLS],
+    c: Counts,
+    opened: &[bool; LABELS],
+    query: &[u8],
+    q: Question,
+    t: usize,
+    columns: &[usize; NAMED],
+    ops: &[usize; 64],
+    grant: usize,
+    out: &mut [u8],
+) -> Answered
+    ensures { λ r. ⌜ ((d : Doc) → Ready (now (text .entry)) (now (tables .entry)) (now (rows .entry)) c (now (opened .entry)) (now (query .entry)) q t (now (columns .entry)) (now (ops .entry)) d → Gives (accepted (answerUnder d (formAt (now (query .entry)) q) grant)) (now (out .entry)) (now (out .exit)) r) ⌝ }
+{
+    let wanted = q.wanted;
+    let test = q.test;
+    let m = comparison_count(test);
+    let select = is_select(wanted);
+    let chosen = chosen_count(wanted);
+    let sought = Sought {
+        table: t,
+        test,
+        tests: m,
+        select,
+        chosen,
+    };
+    let x = answer_rows(
+        text,
+        tables,
+        rows,
+        c.rows,
+        opened,
+        query,
+        sought,
+        ops,
+        columns,
+        out,
+    );
+    Answered::Given(Figures {
+        len: x.len,
+        grant,
+        passed: x.tally.passed,
+        withheld: x.tally.withheld,
+        unmatched: x.tally.unmatched,
+    })
+}
+
+// The answer under a grant (15 to 17, and the rows). Which labels are open to the purpose is given.
+pub(crate) fn ask_granted(
+    text: &[u8],
+    tables: &[usize; TABLE_CELLS],
+    rows: &[usize; ROW_CELLS],
+    c: Counts,
+    opened: &[bool; LABELS],
+    query: &[u8],
+    q: Question,
+    grant: usize,
+    out: &mut [u8],
+) -> Answered
+    ensures { λ r. ⌜ ((d : Doc) → Granted (now (text .entry)) (now (tables .entry)) (now (rows .entry)) c (now (opened .entry)) (now (query .entry)) q d → Gives (ifKnown d (formAt (now (query .entry)) q) grant) (now (out .entry)) (now (out .exit)) r) ⌝ }
+{
+    let h = q.head;
+    let table = find_table(text, tables, c.tables, query, h.table);
+    let Found::At(t) = table else {
+        return refused_at(query, Reason::UnknownColumn, h.table);
+    };
+    let mut places = [0usize; NAMED];
+    let mut ops = [0usize; 64];
+    let n = named_places(query, q, &mut places, &mut ops);
+    let mut columns = [0usize; NAMED];
+    let unknown = resolve_columns(text, tables, t, query, &places, n, &mut columns);
+    if let Offending::At(at) = unknown {
+        return refused_at(query, Reason::UnknownColumn, at);
+    }
+    let wanted = q.wanted;
+    let test = q.test;
+    let chosen = chosen_count(wanted);
+    let m = comparison_count(test);
+    let wrong = mistyped_comparison(tables, t, query, &ops, m, &columns, chosen);
+    if let Offending::At(at) = wrong {
+        return refused_at(query, Reason::MistypedQuery, at);
+    }
+    let closed = closed_part(tables, t, opened, query, h.table, &places, n, &columns);
+    if let Offending::At(at) = closed {
+        return refused_at(query, Reason::Closed, at);
+    }
+    ask_rows(
+        text,
+        tables,
+        rows,
+        c,
+        opened,
+        query,
+        q,
+        t,
+        &columns,
+        &ops,
+        grant,
+        out,
+    )
+}

@@ -1,0 +1,24 @@
+// Refusals of a query.
+use crate::answered::Answered;
+use text::refusals::Reason;
+use text::refusals::Refusal;
+use text::refusals::Source;
+use text::words::word_end;
+ghost use mathlib.Core.Path.{_≡_};
+ghost use Rattle.stages.specs.Figures.{answeredAs};
+ghost use Rattle.stages.specs.Tails.{refusedAt};
+ghost use Rattle.text.specs.Reasons.{numberOf};
+ghost use Rattle.text.specs.Refusal.{refused};
+
+// The refusal that hands back the word at a place.
+pub(crate) fn refused_at(query: &[u8], reason: Reason, at: usize) -> Answered
+    ensures { λ r. ⌜ answeredAs r ≡ refused (refusedAt (numberOf reason) (now (query .entry)) at) ⌝ }
+{
+    let e = word_end(query, at);
+    Answered::Refused(Refusal {
+        reason,
+        source: Source::Query,
+        start: at,
+        len: e - at,
+    })
+}
