@@ -15,7 +15,7 @@ use Rattle.query.specs.Authority.{Clock, firstGrant, inRange}
 use Rattle.query.specs.Query.{closedPart, mistypedQuery, unknownColumn, unknownParty}
 use Rattle.query.specs.QueryForm.{QueryForm, queryOf}
 use Rattle.resolving.specs.Acting.{PartiesKnown, RoleMissing}
-use Rattle.resolving.specs.Resolved.{offendingIn}
+use Rattle.text.specs.CodeEnds.{offendingOf}
 use Rattle.text.specs.Refusal.{Refusal, _>>=_, _>>_, accepted, need, pointing, pointingAll, pointingNowhere, query, refuseAt, refuseIf, refused}
 use Rattle.text.specs.Words.{Word, wordOf}
 use Rattle.stages.specs.Figures.{answeredAs, figuresOf, inFigures}
@@ -24,8 +24,8 @@ use Rattle.answering.specs.declared.answers.Measured.{Measured}
 use Rattle.index.specs.declared.counts.Counts.{Counts}
 use Rattle.index.specs.declared.found.Found.{Found}
 use Rattle.index.specs.declared.found.Found.the-variants as found
-use Rattle.resolving.specs.declared.offending.Offending.{Offending}
-use Rattle.resolving.specs.declared.offending.Offending.the-variants as offending
+use Rattle.text.specs.declared.offending.Offending.{Offending}
+use Rattle.text.specs.declared.offending.Offending.the-variants as offending
 use Rattle.stages.specs.declared.answered.Answered as code
 use Rattle.stages.specs.declared.answered.Answered.the-variants as answered
 
@@ -41,11 +41,11 @@ unfolding refuseAt _>>_
 passes n rest e = rw (sym e)
 
 -- the code's answer names an offending word, or none
-named-word : (s : List ℕ) {x : Offending} {at : ℕ} {o : Option Word} → x ≡ offending.At at → offendingIn s x ≡ o → some (wordOf s at) ≡ o
-named-word s e h = ap (offendingIn s) (sym e) ∙ h
+named-word : (s : List ℕ) {x : Offending} {at : ℕ} {o : Option Word} → x ≡ offending.At at → offendingOf s x ≡ o → some (wordOf s at) ≡ o
+named-word s e h = ap (offendingOf s) (sym e) ∙ h
 
-pub no-word : (s : List ℕ) {x : Offending} {o : Option Word} → x ≡ offending.Nothing → offendingIn s x ≡ o → none ≡ o
-no-word s e h = ap (offendingIn s) (sym e) ∙ h
+pub no-word : (s : List ℕ) {x : Offending} {o : Option Word} → x ≡ offending.Nothing → offendingOf s x ≡ o → none ≡ o
+no-word s e h = ap (offendingOf s) (sym e) ∙ h
 
 -- what is needed is there, or refused
 lacks : {o : Option ℕ} (r : Refusal) (f : ℕ → Outcome) → none ≡ o → need o r >>= f ≡ refused r
@@ -66,27 +66,27 @@ nothing-found e h = ap foundAs (sym e) ∙ h
 -- ---- the tails, each by its first step
 
 module _ (d : Doc) (q : QueryForm) (g : ℕ) (s : List ℕ) {x : Offending} where
-  pub open-refused : {at : ℕ} → x ≡ offending.At at → offendingIn s x ≡ closedPart (d .policy) q → ifOpen d q g ≡ refused (refusedAt 17 s at)
+  pub open-refused : {at : ℕ} → x ≡ offending.At at → offendingOf s x ≡ closedPart (d .policy) q → ifOpen d q g ≡ refused (refusedAt 17 s at)
   unfolding ifOpen refusedAt
   open-refused e h = offends 17 (accepted (answerUnder d q g)) (named-word s e h)
 
-  pub open-passes : x ≡ offending.Nothing → offendingIn s x ≡ closedPart (d .policy) q → ifOpen d q g ≡ accepted (answerUnder d q g)
+  pub open-passes : x ≡ offending.Nothing → offendingOf s x ≡ closedPart (d .policy) q → ifOpen d q g ≡ accepted (answerUnder d q g)
   unfolding ifOpen
   open-passes e h = passes 17 (accepted (answerUnder d q g)) (no-word s e h)
 
-  pub typed-refused : {at : ℕ} → x ≡ offending.At at → offendingIn s x ≡ mistypedQuery (d .policy) q → ifTyped d q g ≡ refused (refusedAt 16 s at)
+  pub typed-refused : {at : ℕ} → x ≡ offending.At at → offendingOf s x ≡ mistypedQuery (d .policy) q → ifTyped d q g ≡ refused (refusedAt 16 s at)
   unfolding ifTyped refusedAt
   typed-refused e h = offends 16 (ifOpen d q g) (named-word s e h)
 
-  pub typed-passes : x ≡ offending.Nothing → offendingIn s x ≡ mistypedQuery (d .policy) q → ifTyped d q g ≡ ifOpen d q g
+  pub typed-passes : x ≡ offending.Nothing → offendingOf s x ≡ mistypedQuery (d .policy) q → ifTyped d q g ≡ ifOpen d q g
   unfolding ifTyped
   typed-passes e h = passes 16 (ifOpen d q g) (no-word s e h)
 
-  pub known-refused : {at : ℕ} → x ≡ offending.At at → offendingIn s x ≡ unknownColumn (d .policy) q → ifKnown d q g ≡ refused (refusedAt 15 s at)
+  pub known-refused : {at : ℕ} → x ≡ offending.At at → offendingOf s x ≡ unknownColumn (d .policy) q → ifKnown d q g ≡ refused (refusedAt 15 s at)
   unfolding ifKnown refusedAt
   known-refused e h = offends 15 (ifTyped d q g) (named-word s e h)
 
-  pub known-passes : x ≡ offending.Nothing → offendingIn s x ≡ unknownColumn (d .policy) q → ifKnown d q g ≡ ifTyped d q g
+  pub known-passes : x ≡ offending.Nothing → offendingOf s x ≡ unknownColumn (d .policy) q → ifKnown d q g ≡ ifTyped d q g
   unfolding ifKnown
   known-passes e h = passes 15 (ifTyped d q g) (no-word s e h)
 

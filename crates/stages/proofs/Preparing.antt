@@ -25,7 +25,8 @@ use Rattle.query.specs.Naming.{NamesPlaced, TestsPlaced, wordsAt}
 use Rattle.query.specs.Query.{closedPart, columnComparison, countsOnly, mistypedQuery, named, openFor, resolved, select, unknownColumn, wantedOf}
 use Rattle.query.specs.QueryForm.{QueryForm, namedWords, selectedWords}
 use Rattle.query.specs.QueryPlaces.{IsQuery, chosenCount, comparisonCount, conditionAt, formAt, isSelect, wantedAt}
-use Rattle.resolving.specs.Resolved.{Compares, Resolves, offendingIn}
+use Rattle.resolving.specs.Resolved.{Compares, Resolves}
+use Rattle.text.specs.CodeEnds.{offendingOf}
 use Rattle.stages.proofs.Chain.{no-word, number-found}
 use Rattle.stages.specs.Stages.{ColumnsKnown, InTable, Ready}
 use Rattle.text.proofs.OffendingLaws.{leftmost-only, missing-none}
@@ -36,8 +37,8 @@ use Rattle.index.specs.declared.found.Found.{Found}
 use Rattle.index.specs.declared.found.Found.the-variants as found
 use Rattle.judging.specs.declared.sought.Sought.{Sought}
 use Rattle.query.specs.declared.reading.Question.{Question}
-use Rattle.resolving.specs.declared.offending.Offending.{Offending}
-use Rattle.resolving.specs.declared.offending.Offending.the-variants as offending
+use Rattle.text.specs.declared.offending.Offending.{Offending}
+use Rattle.text.specs.declared.offending.Offending.the-variants as offending
 
 -- ---- a list whose first n are two lists joined
 
@@ -91,7 +92,7 @@ module _ {d : Policy} {q : QueryForm} {t k : ℕ} (table : InTable d q t k) wher
 -- the named columns were looked for: 15, or their numbers
 module _ {d : Policy} {s : List ℕ} (q : Question) {t k n : ℕ} {places ops numbers : List ℕ} {x : Offending} (table : InTable d (formAt s q) t k)
     (placed : NamesPlaced s q n places ops) (r : Resolves (columnsAt d t) s n places x numbers) where
-  pub resolves-unknown : offendingIn s x ≡ unknownColumn d (formAt s q)
+  pub resolves-unknown : offendingOf s x ≡ unknownColumn d (formAt s q)
   resolves-unknown = r .offends ∙ ap (missing (λ w. there (columnOf (columnsAt d t) w))) (placed .words) ∙ sym (column-unknown table)
 
   pub resolves-known : x ≡ offending.Nothing → ColumnsKnown d (formAt s q) t numbers
@@ -117,8 +118,8 @@ module _ {d : Policy} {s : List ℕ} (q : Question) {t k n : ℕ} {places ops nu
 
   -- 17: what is closed is what the definition says
   pub parts-judged : x ≡ offending.Nothing → (y : Offending) {os : List Bool} → Opened d purpose-of os
-      → (n ≤ 80 → Opened d purpose-of os → take n numbers ≡ map (λ w. known (columnOf (columnsAt d t) w)) (wordsAt s n places) → offendingIn s y ≡ closed purpose-of (schemeAt d t) (columnsAt d t) (wordsAt s n places))
-      → offendingIn s y ≡ closedPart d (formAt s q)
+      → (n ≤ 80 → Opened d purpose-of os → take n numbers ≡ map (λ w. known (columnOf (columnsAt d t) w)) (wordsAt s n places) → offendingOf s y ≡ closed purpose-of (schemeAt d t) (columnsAt d t) (wordsAt s n places))
+      → offendingOf s y ≡ closedPart d (formAt s q)
   parts-judged e y o f = f (placed .small) o (r .numbered e) ∙ parts-are
 
 -- what is asked for, by the numbers of the columns
@@ -191,11 +192,11 @@ module _ {d : Policy} {s : List ℕ} (q : Question) {t k : ℕ} {numbers ops : L
       ∙ ap (λ ys. leftmost (map (λ x. mistyped (columnKind ys (x .of)) x) comparisons)) (sym (columns-are table))
 
   pub types-judged : (x : Offending) {b n : ℕ} → b ≡ chosen → n ≡ m
-      → (n ≤ 64 → b + n ≤ 80 → Compares (columnsAt d t) (map (comparedAt s) (take n ops)) (take n (drop b numbers)) → offendingIn s x ≡ leftmost (map (λ x. mistyped (columnKind (columnsAt d t) (x .of)) x) (map (comparedAt s) (take n ops))))
-      → offendingIn s x ≡ mistypedQuery d (formAt s q)
+      → (n ≤ 64 → b + n ≤ 80 → Compares (columnsAt d t) (map (comparedAt s) (take n ops)) (take n (drop b numbers)) → offendingOf s x ≡ leftmost (map (λ x. mistyped (columnKind (columnsAt d t) (x .of)) x) (map (comparedAt s) (take n ops))))
+      → offendingOf s x ≡ mistypedQuery d (formAt s q)
   types-judged x {b} {n} e h f =
-      let g = subst (λ i. i ≤ 64 → chosen + i ≤ 80 → Compares (columnsAt d t) (map (comparedAt s) (take i ops)) (take i (drop chosen numbers)) → offendingIn s x ≡ leftmost (map (λ x. mistyped (columnKind (columnsAt d t) (x .of)) x) (map (comparedAt s) (take i ops)))) h
-      (subst (λ i. n ≤ 64 → i + n ≤ 80 → Compares (columnsAt d t) (map (comparedAt s) (take n ops)) (take n (drop i numbers)) → offendingIn s x ≡ leftmost (map (λ x. mistyped (columnKind (columnsAt d t) (x .of)) x) (map (comparedAt s) (take n ops)))) e f) in
+      let g = subst (λ i. i ≤ 64 → chosen + i ≤ 80 → Compares (columnsAt d t) (map (comparedAt s) (take i ops)) (take i (drop chosen numbers)) → offendingOf s x ≡ leftmost (map (λ x. mistyped (columnKind (columnsAt d t) (x .of)) x) (map (comparedAt s) (take i ops)))) h
+      (subst (λ i. n ≤ 64 → i + n ≤ 80 → Compares (columnsAt d t) (map (comparedAt s) (take n ops)) (take n (drop i numbers)) → offendingOf s x ≡ leftmost (map (λ x. mistyped (columnKind (columnsAt d t) (x .of)) x) (map (comparedAt s) (take n ops)))) e f) in
       g (tests .few) (omega (arith, read .few .columns, tests .few)) compares ∙ types-are
 
   wanted-are : wantedOf (columnsOf d (wordOf s (q .head .table))) (wantedAt s (q .wanted)) ≡ wantedBy (isSelect (q .wanted)) (take chosen numbers)

@@ -17,7 +17,7 @@ use query::reading::comparison_count;
 use query::reading::is_select;
 use resolving::columns::NAMED;
 use resolving::columns::resolve_columns;
-use resolving::offending::Offending;
+use text::offending::Offending;
 use resolving::openness::closed_part;
 use resolving::types::mistyped_comparison;
 use text::refusals::Reason;
