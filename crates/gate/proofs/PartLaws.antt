@@ -6,7 +6,6 @@ use mathlib.Core.List.{List, [], _∷_}
 use mathlib.Core.Path.{_∙_, _≡_, ap, refl, sym}
 use native.Mathlib.Omega.{arith}
 use Rattle.answer.proofs.NoDifference.{no-difference}
-use Rattle.answer.specs.Alike.{Alike}
 use Rattle.answer.specs.Ask.{after, ask, partOf, pointedText}
 use Rattle.query.specs.Authority.{Clock}
 use Rattle.text.specs.Reasons.{refusalOf, sourceOf}

@@ -4,11 +4,10 @@ use Prim.Native.Nat.{_+_, _<_, _≤_, ℕ}
 use borrow.Author.Tests.{le-leb, leb-true, lt-leb}
 use lib.Dec.{leb}
 use lib.ListN.{getD, length}
-use mathlib.Core.Bool.{Bool, _&&_, cond, false, true}
+use mathlib.Core.Bool.{Bool, cond, false, true}
 use mathlib.Core.List.{List, []}
 use mathlib.Core.Option.{Option, Option·getD, Option·map, bind, none, some}
 use mathlib.Core.Path.{_∙_, _≡_, ap, refl, sym}
-use native.Mathlib.Omega.{arith}
 use Rattle.condition.specs.Answers.{comparedIn}
 use Rattle.condition.specs.Cond.{Cond, comparisonsIn}
 use Rattle.condition.specs.CondForm.{Compared, conditionInForm}
@@ -17,14 +16,13 @@ use Rattle.lists.proofs.Tests.{and-left, and-right}
 use Rattle.lists.specs.Lists.{there}
 use Rattle.query.proofs.WholeLaws.{whole-long, whole-open, whole-read, whole-shut, whole-wrong}
 use Rattle.query.specs.QueryPartPlaces.{BodyWithin, HeadedWithin, ListedWithin, ReadsBody, ReadsColumns, ReadsHead, ReadsTest, TestedWithin, bodyAt, headThen, headTo, isBounded, listedAt, testedAt}
-use Rattle.query.specs.QueryPlaces.{IsQuery, Few, ReadsQuery, Selects, TestWithin, WantedWithin, Within, chosenCount, comparisonCount, conditionAt, formAt, isSelect, selectedFrom, wantedAt}
+use Rattle.query.specs.QueryPlaces.{Few, ReadsQuery, TestWithin, WantedWithin, Within, chosenCount, comparisonCount, conditionAt, formAt, isSelect, wantedAt}
 use Rattle.query.specs.QueryForm.{QueryForm, ifWithinBounds, queryBody, queryForm, queryForms, queryOf, selectColumns, selectedWords, withinBounds}
 use Rattle.text.specs.Brackets.{among, keyword, optional}
 use Rattle.text.specs.Bytes.{ascii}
 use Rattle.text.specs.Names.{sameName}
 use Rattle.text.specs.Reader.{Left, Reader, _>>=_, from, give, whole}
 use Rattle.text.specs.Words.{Word, isCalled, wordAt}
-use Rattle.query.specs.declared.reading.Asked.{Asked}
 use Rattle.query.specs.declared.reading.Asked.the-variants as asked
 use Rattle.query.specs.declared.reading.Body.{Body}
 use Rattle.query.specs.declared.reading.Body.the-variants as body

@@ -1,10 +1,10 @@
 -- Storing where the words stand that name columns: the columns of a select, and then those of the condition's comparisons. Each
 -- law gives what the code's answer promises, or what its loop keeps. Assumes nothing.
-use Prim.Native.Nat.{_+_, _<_, _≤_, suc, ℕ}
+use Prim.Native.Nat.{_+_, _<_, _≤_, ℕ}
 use lib.ListN.{getD, length, length-append, length-map, length-set, set, take}
 use lib.Seq.{length-take-le, take-all, take-suc, take-suc-set}
 use mathlib.Core.List.{List, [], _++_, _∷_, append-assoc, append-nil, map}
-use mathlib.Core.Option.{Option·getD, Option·map, some}
+use mathlib.Core.Option.{Option·getD, Option·map}
 use mathlib.Core.Path.{_∙_, _≡_, ap, refl, subst, sym}
 use native.Mathlib.Numerals.{add-one}
 use native.Mathlib.Omega.{arith}

@@ -22,7 +22,7 @@ use Rattle.lists.specs.Lists.{allOf, known, there}
 use Rattle.query.proofs.BodiesRead.{wanted-count, wanted-there}
 use Rattle.query.proofs.NamedColumns.{columnNumber, named-words}
 use Rattle.query.specs.Naming.{NamesPlaced, TestsPlaced, wordsAt}
-use Rattle.query.specs.Query.{closedPart, columnComparison, countsOnly, mistypedQuery, named, openFor, resolved, select, unknownColumn, wantedOf}
+use Rattle.query.specs.Query.{closedPart, columnComparison, mistypedQuery, named, openFor, resolved, select, unknownColumn, wantedOf}
 use Rattle.query.specs.QueryForm.{QueryForm, namedWords, selectedWords}
 use Rattle.query.specs.QueryPlaces.{IsQuery, chosenCount, comparisonCount, conditionAt, formAt, isSelect, wantedAt}
 use Rattle.resolving.specs.Resolved.{Compares, Resolves}

@@ -1,5 +1,4 @@
 -- `stages::accepted::ask_accepted` meets its contract: 10 to 14 one after the other, then the answer under the grant. Assumes nothing.
-use Rattle.document.specs.Lookup.{purposeOf}
 use Rattle.query.specs.Authority.{firstGrant}
 use Rattle.query.specs.HostClock.{clockOf}
 use Rattle.query.specs.QueryPlaces.{formAt}
