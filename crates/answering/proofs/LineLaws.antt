@@ -1,14 +1,15 @@
 -- The lines of rows: how long they are, and how they grow. Assumes nothing.
 use Prim.Native.Nat.{_*_, _+_, _<_, _≤_, suc, zero, ℕ}
-use borrow.Author.Tests.{ltb-false, ltb-true}
-use lib.Dec.{ltb}
-use lib.ListN.{drop, drop-of-length-le, getD, length, length-append, length-drop}
+use borrow.Author.Tests.{eqb-false, eqb-true, ltb-false, ltb-true}
+use lib.Dec.{eqb, ltb}
+use lib.ListN.{drop, drop-of-length-le, getD, length, length-append, replicate, set}
+use lib.Seq.{getD-set-other, getD-set-same, set-out}
 use mathlib.Core.Bool.{Bool, false, true}
 use mathlib.Core.List.{List, [], _++_, _∷_, append-assoc, append-nil, flatten}
 use mathlib.Core.Path.{_∙_, _≡_, ap, refl, subst, sym}
 use native.Mathlib.Omega.{arith}
 use Rattle.answer.specs.Answer.{rowLine}
-use Rattle.answering.specs.Lines.{lineMarked, linesMarked, spaced}
+use Rattle.answering.specs.Lines.{Sizes, lineMarked, linesMarked, spaced}
 use Rattle.document.specs.Policy.{Row}
 use Rattle.index.proofs.ListedLaws.{listed-getD, listed-more}
 use Rattle.index.specs.Rows.{Rows, rowIn, valueCountIn, valueIn, valuePlaceIn}
@@ -16,27 +17,10 @@ use Rattle.index.specs.Tables.{Cut}
 use Rattle.index.specs.Listed.{listed}
 use Rattle.judging.proofs.ValueLaws.{no-value}
 use Rattle.text.proofs.Lefts.{drop-here}
-use Rattle.text.specs.Bytes.{ascii, isNameByte}
+use Rattle.text.specs.Bytes.{ascii}
 use Rattle.text.specs.Numbers.{Value}
-use Rattle.text.specs.Words.{nameBytes, writtenAt}
-use Rattle.writing.proofs.Writing.{both, wrote-nothing}
+use Rattle.writing.proofs.Writing.{both, written-short, wrote-nothing}
 use Rattle.writing.specs.Write.{Wrote}
-
--- ---- values as they are written
-
-run-short : (bs : List ℕ) → length (nameBytes bs) ≤ length bs
-unfolding nameBytes
-run-short [] = omega arith
-run-short (b ∷ bs) = go (isNameByte b) refl (run-short bs)
-  where
-    go : (t : Bool) → isNameByte b ≡ t → length (nameBytes bs) ≤ length bs → length (nameBytes (b ∷ bs)) ≤ suc (length bs)
-    go true k ih = rw (k, nameBytes) (omega arith)
-    go false k ih = rw (k, nameBytes) (omega arith)
-
--- a value is no longer than the text
-value-short : (s : List ℕ) (at : ℕ) → length (writtenAt s at) ≤ length s
-unfolding writtenAt
-value-short s at = omega (arith, run-short (drop at s), length-drop at s)
 
 -- ---- the values of a row
 
@@ -46,7 +30,7 @@ module _ (text ws : List ℕ) (r : ℕ) where
   values-fit k c = go (ltb c k) refl
     where
       go : (b : Bool) → ltb c k ≡ b → length (getD (listed (valueIn text ws r) k) c []) ≤ length text
-      go true e = omega (arith, ap length (listed-getD (valueIn text ws r) k c [] (ltb-true c k e)), value-short text (valuePlaceIn ws r c))
+      go true e = omega (arith, ap length (listed-getD (valueIn text ws r) k c [] (ltb-true c k e)), written-short text (valuePlaceIn ws r c))
       go false e = omega (arith, ap length (no-value text ws r k c (ltb-false c k e)))
 
 module _ (vs : List Value) where
@@ -72,6 +56,33 @@ module _ (text ws : List ℕ) (r width : ℕ) (cs : List ℕ) (small : length te
   row-short : length (rowLine cs (listed (valueIn text ws r) width)) ≤ 960022
   unfolding rowLine spaced
   row-short = omega (arith, values-short, length-append (ascii "(row" ++ spaced cs (listed (valueIn text ws r) width)) (ascii ")\n"))
+
+-- ---- the sizes that are kept
+
+-- none is
+pub sizes-none : (vs : List Value) (n : ℕ) → Sizes vs (replicate n 0)
+sizes-none vs n = record { each = λ c l. absurd (omega (arith, l, zeros n c)) }
+  where
+    zeros : (n c : ℕ) → _≡_ {A = ℕ} (getD (replicate n 0) c 0) 0
+    zeros zero c = refl
+    zeros (suc n) zero = refl
+    zeros (suc n) (suc c) = zeros n c
+
+-- one more is
+pub sizes-more : (vs : List Value) (ns : List ℕ) (c n : ℕ) → Sizes vs ns → n ≡ length (getD vs c []) → Sizes vs (set ns c n)
+sizes-more vs ns c n h e = record { each = λ k. go k (eqb k c) refl }
+  where
+    same : (k : ℕ) → k ≡ c → (b : Bool) → ltb c (length ns) ≡ b → 0 < getD (set ns c n) k 0 → getD (set ns c n) k 0 ≡ length (getD vs k [])
+    same k q true t l = ap (λ (i : ℕ). getD (set ns c n) i 0) q ∙ getD-set-same ns c n 0 (ltb-true c (length ns) t) ∙ e ∙ ap (λ (i : ℕ). length (getD vs i [])) (sym q)
+    same k q false t l =
+        let kept : set ns c n ≡ ns = set-out ns c n (ltb-false c (length ns) t) in
+        ap (λ (z : List ℕ). getD z k 0) kept ∙ h .each k (subst (λ (z : List ℕ). 0 < getD z k 0) kept l)
+
+    go : (k : ℕ) (b : Bool) → eqb k c ≡ b → 0 < getD (set ns c n) k 0 → getD (set ns c n) k 0 ≡ length (getD vs k [])
+    go k true t l = same k (eqb-true k c t) (ltb c (length ns)) refl l
+    go k false t l =
+        let kept = getD-set-other ns c k n 0 (eqb-false k c t) in
+        kept ∙ h .each k (subst (λ (z : ℕ). 0 < z) kept l)
 
 -- ---- lines
 

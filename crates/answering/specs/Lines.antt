@@ -1,8 +1,9 @@
 -- Contract: the lines that an answer consists of, from the marks of its rows.
-use Prim.Native.Nat.{ℕ}
-use lib.ListN.{getD}
+use Prim.Native.Nat.{_<_, ℕ}
+use lib.ListN.{getD, length}
 use mathlib.Core.Bool.{Bool, cond, false}
 use mathlib.Core.List.{List, [], _∷_, flatten, map}
+use mathlib.Core.Path.{_≡_}
 use Rattle.answer.specs.Answer.{Answer, counted, rowLine}
 use Rattle.index.specs.Rows.{rowIn}
 use Rattle.index.specs.Listed.{listed}
@@ -11,6 +12,10 @@ use Rattle.text.specs.Numbers.{Value}
 -- the values of a row in these columns, each after a space
 unfoldable pub spaced : List ℕ → List Value → List ℕ
 spaced columns vs = flatten (map (λ c. 32 ∷ getD vs c []) columns)
+
+-- the sizes that are kept are those of the values
+pub record Sizes (vs : List Value) (ns : List ℕ) : Type 0 where
+  pub each : (c : ℕ) → 0 < getD ns c 0 → getD ns c 0 ≡ length (getD vs c [])
 
 -- the line of row r, where it is marked
 unfoldable pub lineMarked : (text ws columns : List ℕ) → ℕ → Bool → List ℕ

@@ -1,25 +1,68 @@
 // The lines of an answer: those of the rows that are given, and the last.
-use crate::cells::value_place;
+use index::layout::COLUMNS;
 use index::layout::ROW_CELLS;
 use index::layout::ROWS;
 use index::rows::row_values;
+use judging::cells::value_place;
+use text::words::written_end;
 use writing::bytes::put_byte;
 use writing::bytes::put_bytes;
 use writing::bytes::put_decimal;
 use writing::bytes::put_number;
-use writing::bytes::put_written;
+use writing::bytes::put_sized;
 ghost use Prim.Native.Nat.{_<_, _≤_};
-ghost use lib.ListN.{length, take};
-ghost use mathlib.Core.List.{List};
+ghost use lib.ListN.{getD, length, set, take};
+ghost use mathlib.Core.List.{List, []};
 ghost use mathlib.Core.Path.{_≡_};
 ghost use Rattle.answer.specs.Answer.{endLine, rowLine};
-ghost use Rattle.answering.specs.Lines.{lineMarked, linesMarked, spaced};
+ghost use Rattle.answering.specs.Lines.{Sizes, lineMarked, linesMarked, spaced};
 ghost use Rattle.document.specs.Policy.{Row};
 ghost use Rattle.index.specs.Rows.{Rows, valueCountIn, valueIn};
 ghost use Rattle.index.specs.Listed.{listed};
+ghost use Rattle.text.specs.Numbers.{Value};
+ghost use Rattle.text.specs.Words.{writtenAt};
 ghost use Rattle.writing.specs.Write.{Wrote};
 
-// Writes the values of row r in some columns, each after a space.
+// The size that is kept for column c; 0 where none is.
+fn kept_size(sizes: &[usize], c: usize) -> usize
+    ensures { λ n. ⌜ n ≡ getD (now (sizes .entry)) c 0 ⌝ }
+{
+    if c < sizes.len() {
+        return sizes[c];
+    }
+    0
+}
+
+// Keeps the size for column c.
+fn keep_size(sizes: &mut [usize], c: usize, size: usize)
+    ensures { λ _. ⌜ now (sizes .exit) ≡ set (now (sizes .entry)) c size ⌝ }
+{
+    if c < sizes.len() {
+        sizes[c] = size;
+        return;
+    }
+}
+
+// The size that was kept, or else that of the value at a place.
+fn written_size(text: &[u8], place: usize, kept: usize) -> usize
+    ensures { λ n. ⌜ ((0 < kept → kept ≡ length (writtenAt (now (text .entry)) place)) → n ≡ length (writtenAt (now (text .entry)) place)) ⌝ }
+{
+    if 0 < kept {
+        return kept;
+    }
+    written_end(text, place) - place
+}
+
+// How long the value of column c is, which stands at a place: a size that was kept, or else that of what stands there, which is kept.
+fn value_size(text: &[u8], place: usize, c: usize, sizes: &mut [usize; COLUMNS]) -> usize
+    ensures { λ n. ⌜ ((vs : List Value) → writtenAt (now (text .entry)) place ≡ getD vs c [] → Sizes vs (now (sizes .entry)) → (n ≡ length (getD vs c [])) × Sizes vs (now (sizes .exit))) ⌝ }
+{
+    let size = written_size(text, place, kept_size(sizes, c));
+    keep_size(sizes, c, size);
+    size
+}
+
+// Writes the values of row r in some columns, each after a space. A column that is selected again is not walked again.
 fn put_values(
     out: &mut [u8],
     at: usize,
@@ -32,12 +75,15 @@ fn put_values(
     requires { ⌜ (r < 1024) × (width ≤ 16) ⌝ }
     ensures { λ x. ⌜ Wrote (now (out .entry)) at (spaced (now (columns .entry)) (listed (valueIn (now (text .entry)) (now (rows .entry)) r) width)) (now (out .exit)) x ⌝ }
 {
+    let mut sizes = [0usize; COLUMNS];
     let mut to = at;
     let mut i = 0;
     while i < columns.len() {
-        let place = value_place(text, rows, r, width, columns[i]);
+        let c = columns[i];
+        let place = value_place(text, rows, r, width, c);
+        let size = value_size(text, place, c, &mut sizes);
         let next = put_byte(out, to, b' ');
-        to = put_written(out, next, text, place);
+        to = put_sized(out, next, text, place, size);
         i += 1;
     }
     to

@@ -1,11 +1,15 @@
 -- Writes into a buffer, one after the other, and what is left to write. Assumes nothing.
-use Prim.Native.Nat.{_+_, _<_, _^_, _≤_, suc, ℕ}
-use lib.ListN.{drop, length, length-append, length-set, set}
-use lib.Seq.{set-out, sets, sets-eq}
+use Prim.Native.Nat.{_+_, _-_, _<_, _^_, _≤_, suc, ℕ}
+use lib.ListN.{drop, getD, length, length-append, length-drop, length-set, set, take}
+use lib.Seq.{getD-drop, length-sets, length-take-le, set-out, sets, sets-eq, take-suc}
+use mathlib.Core.Bool.{Bool, cond, false, true}
 use mathlib.Core.List.{List, [], _++_, _∷_}
-use mathlib.Core.Path.{_∙_, _≡_, ap, refl, sym}
+use mathlib.Core.Path.{_∙_, _≡_, ap, refl, subst, sym}
 use native.Mathlib.Nat.{add-zero}
+use native.Mathlib.Numerals.{add-one}
 use native.Mathlib.Omega.{arith}
+use Rattle.text.specs.Bytes.{isNameByte}
+use Rattle.text.specs.Words.{nameBytes, writtenAt}
 use Rattle.writing.specs.Write.{Stored, Wrote}
 
 -- bytes stored one run after the other are stored as one run
@@ -85,3 +89,63 @@ pub filled : (d s : List ℕ) → length s ≤ length d → sets d 0 s ≡ s ++ 
 filled d s h =
     let e : 0 + length s ≡ length s = omega arith in
     sets-eq s d 0 (omega arith) ∙ ap (λ (k : ℕ). s ++ drop k d) e
+
+-- ---- a value as one run of bytes
+
+-- a value is the first bytes of what stands there
+run-taken : (bs : List ℕ) → take (length (nameBytes bs)) bs ≡ nameBytes bs
+unfolding nameBytes
+run-taken [] = refl
+run-taken (b ∷ bs) = go (isNameByte b) (run-taken bs)
+  where
+    go : (t : Bool) → take (length (nameBytes bs)) bs ≡ nameBytes bs → take (length (cond t (b ∷ nameBytes bs) [])) (b ∷ bs) ≡ cond t (b ∷ nameBytes bs) []
+    go true e = ap (λ (l : List ℕ). b ∷ l) e
+    go false e = refl
+
+-- and no longer than that
+run-short : (bs : List ℕ) → length (nameBytes bs) ≤ length bs
+unfolding nameBytes
+run-short [] = omega arith
+run-short (b ∷ bs) = go (isNameByte b) (run-short bs)
+  where
+    go : (t : Bool) → length (nameBytes bs) ≤ length bs → length (cond t (b ∷ nameBytes bs) []) ≤ suc (length bs)
+    go true h = omega (arith, h)
+    go false h = omega arith
+
+pub written-short : (s : List ℕ) (at : ℕ) → length (writtenAt s at) ≤ length s
+unfolding writtenAt
+written-short s at = omega (arith, run-short (drop at s), length-drop at s)
+
+-- nothing is stored past the end
+sets-past : (d : List ℕ) (at : ℕ) (s : List ℕ) → length d ≤ at → sets d at s ≡ d
+sets-past d at [] h = refl
+sets-past d at (b ∷ s) h = ap (λ (z : List ℕ). sets z (suc at) s) (set-out d at b h) ∙ sets-past d (suc at) s (omega (arith, h))
+
+no-bytes : (w : List ℕ) → length w ≡ 0 → w ≡ []
+no-bytes [] e = refl
+no-bytes (b ∷ w) e = absurd (omega (arith, e))
+
+-- one byte more is copied
+pub copied-more : (d text : List ℕ) (at start k : ℕ) → start + k < length text → set (sets d at (take k (drop start text))) (at + k) (getD text (start + k) 0) ≡ sets d at (take (k + 1) (drop start text))
+copied-more d text at start k h =
+    let l : k < length (drop start text) = omega (arith, h, length-drop start text) in
+    (λ i. set (sets d at (take k (drop start text))) (at + sym (length-take-le k (drop start text) (omega (arith, l))) i) (sym (getD-drop start text k 0) i))
+    ∙ sets-append d at (take k (drop start text)) (getD (drop start text) k 0 ∷ [])
+    ∙ ap (sets d at) (sym (take-suc (drop start text) k 0 l) ∙ ap (λ (n : ℕ). take n (drop start text)) (sym (add-one k)))
+
+module _ (d : List ℕ) (at : ℕ) (text : List ℕ) (start size : ℕ) (e : size ≡ length (writtenAt text start)) where
+  -- behind the text stands nothing
+  pub sized-none : size ≤ length text → length text - size < start → Wrote d at (writtenAt text start) d at
+  unfolding writtenAt
+  sized-none l h = subst (λ (w : List ℕ). Wrote d at w d at) (sym (no-bytes (writtenAt text start) (omega (arith, e, l, h, run-short (drop start text), length-drop start text)))) (wrote-nothing d at)
+
+  -- a value past the end of the buffer is counted
+  pub sized-past : length d ≤ at → (r : ℕ) → (at + size < 2 ^ 63 → r ≡ at + size) → Wrote d at (writtenAt text start) d r
+  sized-past l r h = record { kept = refl; room = λ k. record { behind = omega (arith, h (omega (arith, k, e)), e); stored = sym (sets-past d at (writtenAt text start) l) } }
+
+  -- one that was copied
+  pub sized-copied : (f : List ℕ) → f ≡ sets d at (take size (drop start text)) → Wrote d at (writtenAt text start) f (at + size)
+  unfolding writtenAt
+  sized-copied f h =
+      let same : f ≡ sets d at (writtenAt text start) = h ∙ ap (λ (n : ℕ). sets d at (take n (drop start text))) e ∙ ap (sets d at) (run-taken (drop start text)) in
+      record { kept = ap length same ∙ length-sets d at (writtenAt text start); room = λ k. record { behind = ap (λ (n : ℕ). at + n) e; stored = same } }

@@ -2,7 +2,11 @@
 // lent an empty buffer measures.
 use text::bytes::byte_at;
 use text::bytes::is_name_byte;
+ghost use Prim.Native.Nat.{_+_, _<_, _^_, _≤_};
+ghost use lib.ListN.{drop, length, take};
+ghost use lib.Seq.{sets};
 ghost use mathlib.Core.List.{[], _∷_};
+ghost use mathlib.Core.Path.{_≡_};
 ghost use Rattle.text.specs.Numbers.{decimal};
 ghost use Rattle.text.specs.Words.{writtenAt};
 ghost use Rattle.writing.specs.Write.{Wrote};
@@ -48,6 +52,52 @@ pub fn put_written(out: &mut [u8], at: usize, text: &[u8], start: usize) -> usiz
         i += 1;
     }
     to
+}
+
+// The place behind `size` bytes from a place on, as far as counting goes.
+fn place_behind(at: usize, size: usize) -> usize
+    ensures { λ r. ⌜ (at + size < 2 ^ 63 → r ≡ at + size) ⌝ }
+{
+    if MOST < size {
+        return at;
+    }
+    if MOST - size < at {
+        return at;
+    }
+    at + size
+}
+
+// Copies `size` bytes of a text, for which there is room.
+fn copy_bytes(out: &mut [u8], at: usize, text: &[u8], start: usize, size: usize)
+    requires { ⌜ (at + size ≤ length (now out)) × (start + size ≤ length (now text)) ⌝ }
+    ensures { λ _. ⌜ now (out .exit) ≡ sets (now (out .entry)) at (take size (drop start (now (text .entry)))) ⌝ }
+{
+    let mut k = 0;
+    while k < size {
+        out[at + k] = text[start + k];
+        k += 1;
+    }
+}
+
+// Writes the value of `size` bytes that stands at a place of a text, as one run where there is room for it: its bytes are not looked
+// at. A size that does not fit the text is no value's.
+pub fn put_sized(out: &mut [u8], at: usize, text: &[u8], start: usize, size: usize) -> usize
+    ensures { λ r. ⌜ (size ≡ length (writtenAt (now (text .entry)) start) → Wrote (now (out .entry)) at (writtenAt (now (text .entry)) start) (now (out .exit)) r) ⌝ }
+{
+    if text.len() < size {
+        return at;
+    }
+    if text.len() - size < start {
+        return at;
+    }
+    if out.len() <= at {
+        return place_behind(at, size);
+    }
+    if out.len() - at < size {
+        return put_written(out, at, text, start);
+    }
+    copy_bytes(out, at, text, start, size);
+    at + size
 }
 
 // Writes n in decimal.
