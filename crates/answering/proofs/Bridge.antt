@@ -15,9 +15,9 @@ use Rattle.answering.specs.Lines.{answerMarked, lineMarked, linesMarked}
 use Rattle.judging.specs.declared.sought.Sought.{Sought}
 use Rattle.judging.specs.declared.tally.Tally.{Tally}
 use Rattle.document.specs.Policy.{Doc, Row}
-use Rattle.index.proofs.ListedLaws.{listed-map, listed-same}
-use Rattle.index.proofs.RowLaws.{row-at}
-use Rattle.index.specs.Rows.{Rows, rowIn}
+use Rattle.workspace.proofs.ListedLaws.{listed-map, listed-same}
+use Rattle.relations.proofs.RowLaws.{row-at}
+use Rattle.relations.specs.Rows.{Rows, rowIn}
 use Rattle.lists.proofs.KeptLaws.{flatten-keep}
 use Rattle.lists.specs.Lists.{keep}
 use Rattle.query.specs.Query.{Query}

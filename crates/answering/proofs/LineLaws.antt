@@ -11,10 +11,10 @@ use native.Mathlib.Omega.{arith}
 use Rattle.answer.specs.Answer.{rowLine}
 use Rattle.answering.specs.Lines.{Sizes, lineMarked, linesMarked, spaced}
 use Rattle.document.specs.Policy.{Row}
-use Rattle.index.proofs.ListedLaws.{listed-getD, listed-more}
-use Rattle.index.specs.Rows.{Rows, rowIn, valueCountIn, valueIn, valuePlaceIn}
-use Rattle.index.specs.Tables.{Cut}
-use Rattle.index.specs.Listed.{listed}
+use Rattle.workspace.proofs.ListedLaws.{listed-getD, listed-more}
+use Rattle.relations.specs.Rows.{Rows, rowIn, valueCountIn, valueIn, valuePlaceIn}
+use Rattle.relations.specs.Tables.{Cut}
+use Rattle.workspace.specs.Listed.{listed}
 use Rattle.judging.proofs.ValueLaws.{no-value}
 use Rattle.text.proofs.Lefts.{drop-here}
 use Rattle.text.specs.Bytes.{ascii}

@@ -5,8 +5,8 @@ use mathlib.Core.Bool.{Bool, cond, false}
 use mathlib.Core.List.{List, [], _∷_, flatten, map}
 use mathlib.Core.Path.{_≡_}
 use Rattle.answer.specs.Answer.{Answer, counted, rowLine}
-use Rattle.index.specs.Rows.{rowIn}
-use Rattle.index.specs.Listed.{listed}
+use Rattle.relations.specs.Rows.{rowIn}
+use Rattle.workspace.specs.Listed.{listed}
 use Rattle.text.specs.Numbers.{Value}
 
 -- the values of a row in these columns, each after a space

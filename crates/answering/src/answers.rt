@@ -1,14 +1,14 @@
 // The whole answer: measured first, and then, where there is room, written straight into the lent buffer.
 use crate::lines::put_end;
 use crate::lines::put_lines;
-use index::layout::COLUMNS;
-use index::layout::LABELS;
-use index::layout::ROW_CELLS;
-use index::layout::ROWS;
-use index::layout::TABLE_CELLS;
 use judging::fates::judge_rows;
 use judging::sought::Sought;
 use judging::tally::Tally;
+use workspace::layout::COLUMNS;
+use workspace::layout::LABELS;
+use workspace::layout::ROW_CELLS;
+use workspace::layout::ROWS;
+use workspace::layout::TABLE_CELLS;
 ghost use Prim.Native.Nat.{_≤_, ℕ};
 ghost use lib.ListN.{length, take};
 ghost use mathlib.Core.List.{List};
@@ -19,7 +19,7 @@ ghost use Rattle.answering.specs.Answering.{Writes};
 ghost use Rattle.answering.specs.Lines.{answerMarked};
 ghost use Rattle.judging.specs.Prepared.{Prepared};
 ghost use Rattle.document.specs.Policy.{Doc, Row};
-ghost use Rattle.index.specs.Rows.{Rows};
+ghost use Rattle.relations.specs.Rows.{Rows};
 ghost use Rattle.query.specs.Query.{Query};
 ghost use Rattle.writing.specs.Write.{Stored};
 

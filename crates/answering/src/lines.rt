@@ -1,10 +1,10 @@
 // The lines of an answer: those of the rows that are given, and the last.
-use index::layout::COLUMNS;
-use index::layout::ROW_CELLS;
-use index::layout::ROWS;
-use index::rows::row_values;
 use judging::cells::value_place;
+use relations::rows::row_values;
 use text::words::written_end;
+use workspace::layout::COLUMNS;
+use workspace::layout::ROW_CELLS;
+use workspace::layout::ROWS;
 use writing::bytes::put_byte;
 use writing::bytes::put_bytes;
 use writing::bytes::put_decimal;
@@ -17,8 +17,8 @@ ghost use mathlib.Core.Path.{_≡_};
 ghost use Rattle.answer.specs.Answer.{endLine, rowLine};
 ghost use Rattle.answering.specs.Lines.{Sizes, lineMarked, linesMarked, spaced};
 ghost use Rattle.document.specs.Policy.{Row};
-ghost use Rattle.index.specs.Rows.{Rows, valueCountIn, valueIn};
-ghost use Rattle.index.specs.Listed.{listed};
+ghost use Rattle.relations.specs.Rows.{Rows, valueCountIn, valueIn};
+ghost use Rattle.workspace.specs.Listed.{listed};
 ghost use Rattle.text.specs.Numbers.{Value};
 ghost use Rattle.text.specs.Words.{writtenAt};
 ghost use Rattle.writing.specs.Write.{Wrote};

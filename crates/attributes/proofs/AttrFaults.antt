@@ -21,12 +21,12 @@ use Rattle.stepping.specs.declared.fault.Fault.the-variants.{Item, Whole}
 use Rattle.stepping.specs.declared.fault.Verdict.{Verdict}
 use Rattle.stepping.specs.declared.fault.Verdict.the-variants.{Faulty, Fine}
 use Rattle.form.specs.Form.{attr}
-use Rattle.index.proofs.IndexLaws.{attributes-length}
-use Rattle.index.specs.Attributes.{Attributes}
-use Rattle.index.specs.Found.{foundAs}
-use Rattle.index.specs.Nodes.{Nodes}
-use Rattle.index.specs.declared.found.Found.{Found}
-use Rattle.index.specs.declared.found.Found.the-variants.{At, Nothing}
+use Rattle.principals.proofs.IndexLaws.{attributes-length}
+use Rattle.principals.specs.Attributes.{Attributes}
+use Rattle.workspace.specs.Found.{foundAs}
+use Rattle.principals.specs.Nodes.{Nodes}
+use Rattle.workspace.specs.declared.found.Found.{Found}
+use Rattle.workspace.specs.declared.found.Found.the-variants.{At, Nothing}
 use Rattle.lists.specs.Lists.{findIndex}
 use Rattle.text.specs.Offending.{offendingIf, unless}
 use Rattle.text.specs.Words.{isCalled, wordOf}

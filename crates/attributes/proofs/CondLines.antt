@@ -15,7 +15,7 @@ use Rattle.attributes.specs.CondLine.{JudgesCond}
 use Rattle.stepping.specs.Judged.{Judges}
 use Rattle.form.specs.Form.{Form, condRole}
 use Rattle.form.specs.FormReader.{formOf}
-use Rattle.index.specs.CondRoles.{conditionRead}
+use Rattle.principals.specs.CondRoles.{conditionRead}
 use Rattle.lists.specs.Lists.{there}
 use Rattle.text.specs.Reader.{Left, from}
 use Rattle.text.specs.Words.{wordOf}

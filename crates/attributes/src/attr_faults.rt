@@ -1,22 +1,22 @@
 // Attr lines: what is wrong with one.
 use condition::kinds::Kind;
-use index::attributes::find_attribute;
-use index::found::Found;
-use index::layout::ATTRIBUTE_CELLS;
-use index::layout::ATTRIBUTES;
-use index::layout::ROLE_CELLS;
-use index::names::find_role;
+use principals::attributes::find_attribute;
+use principals::names::find_role;
 use stepping::fault::Fault;
 use stepping::fault::Verdict;
 use text::refusals::Reason;
+use workspace::found::Found;
+use workspace::layout::ATTRIBUTE_CELLS;
+use workspace::layout::ATTRIBUTES;
+use workspace::layout::ROLE_CELLS;
 ghost use Prim.Native.Nat.{_≤_};
 ghost use lib.ListN.{length};
 ghost use mathlib.Core.Path.{_≡_};
 ghost use Rattle.condition.specs.Answers.{kindOf};
 ghost use Rattle.stepping.specs.Judged.{Judges};
 ghost use Rattle.form.specs.Form.{attr};
-ghost use Rattle.index.specs.Attributes.{Attributes};
-ghost use Rattle.index.specs.Nodes.{Nodes};
+ghost use Rattle.principals.specs.Attributes.{Attributes};
+ghost use Rattle.principals.specs.Nodes.{Nodes};
 ghost use Rattle.text.specs.Words.{wordOf};
 
 // The attribute whose name stands at a of the line, at the role whose name stands at r, behind k attributes.

@@ -1,19 +1,19 @@
 // Storing an attribute.
 use condition::kinds::Kind;
-use index::attributes::add_attribute;
-use index::layout::ATTRIBUTE_CELLS;
-use index::layout::ROLE_CELLS;
-use index::names::find_role;
+use principals::attributes::add_attribute;
+use principals::names::find_role;
 use stepping::places::number;
 use stepping::places::place;
+use workspace::layout::ATTRIBUTE_CELLS;
+use workspace::layout::ROLE_CELLS;
 ghost use Prim.Native.Nat.{_+_, _≤_};
 ghost use lib.ListN.{length};
 ghost use Rattle.condition.specs.Answers.{kindOf};
 ghost use Rattle.document.specs.Meaning.{add};
 ghost use Rattle.document.specs.Policy.{Doc};
 ghost use Rattle.form.specs.Form.{attr};
-ghost use Rattle.index.specs.Attributes.{Attributes};
-ghost use Rattle.index.specs.Nodes.{Nodes};
+ghost use Rattle.principals.specs.Attributes.{Attributes};
+ghost use Rattle.principals.specs.Nodes.{Nodes};
 ghost use Rattle.stepping.specs.Stored.{LineAt, Passes};
 ghost use Rattle.text.specs.Words.{wordOf};
 

@@ -1,11 +1,11 @@
 // Storing a conditional role.
-use index::conds::add_cond_role;
-use index::hashes::print_word;
-use index::layout::COND_ROLE_CELLS;
-use index::layout::ROLE_CELLS;
-use index::names::find_role;
+use principals::conds::add_cond_role;
+use principals::names::find_role;
 use stepping::places::number;
 use stepping::places::place;
+use workspace::hashes::print_word;
+use workspace::layout::COND_ROLE_CELLS;
+use workspace::layout::ROLE_CELLS;
 ghost use Prim.Native.Nat.{_+_, _≤_};
 ghost use lib.ListN.{length};
 ghost use mathlib.Core.Bool.{true};
@@ -14,8 +14,8 @@ ghost use Rattle.condition.specs.CondForm.{conditionInForm};
 ghost use Rattle.document.specs.Meaning.{add};
 ghost use Rattle.document.specs.Policy.{Doc};
 ghost use Rattle.form.specs.Form.{condRole};
-ghost use Rattle.index.specs.CondRoles.{CondRoles, conditionRead};
-ghost use Rattle.index.specs.Nodes.{Nodes};
+ghost use Rattle.principals.specs.CondRoles.{CondRoles, conditionRead};
+ghost use Rattle.principals.specs.Nodes.{Nodes};
 ghost use Rattle.lists.specs.Lists.{there};
 ghost use Rattle.stepping.specs.Stored.{LineAt, Passes};
 ghost use Rattle.text.specs.Reader.{from};

@@ -9,9 +9,9 @@ use Rattle.authority.specs.Values.{Values}
 use Rattle.document.specs.Meaning.{givenOf}
 use Rattle.document.specs.Policy.{Given, Policy, User}
 use Rattle.form.specs.Walks.{givensAt}
-use Rattle.index.proofs.ListedLaws.{listed-at}
-use Rattle.index.specs.Cells.{lineIn}
-use Rattle.index.specs.Users.{Users, userEndIn, userIn, userPlaceIn, userRoleIn, userStartIn}
+use Rattle.workspace.proofs.ListedLaws.{listed-at}
+use Rattle.workspace.specs.Cells.{lineIn}
+use Rattle.principals.specs.Users.{Users, userEndIn, userIn, userPlaceIn, userRoleIn, userStartIn}
 use Rattle.lists.specs.Lists.{findIndex}
 use Rattle.query.specs.Authority.{Clock, authorises, firstGrant}
 

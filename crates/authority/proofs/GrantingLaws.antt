@@ -8,11 +8,11 @@ use mathlib.Core.Path.{_∙_, _≡_, ap, refl, sym}
 use native.Mathlib.Omega.{arith}
 use Rattle.authority.specs.Held.{Held, conditionHolds}
 use Rattle.document.specs.Policy.{CondRole, Grant, Policy, User, treeOf}
-use Rattle.index.proofs.IndexLaws.{conds-length}
-use Rattle.index.proofs.ListedLaws.{listed-at, listed-found, listed-none, listed-there}
-use Rattle.index.specs.CondRoles.{CondRoles, condRoleIn, condRoleRoleIn}
-use Rattle.index.specs.Grants.{Grants, grantIn}
-use Rattle.index.specs.Nodes.{Nodes}
+use Rattle.principals.proofs.IndexLaws.{conds-length}
+use Rattle.workspace.proofs.ListedLaws.{listed-at, listed-found, listed-none, listed-there}
+use Rattle.principals.specs.CondRoles.{CondRoles, condRoleIn, condRoleRoleIn}
+use Rattle.principals.specs.Grants.{Grants, grantIn}
+use Rattle.principals.specs.Nodes.{Nodes}
 use Rattle.lists.proofs.ListLaws.{holdsOf-some}
 use Rattle.lists.proofs.Tests.{and-both}
 use Rattle.lists.specs.Lists.{findIndex, holdsOf}

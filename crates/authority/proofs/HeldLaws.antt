@@ -24,11 +24,11 @@ use Rattle.condition.specs.Kinds.{Kind, Op, numbers}
 use Rattle.document.specs.Lookup.{attributeKind, attributeNamed, attributeOf}
 use Rattle.document.specs.Meaning.{attributeComparison}
 use Rattle.document.specs.Policy.{Attribute, CondRole, Policy, User}
-use Rattle.index.proofs.IndexLaws.{attributes-length}
-use Rattle.index.proofs.ListedLaws.{listed-at, listed-there}
-use Rattle.index.specs.Attributes.{Attributes}
-use Rattle.index.specs.Cells.{lineIn}
-use Rattle.index.specs.CondRoles.{CondRoles, attributesKnown, condRoleEndIn, condRoleIn, condRolePlaceIn, condRoleStartIn, conditionAt, conditionIn, conditionRead, conditionReads, readsIn}
+use Rattle.principals.proofs.IndexLaws.{attributes-length}
+use Rattle.workspace.proofs.ListedLaws.{listed-at, listed-there}
+use Rattle.principals.specs.Attributes.{Attributes}
+use Rattle.workspace.specs.Cells.{lineIn}
+use Rattle.principals.specs.CondRoles.{CondRoles, attributesKnown, condRoleEndIn, condRoleIn, condRolePlaceIn, condRoleStartIn, conditionAt, conditionIn, conditionRead, conditionReads, readsIn}
 use Rattle.lists.proofs.ListLaws.{all-here, findIndex-found, holdsOf-some, map-map, there-some}
 use Rattle.lists.proofs.Tests.{and-left, and-right, decide}
 use Rattle.lists.specs.Lists.{allOf, holdsOf, known, there}

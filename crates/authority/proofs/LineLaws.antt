@@ -5,7 +5,7 @@ use lib.Seq.{take-all, take-nil}
 use mathlib.Core.List.{List, []}
 use mathlib.Core.Path.{_∙_, _≡_, ap, sym}
 use native.Mathlib.Omega.{arith}
-use Rattle.index.specs.Cells.{lineIn}
+use Rattle.workspace.specs.Cells.{lineIn}
 
 module _ (text : List ℕ) (a e : ℕ) where
   -- it ends before it starts

@@ -13,10 +13,10 @@ use native.Mathlib.Omega.{arith}
 use Rattle.authority.specs.Purposes.{parentIn}
 use Rattle.document.specs.Policy.{Node}
 use Rattle.document.specs.Policy as policy
-use Rattle.index.proofs.ListedLaws.{length-listed, listed-getD}
-use Rattle.index.proofs.NodeLaws.{tree-length, tree-parent}
-use Rattle.index.specs.Nodes.{Nodes}
-use Rattle.index.specs.Listed.{listed}
+use Rattle.workspace.proofs.ListedLaws.{length-listed, listed-getD}
+use Rattle.principals.proofs.NodeLaws.{tree-length, tree-parent}
+use Rattle.principals.specs.Nodes.{Nodes}
+use Rattle.workspace.specs.Listed.{listed}
 use Rattle.lists.proofs.Tests.{decide}
 use Rattle.purpose.specs.Compliance.{Grown, climbs, descends, parent}
 use Rattle.purpose.proofs.Growing.{treeFrom-all}

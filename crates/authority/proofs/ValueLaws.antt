@@ -16,7 +16,7 @@ use Rattle.document.specs.Meaning.{givenOf}
 use Rattle.document.specs.Policy.{Given, Policy}
 use Rattle.form.proofs.WalkSteps.{givens-more, givens-stop, pair-after}
 use Rattle.form.specs.Walks.{firstIn, givenAt, givensAt, pairEndAt, secondIn}
-use Rattle.index.specs.Attributes.{Attributes}
+use Rattle.principals.specs.Attributes.{Attributes}
 use Rattle.lists.proofs.Tests.{decide}
 use Rattle.lists.specs.Lists.{find, known}
 use Rattle.text.proofs.Lefts.{before-end}

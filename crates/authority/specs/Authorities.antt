@@ -3,11 +3,11 @@ use Prim.Native.Nat.{ℕ}
 use mathlib.Core.List.{List}
 use Rattle.document.specs.Invariants.{Formed}
 use Rattle.document.specs.Policy.{Policy}
-use Rattle.index.specs.Attributes.{Attributes}
-use Rattle.index.specs.CondRoles.{CondRoles}
-use Rattle.index.specs.Grants.{Grants}
-use Rattle.index.specs.Nodes.{Nodes}
-use Rattle.index.specs.Users.{Users}
+use Rattle.principals.specs.Attributes.{Attributes}
+use Rattle.principals.specs.CondRoles.{CondRoles}
+use Rattle.principals.specs.Grants.{Grants}
+use Rattle.principals.specs.Nodes.{Nodes}
+use Rattle.principals.specs.Users.{Users}
 use Rattle.index.specs.declared.counts.Counts.{Counts}
 
 -- the arrays hold roles rs, attributes bs, users us, conditional roles cs and grants gs of the well-formed policy d

@@ -11,7 +11,7 @@ use Rattle.condition.specs.CondForm.{Compared}
 use Rattle.condition.specs.Kinds.{Op}
 use Rattle.document.specs.Lookup.{attributeKind, attributeOf}
 use Rattle.document.specs.Policy.{CondRole, Policy, User}
-use Rattle.index.specs.Attributes.{Attributes}
+use Rattle.principals.specs.Attributes.{Attributes}
 use Rattle.lists.specs.Lists.{known}
 use Rattle.query.specs.Authority.{Clock, attributeMeets, clockNumber, inRange}
 use Rattle.text.specs.Numbers.{Value}

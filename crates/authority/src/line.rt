@@ -1,6 +1,6 @@
 // A line of the text, by its two ends.
 ghost use mathlib.Core.Path.{_≡_};
-ghost use Rattle.index.specs.Cells.{lineIn};
+ghost use Rattle.workspace.specs.Cells.{lineIn};
 
 // The line from a to e of the text, as far as the text goes.
 pub(crate) fn line_of(text: &[u8], a: usize, e: usize) -> &[u8]

@@ -1,18 +1,18 @@
 // The purposes of a document as a tree, and the closure of one of them.
-use index::layout::PURPOSE_CELLS;
-use index::layout::PURPOSES;
 use purpose::Closure;
 use purpose::Tree;
 use purpose::closure_of;
 use purpose::tree_of;
+use workspace::layout::PURPOSE_CELLS;
+use workspace::layout::PURPOSES;
 ghost use Prim.Native.Nat.{ℕ};
 ghost use mathlib.Core.List.{List};
 ghost use mathlib.Core.Path.{_≡_};
 ghost use Rattle.authority.specs.Purposes.{parentIn};
 ghost use Rattle.document.specs.Policy.{Node};
 ghost use Rattle.document.specs.Policy as policy;
-ghost use Rattle.index.specs.Nodes.{Nodes};
-ghost use Rattle.index.specs.Listed.{listed};
+ghost use Rattle.principals.specs.Nodes.{Nodes};
+ghost use Rattle.workspace.specs.Listed.{listed};
 ghost use Rattle.purpose.specs.Compliance.{Grown};
 ghost use Rattle.purpose.specs.Meaning.{ClosureOf, treeOf};
 ghost use Rattle.purpose.specs.Members.{limit};

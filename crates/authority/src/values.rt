@@ -2,10 +2,10 @@
 use form::walks::first_in;
 use form::walks::pair_end;
 use form::walks::second_in;
-use index::attributes::find_attribute;
-use index::found::Found;
-use index::layout::ATTRIBUTE_CELLS;
+use principals::attributes::find_attribute;
 use text::bytes::byte_at;
+use workspace::found::Found;
+use workspace::layout::ATTRIBUTE_CELLS;
 ghost use Prim.Native.Nat.{_<_};
 ghost use lib.ListN.{length, replicate};
 ghost use mathlib.Core.List.{map};
@@ -15,7 +15,7 @@ ghost use Rattle.document.specs.Lookup.{attributeOf};
 ghost use Rattle.document.specs.Meaning.{givenOf};
 ghost use Rattle.document.specs.Policy.{Policy};
 ghost use Rattle.form.specs.Walks.{givensAt};
-ghost use Rattle.index.specs.Attributes.{Attributes};
+ghost use Rattle.principals.specs.Attributes.{Attributes};
 ghost use Rattle.lists.specs.Lists.{known};
 ghost use Rattle.text.specs.Words.{wordOf};
 

@@ -16,9 +16,9 @@ use Rattle.document.proofs.UniqueNames.{unique-empty, unique-line}
 use Rattle.document.specs.Check.{check, checkFrom, checkLine}
 use Rattle.document.specs.Invariants.{UniqueNames}
 use Rattle.document.specs.Policy.{Doc, emptyDoc, emptyPolicy}
-use Rattle.index.proofs.IndexLaws.{attributes-start, conds-start, nodes-start, users-start}
-use Rattle.index.specs.Cells.{lineIn}
-use Rattle.index.specs.Listed.{listed}
+use Rattle.principals.proofs.IndexLaws.{attributes-start, conds-start, nodes-start, users-start}
+use Rattle.workspace.specs.Cells.{lineIn}
+use Rattle.workspace.specs.Listed.{listed}
 use Rattle.purpose.specs.Members.{limit}
 use Rattle.stepping.specs.Stored.{LineAt}
 use Rattle.text.proofs.Lefts.{drop-here}

@@ -1,17 +1,17 @@
 // Checking a document.
 use checker::loading::Loaded;
 use checker::loading::load;
-use index::layout::ATTRIBUTE_CELLS;
-use index::layout::COND_ROLE_CELLS;
-use index::layout::GRANT_CELLS;
-use index::layout::LABELS;
-use index::layout::PURPOSE_CELLS;
-use index::layout::ROLE_CELLS;
-use index::layout::ROW_CELLS;
-use index::layout::SET_WORDS;
-use index::layout::TABLE_CELLS;
-use index::layout::USER_CELLS;
 use text::refusals::Refusal;
+use workspace::layout::ATTRIBUTE_CELLS;
+use workspace::layout::COND_ROLE_CELLS;
+use workspace::layout::GRANT_CELLS;
+use workspace::layout::LABELS;
+use workspace::layout::PURPOSE_CELLS;
+use workspace::layout::ROLE_CELLS;
+use workspace::layout::ROW_CELLS;
+use workspace::layout::SET_WORDS;
+use workspace::layout::TABLE_CELLS;
+use workspace::layout::USER_CELLS;
 ghost use Rattle.gate.specs.Reserved.{ChecksDocument};
 
 // How many bytes hold every answer.

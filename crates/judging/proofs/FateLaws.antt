@@ -21,13 +21,13 @@ use Rattle.judging.specs.declared.tally.Tally.{Tally}
 use Rattle.document.specs.Lookup.{schemeAt}
 use Rattle.document.specs.Open.{labelOpen, rowWithheld}
 use Rattle.document.specs.Policy.{Doc, Policy, Row}
-use Rattle.index.proofs.ListedLaws.{listed-more}
-use Rattle.index.proofs.RowLaws.{row-known}
-use Rattle.index.proofs.TableLaws.{scheme-at, table-inside}
-use Rattle.index.specs.Labels.{Opened}
-use Rattle.index.specs.Rows.{Rows, labelCountIn, labelsIn, rowIn, rowTableIn}
-use Rattle.index.specs.Tables.{columnLabelsIn, schemeBy, schemeIn, tableLabelIn}
-use Rattle.index.specs.Listed.{listed}
+use Rattle.workspace.proofs.ListedLaws.{listed-more}
+use Rattle.relations.proofs.RowLaws.{row-known}
+use Rattle.relations.proofs.TableLaws.{scheme-at, table-inside}
+use Rattle.relations.specs.Labels.{Opened}
+use Rattle.relations.specs.Rows.{Rows, labelCountIn, labelsIn, rowIn, rowTableIn}
+use Rattle.relations.specs.Tables.{columnLabelsIn, schemeBy, schemeIn, tableLabelIn}
+use Rattle.workspace.specs.Listed.{listed}
 use Rattle.form.specs.declared.lines.Scheme as coded
 use Rattle.lists.proofs.ListLaws.{count-keep}
 use Rattle.lists.specs.Lists.{countOf, keep}

@@ -21,8 +21,8 @@ use Rattle.condition.specs.Kinds.{numbers}
 use Rattle.condition.specs.declared.conditions.Read.{Read}
 use Rattle.document.specs.Lookup.{columnKind, columnOf, columnsAt}
 use Rattle.document.specs.Policy.{Column, Doc, Policy}
-use Rattle.index.proofs.TableLaws.{column-at, column-inside, table-inside}
-use Rattle.index.specs.Tables.{Tables, columnIn, columnKindIn}
+use Rattle.relations.proofs.TableLaws.{column-at, column-inside, table-inside}
+use Rattle.relations.specs.Tables.{Tables, columnIn, columnKindIn}
 use Rattle.lists.proofs.ListLaws.{all-map, findIndex-found, map-map, there-some}
 use Rattle.lists.proofs.Tests.{and-left, and-right}
 use Rattle.lists.specs.Lists.{allOf, known, there}

@@ -12,10 +12,10 @@ use native.Mathlib.Omega.{arith}
 use Rattle.judging.specs.Judging.{openIn}
 use Rattle.document.specs.Open.{labelOpen, rowWithheld}
 use Rattle.document.specs.Policy.{Policy}
-use Rattle.index.proofs.ListedLaws.{length-listed, listed-at}
-use Rattle.index.specs.Labels.{Opened}
-use Rattle.index.specs.Rows.{labelCountIn, labelRoom, labelsIn, rowLabelIn}
-use Rattle.index.specs.Tables.{Cut, schemeBy}
+use Rattle.workspace.proofs.ListedLaws.{length-listed, listed-at}
+use Rattle.relations.specs.Labels.{Opened}
+use Rattle.relations.specs.Rows.{labelCountIn, labelRoom, labelsIn, rowLabelIn}
+use Rattle.relations.specs.Tables.{Cut, schemeBy}
 use Rattle.form.specs.declared.lines.Scheme.the-variants as code
 use Rattle.form.specs.declared.lines.Scheme as coded
 use Rattle.lists.proofs.Tests.{or-left, or-right}

@@ -18,8 +18,8 @@ use Rattle.condition.specs.Cond.{Cond}
 use Rattle.condition.specs.Kinds.{Kind, Op, names}
 use Rattle.condition.specs.declared.conditions.Read.{Read}
 use Rattle.condition.specs.declared.conditions.Read.the-variants as read
-use Rattle.index.specs.Cells.{kindOfCell}
-use Rattle.index.specs.Rows.{rowIn}
+use Rattle.workspace.specs.Cells.{kindOfCell}
+use Rattle.relations.specs.Rows.{rowIn}
 use Rattle.lists.proofs.Tests.{both}
 use Rattle.lists.specs.Lists.{known}
 use Rattle.program.proofs.RunLaws.{all-steps, from-step, step-back, step-end, step-first, step-on}

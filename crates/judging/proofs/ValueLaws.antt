@@ -4,9 +4,9 @@ use lib.ListN.{List·getD-eq-default, drop-of-length-le, getD, length}
 use mathlib.Core.List.{List, []}
 use mathlib.Core.Path.{_∙_, _≡_, ap, sym}
 use native.Mathlib.Omega.{arith}
-use Rattle.index.proofs.ListedLaws.{length-listed, listed-getD}
-use Rattle.index.specs.Listed.{listed}
-use Rattle.index.specs.Rows.{rowIn, valueCountIn, valueIn, valuePlaceIn}
+use Rattle.workspace.proofs.ListedLaws.{length-listed, listed-getD}
+use Rattle.workspace.specs.Listed.{listed}
+use Rattle.relations.specs.Rows.{rowIn, valueCountIn, valueIn, valuePlaceIn}
 use Rattle.text.specs.Words.{nameBytes, writtenAt}
 
 -- n is the number of values that the code reads

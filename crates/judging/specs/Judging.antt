@@ -16,10 +16,10 @@ use Rattle.judging.specs.declared.tally.Tally.{Tally}
 use Rattle.document.specs.Lookup.{schemeAt}
 use Rattle.document.specs.Open.{labelOpen}
 use Rattle.document.specs.Policy.{Doc, Policy, Row}
-use Rattle.index.specs.Labels.{Opened}
-use Rattle.index.specs.Listed.{listed}
-use Rattle.index.specs.Rows.{Rows, labelsIn}
-use Rattle.index.specs.Tables.{schemeBy}
+use Rattle.relations.specs.Labels.{Opened}
+use Rattle.workspace.specs.Listed.{listed}
+use Rattle.relations.specs.Rows.{Rows, labelsIn}
+use Rattle.relations.specs.Tables.{schemeBy}
 use Rattle.form.specs.declared.lines.Scheme as coded
 use Rattle.lists.specs.Lists.{countOf}
 use Rattle.query.specs.Query.{Query, named}

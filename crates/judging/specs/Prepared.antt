@@ -12,9 +12,9 @@ use Rattle.condition.specs.Answers.{comparedAt}
 use Rattle.condition.specs.Cond.{comparisonsIn, mapCond}
 use Rattle.document.specs.Lookup.{columnOf, columnsAt}
 use Rattle.document.specs.Policy.{Doc, Row}
-use Rattle.index.specs.Labels.{Opened}
-use Rattle.index.specs.Rows.{Rows}
-use Rattle.index.specs.Tables.{Tables}
+use Rattle.relations.specs.Labels.{Opened}
+use Rattle.relations.specs.Rows.{Rows}
+use Rattle.relations.specs.Tables.{Tables}
 use Rattle.lists.specs.Lists.{allOf, countOf, known, there}
 use Rattle.query.specs.QueryPlaces.{conditionAt}
 use Rattle.query.specs.Query.{Query, Wanted, columnComparison, countsOnly, named, select}

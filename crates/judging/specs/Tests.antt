@@ -11,9 +11,9 @@ use Rattle.condition.specs.Answers.{operatorBy, operatorOf}
 use Rattle.condition.specs.Comparison.{Comparison, meets}
 use Rattle.condition.specs.Cond.{Cond}
 use Rattle.condition.specs.declared.conditions.Read.{Read}
-use Rattle.index.specs.Cells.{kindOfCell}
-use Rattle.index.specs.Rows.{rowIn}
-use Rattle.index.specs.Tables.{columnKindIn}
+use Rattle.workspace.specs.Cells.{kindOfCell}
+use Rattle.relations.specs.Rows.{rowIn}
+use Rattle.relations.specs.Tables.{columnKindIn}
 use Rattle.lists.specs.Lists.{known}
 use Rattle.program.specs.Program.{Programmed, comesTo}
 use Rattle.query.specs.declared.reading.Test.the-variants as tests

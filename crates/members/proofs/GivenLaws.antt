@@ -17,9 +17,9 @@ use Rattle.document.specs.ValueFaults.{givesAll, isAttributeOf}
 use Rattle.form.proofs.WalkSteps.{givens-more, givens-stop, pair-after}
 use Rattle.form.specs.Form.{GivenForm}
 use Rattle.form.specs.Walks.{firstIn, givenAt, givensAt, pairEndAt, secondIn}
-use Rattle.index.proofs.ListedLaws.{listed-at, listed-more}
-use Rattle.index.specs.Attributes.{Attributes, attributeIn}
-use Rattle.index.specs.Listed.{listed}
+use Rattle.workspace.proofs.ListedLaws.{listed-at, listed-more}
+use Rattle.principals.specs.Attributes.{Attributes, attributeIn}
+use Rattle.workspace.specs.Listed.{listed}
 use Rattle.lists.proofs.ListLaws.{count-less, count-more, count-nil, findIndex-found, holdsOf-some}
 use Rattle.lists.specs.Distinct.{NoTwoSame}
 use Rattle.lists.specs.Lists.{allOf, anyOf, countOf, holdsOf, keep, there}

@@ -20,11 +20,11 @@ use Rattle.stepping.specs.declared.fault.Fault.the-variants.{Item, Whole}
 use Rattle.stepping.specs.declared.fault.Verdict.{Verdict}
 use Rattle.stepping.specs.declared.fault.Verdict.the-variants.{Faulty, Fine}
 use Rattle.form.specs.Form.{grant}
-use Rattle.index.specs.CondRoles.{CondRoles}
-use Rattle.index.specs.Found.{foundAs}
-use Rattle.index.specs.Nodes.{Nodes}
-use Rattle.index.specs.declared.found.Found.{Found}
-use Rattle.index.specs.declared.found.Found.the-variants.{At, Nothing}
+use Rattle.principals.specs.CondRoles.{CondRoles}
+use Rattle.workspace.specs.Found.{foundAs}
+use Rattle.principals.specs.Nodes.{Nodes}
+use Rattle.workspace.specs.declared.found.Found.{Found}
+use Rattle.workspace.specs.declared.found.Found.the-variants.{At, Nothing}
 use Rattle.lists.specs.Lists.{findIndex}
 use Rattle.purpose.specs.Members.{limit}
 use Rattle.text.proofs.OffendingLaws.{leftmost-fail, leftmost-on, unless-false, unless-true}

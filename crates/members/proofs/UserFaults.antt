@@ -18,9 +18,9 @@ use Rattle.document.specs.ValueFaults.{givesAll, misfit}
 use Rattle.members.proofs.GivenLaws.{mistypedGiven}
 use Rattle.stepping.proofs.Judging.{judge-bound, judge-fine, judge-taken, judge-type, judge-unknown, judge-values}
 use Rattle.form.specs.Form.{GivenForm, user}
-use Rattle.index.proofs.ListedLaws.{length-listed}
-use Rattle.index.proofs.UserLaws.{userOf-known, userOf-unknown}
-use Rattle.index.specs.Users.{Users, userIn}
+use Rattle.workspace.proofs.ListedLaws.{length-listed}
+use Rattle.principals.proofs.UserLaws.{userOf-known, userOf-unknown}
+use Rattle.principals.specs.Users.{Users, userIn}
 use Rattle.lists.specs.Lists.{findIndex, known, there}
 use Rattle.text.specs.Offending.{leftmost, missing, offendingIf, unless}
 use Rattle.text.specs.Refusal.{accepted, document, pointing, pointingAll, refused}

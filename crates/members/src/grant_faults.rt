@@ -1,20 +1,20 @@
 // Grant lines: what is wrong with one.
-use index::conds::find_cond_role;
-use index::found::Found;
-use index::layout::COND_ROLE_CELLS;
-use index::layout::GRANTS;
-use index::layout::PURPOSE_CELLS;
-use index::names::find_purpose;
+use principals::conds::find_cond_role;
+use principals::names::find_purpose;
 use stepping::fault::Fault;
 use stepping::fault::Verdict;
 use text::refusals::Reason;
+use workspace::found::Found;
+use workspace::layout::COND_ROLE_CELLS;
+use workspace::layout::GRANTS;
+use workspace::layout::PURPOSE_CELLS;
 ghost use Prim.Native.Nat.{_≤_};
 ghost use lib.ListN.{length};
 ghost use mathlib.Core.Path.{_≡_};
 ghost use Rattle.stepping.specs.Judged.{Judges};
 ghost use Rattle.form.specs.Form.{grant};
-ghost use Rattle.index.specs.CondRoles.{CondRoles};
-ghost use Rattle.index.specs.Nodes.{Nodes};
+ghost use Rattle.principals.specs.CondRoles.{CondRoles};
+ghost use Rattle.principals.specs.Nodes.{Nodes};
 ghost use Rattle.purpose.specs.Members.{limit};
 ghost use Rattle.text.specs.Words.{wordOf};
 

@@ -1,18 +1,18 @@
 // Storing a grant.
-use index::conds::find_cond_role;
-use index::grants::add_grant;
-use index::layout::COND_ROLE_CELLS;
-use index::layout::GRANT_CELLS;
-use index::layout::PURPOSE_CELLS;
-use index::names::find_purpose;
+use principals::conds::find_cond_role;
+use principals::grants::add_grant;
+use principals::names::find_purpose;
 use stepping::places::number;
+use workspace::layout::COND_ROLE_CELLS;
+use workspace::layout::GRANT_CELLS;
+use workspace::layout::PURPOSE_CELLS;
 ghost use Prim.Native.Nat.{_+_, _≤_};
 ghost use Rattle.document.specs.Meaning.{add};
 ghost use Rattle.document.specs.Policy.{Doc};
 ghost use Rattle.form.specs.Form.{grant};
-ghost use Rattle.index.specs.CondRoles.{CondRoles};
-ghost use Rattle.index.specs.Grants.{Grants};
-ghost use Rattle.index.specs.Nodes.{Nodes};
+ghost use Rattle.principals.specs.CondRoles.{CondRoles};
+ghost use Rattle.principals.specs.Grants.{Grants};
+ghost use Rattle.principals.specs.Nodes.{Nodes};
 ghost use Rattle.purpose.specs.Members.{limit};
 ghost use Rattle.stepping.specs.Stored.{Passes};
 ghost use Rattle.text.specs.Words.{wordOf};

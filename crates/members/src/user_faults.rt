@@ -2,26 +2,26 @@
 use crate::givens::first_mistyped_given;
 use crate::givens::first_unknown_given;
 use crate::givens::gives_all;
-use index::found::Found;
-use index::layout::ATTRIBUTE_CELLS;
-use index::layout::ROLE_CELLS;
-use index::layout::USER_CELLS;
-use index::layout::USERS;
-use index::names::find_role;
-use index::users::find_user;
+use principals::names::find_role;
+use principals::users::find_user;
 use stepping::fault::Fault;
 use stepping::fault::Verdict;
 use text::offending::Offending;
 use text::refusals::Reason;
+use workspace::found::Found;
+use workspace::layout::ATTRIBUTE_CELLS;
+use workspace::layout::ROLE_CELLS;
+use workspace::layout::USER_CELLS;
+use workspace::layout::USERS;
 ghost use Prim.Native.Nat.{_≤_};
 ghost use lib.ListN.{length};
 ghost use Rattle.document.specs.Invariants.{UniqueNames};
 ghost use Rattle.stepping.specs.Judged.{Judges};
 ghost use Rattle.form.specs.Form.{user};
 ghost use Rattle.form.specs.Walks.{givensAt};
-ghost use Rattle.index.specs.Attributes.{Attributes};
-ghost use Rattle.index.specs.Nodes.{Nodes};
-ghost use Rattle.index.specs.Users.{Users};
+ghost use Rattle.principals.specs.Attributes.{Attributes};
+ghost use Rattle.principals.specs.Nodes.{Nodes};
+ghost use Rattle.principals.specs.Users.{Users};
 ghost use Rattle.text.specs.Words.{wordOf};
 
 // The fault of a user line: the name stands at u, the role at r, and the values from gs on.

@@ -1,19 +1,19 @@
 // Storing a user.
-use index::hashes::print_word;
-use index::layout::ROLE_CELLS;
-use index::layout::USER_CELLS;
-use index::names::find_role;
-use index::users::add_user;
+use principals::names::find_role;
+use principals::users::add_user;
 use stepping::places::number;
 use stepping::places::place;
+use workspace::hashes::print_word;
+use workspace::layout::ROLE_CELLS;
+use workspace::layout::USER_CELLS;
 ghost use Prim.Native.Nat.{_+_, _≤_};
 ghost use lib.ListN.{length};
 ghost use Rattle.document.specs.Meaning.{add};
 ghost use Rattle.document.specs.Policy.{Doc};
 ghost use Rattle.form.specs.Form.{user};
 ghost use Rattle.form.specs.Walks.{givensAt};
-ghost use Rattle.index.specs.Nodes.{Nodes};
-ghost use Rattle.index.specs.Users.{Users};
+ghost use Rattle.principals.specs.Nodes.{Nodes};
+ghost use Rattle.principals.specs.Users.{Users};
 ghost use Rattle.stepping.specs.Stored.{LineAt, Passes};
 ghost use Rattle.text.specs.Words.{wordOf};
 

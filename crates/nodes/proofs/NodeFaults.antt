@@ -18,9 +18,9 @@ use Rattle.stepping.proofs.FoundLaws.{found-absent, found-there}
 use Rattle.stepping.proofs.Outcomes.{says-bound, says-fine, says-root, says-taken, says-unknown}
 use Rattle.stepping.specs.Judged.{Judges}
 use Rattle.form.specs.Form.{Form, purpose, role}
-use Rattle.index.proofs.IndexLaws.{nodes-length}
-use Rattle.index.specs.Found.{foundAs}
-use Rattle.index.specs.Nodes.{Nodes}
+use Rattle.principals.proofs.IndexLaws.{nodes-length}
+use Rattle.workspace.specs.Found.{foundAs}
+use Rattle.principals.specs.Nodes.{Nodes}
 use Rattle.lists.specs.Lists.{findIndex, listed, there}
 use Rattle.purpose.specs.Members.{limit}
 use Rattle.text.proofs.OffendingLaws.{missing-here, missing-next, missing-nil}
@@ -29,8 +29,8 @@ use Rattle.text.specs.Words.{Word, isCalled, wordOf}
 use Rattle.stepping.specs.declared.fault.Fault.the-variants.{Item, Whole}
 use Rattle.stepping.specs.declared.fault.Verdict.{Verdict}
 use Rattle.stepping.specs.declared.fault.Verdict.the-variants.{Faulty, Fine}
-use Rattle.index.specs.declared.found.Found.{Found}
-use Rattle.index.specs.declared.found.Found.the-variants.{At, Nothing}
+use Rattle.workspace.specs.declared.found.Found.{Found}
+use Rattle.workspace.specs.declared.found.Found.the-variants.{At, Nothing}
 use Rattle.text.specs.declared.refusals.Reason.the-variants.{NameTaken, NameUnknown, OverBound, SecondRoot}
 
 -- the node of this name is there

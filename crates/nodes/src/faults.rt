@@ -1,20 +1,20 @@
 // Purpose and role lines: what is wrong with one, for a root and for one below another.
-use index::found::Found;
-use index::layout::PURPOSE_CELLS;
-use index::layout::PURPOSES;
-use index::layout::ROLE_CELLS;
-use index::layout::ROLES;
-use index::names::find_purpose;
-use index::names::find_role;
+use principals::names::find_purpose;
+use principals::names::find_role;
 use stepping::fault::Fault;
 use stepping::fault::Verdict;
 use text::refusals::Reason;
+use workspace::found::Found;
+use workspace::layout::PURPOSE_CELLS;
+use workspace::layout::PURPOSES;
+use workspace::layout::ROLE_CELLS;
+use workspace::layout::ROLES;
 ghost use Prim.Native.Nat.{_≤_};
 ghost use lib.ListN.{length};
 ghost use mathlib.Core.Option.{none, some};
 ghost use Rattle.stepping.specs.Judged.{Judges};
 ghost use Rattle.form.specs.Form.{purpose, role};
-ghost use Rattle.index.specs.Nodes.{Nodes};
+ghost use Rattle.principals.specs.Nodes.{Nodes};
 ghost use Rattle.purpose.specs.Members.{limit};
 ghost use Rattle.text.specs.Words.{wordOf};
 

@@ -1,20 +1,20 @@
 // Storing purposes and roles.
-use index::hashes::hash_word;
-use index::layout::PURPOSE_CELLS;
-use index::layout::ROLE_CELLS;
-use index::names::add_purpose;
-use index::names::add_role;
-use index::names::find_purpose;
-use index::names::find_role;
+use principals::names::add_purpose;
+use principals::names::add_role;
+use principals::names::find_purpose;
+use principals::names::find_role;
 use stepping::places::number;
 use stepping::places::place;
+use workspace::hashes::hash_word;
+use workspace::layout::PURPOSE_CELLS;
+use workspace::layout::ROLE_CELLS;
 ghost use Prim.Native.Nat.{_+_, _≤_};
 ghost use lib.ListN.{length};
 ghost use mathlib.Core.Option.{none, some};
 ghost use Rattle.document.specs.Meaning.{add};
 ghost use Rattle.document.specs.Policy.{Doc};
 ghost use Rattle.form.specs.Form.{purpose, role};
-ghost use Rattle.index.specs.Nodes.{Nodes};
+ghost use Rattle.principals.specs.Nodes.{Nodes};
 ghost use Rattle.purpose.specs.Members.{limit};
 ghost use Rattle.stepping.specs.Stored.{LineAt, Passes};
 ghost use Rattle.text.specs.Words.{wordOf};

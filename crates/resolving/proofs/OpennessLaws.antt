@@ -9,11 +9,11 @@ use native.Mathlib.Omega.{arith}
 use Rattle.document.specs.Lookup.{columnOf, columnsAt, schemeAt}
 use Rattle.document.specs.Open.{columnOpen, labelOpen, tableOpen}
 use Rattle.document.specs.Policy.{Policy}
-use Rattle.index.proofs.ListedLaws.{length-listed}
-use Rattle.index.proofs.TableLaws.{column-label-read, scheme-read, width-read}
-use Rattle.index.specs.Labels.{Opened}
-use Rattle.index.specs.Tables.{Cut, Tables, columnCountIn, columnLabelIn, columnLabelsIn, schemeBy, schemeIn, tableLabelIn}
-use Rattle.index.specs.Listed.{listed}
+use Rattle.workspace.proofs.ListedLaws.{length-listed}
+use Rattle.relations.proofs.TableLaws.{column-label-read, scheme-read, width-read}
+use Rattle.relations.specs.Labels.{Opened}
+use Rattle.relations.specs.Tables.{Cut, Tables, columnCountIn, columnLabelIn, columnLabelsIn, schemeBy, schemeIn, tableLabelIn}
+use Rattle.workspace.specs.Listed.{listed}
 use Rattle.form.specs.declared.lines.Scheme as coded
 use Rattle.lists.specs.Lists.{holdsOf, known}
 use Rattle.query.specs.Naming.{wordsAt}

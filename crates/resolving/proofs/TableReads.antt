@@ -6,8 +6,8 @@ use mathlib.Core.Option.{Option}
 use mathlib.Core.Path.{_∙_, _≡_, ap, sym}
 use Rattle.document.specs.Lookup.{columnOf, columnsAt}
 use Rattle.document.specs.Policy.{Policy}
-use Rattle.index.proofs.TableLaws.{columns-at}
-use Rattle.index.specs.Tables.{Tables, columnsIn}
+use Rattle.relations.proofs.TableLaws.{columns-at}
+use Rattle.relations.specs.Tables.{Tables, columnsIn}
 use Rattle.text.specs.Words.{Word}
 
 -- the column that is found in the array is that of the policy

@@ -13,8 +13,8 @@ use Rattle.condition.specs.Kinds.{Kind, numbers}
 use Rattle.condition.specs.declared.kinds.Kind as kinds
 use Rattle.document.specs.Lookup.{columnKind, columnOf, columnsAt}
 use Rattle.document.specs.Policy.{Column, Policy}
-use Rattle.index.proofs.TableLaws.{column-kind-read}
-use Rattle.index.specs.Tables.{Tables, columnKindIn}
+use Rattle.relations.proofs.TableLaws.{column-kind-read}
+use Rattle.relations.specs.Tables.{Tables, columnKindIn}
 use Rattle.lists.proofs.ListLaws.{all-here, findIndex-found, getElem?-map, map-map, there-some}
 use Rattle.lists.specs.Lists.{known, there}
 use Rattle.resolving.proofs.TakenLaws.{mapped-at, taken-at}

@@ -1,13 +1,13 @@
 // The columns that a query names, by number (15).
-use index::found::Found;
-use index::layout::TABLE_CELLS;
-use index::tables::find_column;
+use relations::tables::find_column;
 use text::offending::Offending;
+use workspace::found::Found;
+use workspace::layout::TABLE_CELLS;
 ghost use Prim.Native.Nat.{_<_, _≤_, ℕ};
 ghost use lib.ListN.{length};
 ghost use Rattle.document.specs.Lookup.{columnsAt};
 ghost use Rattle.document.specs.Policy.{Policy};
-ghost use Rattle.index.specs.Tables.{Tables};
+ghost use Rattle.relations.specs.Tables.{Tables};
 ghost use Rattle.resolving.specs.Resolved.{Resolves};
 
 // How many words of a query can name columns: 16 that are selected, and one in each of 64 comparisons.

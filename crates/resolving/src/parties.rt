@@ -1,17 +1,17 @@
 // The user, the role and the purpose of a query.
 use index::counts::Counts;
-use index::found::Found;
-use index::layout::PURPOSE_CELLS;
-use index::layout::ROLE_CELLS;
-use index::layout::USER_CELLS;
-use index::names::find_purpose;
-use index::names::find_role;
-use index::users::find_user;
-use index::users::user_named;
+use principals::names::find_purpose;
+use principals::names::find_role;
+use principals::users::find_user;
+use principals::users::user_named;
 use query::reading::Question;
+use workspace::found::Found;
+use workspace::layout::PURPOSE_CELLS;
+use workspace::layout::ROLE_CELLS;
+use workspace::layout::USER_CELLS;
 ghost use Rattle.document.specs.Policy.{Policy};
-ghost use Rattle.index.specs.Nodes.{Nodes};
-ghost use Rattle.index.specs.Users.{Users};
+ghost use Rattle.principals.specs.Nodes.{Nodes};
+ghost use Rattle.principals.specs.Users.{Users};
 ghost use Rattle.purpose.specs.Members.{limit};
 ghost use Rattle.query.specs.QueryPlaces.{formAt};
 ghost use Rattle.resolving.specs.Acting.{PartiesAre};

@@ -1,9 +1,9 @@
 // The types of a query's condition (16).
 use crate::columns::NAMED;
 use condition::comparisons::wrong_type;
-use index::layout::TABLE_CELLS;
-use index::tables::column_kind;
+use relations::tables::column_kind;
 use text::offending::Offending;
+use workspace::layout::TABLE_CELLS;
 ghost use Prim.Native.Nat.{_+_, _<_, _≤_, ℕ};
 ghost use lib.ListN.{drop, length, take};
 ghost use mathlib.Core.List.{List, map};
@@ -12,7 +12,7 @@ ghost use Rattle.condition.specs.Answers.{comparedAt};
 ghost use Rattle.condition.specs.CondForm.{mistyped};
 ghost use Rattle.document.specs.Lookup.{columnKind, columnsAt};
 ghost use Rattle.document.specs.Policy.{Policy};
-ghost use Rattle.index.specs.Tables.{Tables};
+ghost use Rattle.relations.specs.Tables.{Tables};
 ghost use Rattle.resolving.specs.Resolved.{Compares};
 ghost use Rattle.text.specs.CodeEnds.{offendingOf};
 ghost use Rattle.text.specs.Offending.{leftmost};

@@ -17,8 +17,8 @@ use Rattle.rows.specs.RowWords.{labelAt, valueAt, valuesAt}
 use Rattle.form.proofs.WalkSteps.{item-bracket, item-plain, items-more, items-stop}
 use Rattle.form.specs.Form.{Item, labelled, plain}
 use Rattle.form.specs.Walks.{cellLabelIn, firstIn, itemAt, itemEndAt, itemsAt}
-use Rattle.index.proofs.TableLaws.{column-at, column-inside, table-inside, width-read}
-use Rattle.index.specs.Tables.{Cut, Tables, columnCountIn, columnIn, columnKindIn}
+use Rattle.relations.proofs.TableLaws.{column-at, column-inside, table-inside, width-read}
+use Rattle.relations.specs.Tables.{Cut, Tables, columnCountIn, columnIn, columnKindIn}
 use Rattle.text.proofs.OffendingLaws.{leftmost-fail, leftmost-on, leftmost-only, missing-nil}
 use Rattle.text.proofs.WordLaws.{written-word}
 use Rattle.text.specs.Offending.{leftmost, missing, unless}

@@ -20,12 +20,12 @@ use Rattle.stepping.proofs.Judging.{judge-bound, judge-fine, judge-type, judge-
 use Rattle.rows.proofs.RowItems.{width-fits}
 use Rattle.rows.specs.RowWords.{valuesAt}
 use Rattle.form.specs.Form.{Item, Scheme, row}
-use Rattle.index.proofs.TableLaws.{scheme-read, width-read}
-use Rattle.index.specs.Found.{FoundBelow, foundAs}
-use Rattle.index.specs.Tables.{Cut, Tables, columnCountIn, columnLabelIn, columnLabelsIn, schemeBy, schemeIn, tableLabelIn}
-use Rattle.index.specs.Listed.{listed}
-use Rattle.index.specs.declared.found.Found.{Found}
-use Rattle.index.specs.declared.found.Found.the-variants as found
+use Rattle.relations.proofs.TableLaws.{scheme-read, width-read}
+use Rattle.workspace.specs.Found.{FoundBelow, foundAs}
+use Rattle.relations.specs.Tables.{Cut, Tables, columnCountIn, columnLabelIn, columnLabelsIn, schemeBy, schemeIn, tableLabelIn}
+use Rattle.workspace.specs.Listed.{listed}
+use Rattle.workspace.specs.declared.found.Found.{Found}
+use Rattle.workspace.specs.declared.found.Found.the-variants as found
 use Rattle.text.specs.declared.offending.Offending.{Offending}
 use Rattle.text.specs.declared.offending.Offending.the-variants as offending
 use Rattle.form.specs.declared.lines.Scheme as coded

@@ -15,12 +15,12 @@ use Rattle.document.specs.Policy.{Doc, Policy, Row, Table}
 use Rattle.document.specs.ValueFaults.{bracketValues, misfit, plainValues, rowValues, valuesBehindLabel}
 use Rattle.form.specs.Form.{Item, Scheme, row}
 use Rattle.form.specs.Walks.{cellsAt, itemsAt, plainAt}
-use Rattle.index.proofs.ListedLaws.{length-listed}
-use Rattle.index.proofs.RowLaws.{row-empty, rows-counted}
-use Rattle.index.proofs.TableLaws.{columns-at, scheme-read, tables-counted}
-use Rattle.index.specs.Rows.{FillingRow, LabelStored, Rows}
-use Rattle.index.specs.Tables.{Tables, columnCountIn, columnIn, columnLabelIn, columnLabelsIn, schemeBy, schemeIn, tableLabelIn}
-use Rattle.index.specs.Listed.{listed}
+use Rattle.workspace.proofs.ListedLaws.{length-listed}
+use Rattle.relations.proofs.RowLaws.{row-empty, rows-counted}
+use Rattle.relations.proofs.TableLaws.{columns-at, scheme-read, tables-counted}
+use Rattle.relations.specs.Rows.{FillingRow, LabelStored, Rows}
+use Rattle.relations.specs.Tables.{Tables, columnCountIn, columnIn, columnLabelIn, columnLabelsIn, schemeBy, schemeIn, tableLabelIn}
+use Rattle.workspace.specs.Listed.{listed}
 use Rattle.form.specs.declared.lines.Scheme as coded
 use Rattle.lists.proofs.ListLaws.{findIndex-found, holdsOf-some, map-map, there-some}
 use Rattle.lists.proofs.Tests.{not-false}

@@ -9,9 +9,9 @@ use Rattle.document.specs.Lookup.{labelOf}
 use Rattle.document.specs.Policy.{Policy, Row}
 use Rattle.form.proofs.WalkSteps.{cells-more, plain-more}
 use Rattle.form.specs.Walks.{cellAt, cellEndAt, cellLabelIn, cellsAt, firstIn, plainAt}
-use Rattle.index.proofs.ListedLaws.{length-listed}
-use Rattle.index.proofs.RowLaws.{row-empty}
-use Rattle.index.specs.Rows.{FillingRow, LabelStored, Rows, ValueStored, labelRoom, rowLabelIn, valueIn}
+use Rattle.workspace.proofs.ListedLaws.{length-listed}
+use Rattle.relations.proofs.RowLaws.{row-empty}
+use Rattle.relations.specs.Rows.{FillingRow, LabelStored, Rows, ValueStored, labelRoom, rowLabelIn, valueIn}
 use Rattle.lists.specs.Lists.{known}
 use Rattle.stepping.proofs.PlaceLaws.{written-placed}
 use Rattle.stepping.specs.Stored.{LineAt, RowFilled}

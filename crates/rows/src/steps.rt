@@ -2,11 +2,11 @@
 use crate::faults::row_fault;
 use crate::storing::store_row;
 use index::counts::Counts;
-use index::layout::LABELS;
-use index::layout::ROW_CELLS;
-use index::layout::TABLE_CELLS;
 use stepping::fault::Verdict;
 use stepping::step::Step;
+use workspace::layout::LABELS;
+use workspace::layout::ROW_CELLS;
+use workspace::layout::TABLE_CELLS;
 ghost use Prim.Native.Nat.{_≤_, ℕ};
 ghost use lib.ListN.{length};
 ghost use mathlib.Core.List.{List};

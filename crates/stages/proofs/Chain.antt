@@ -9,7 +9,7 @@ use Rattle.answer.specs.Ask.{Outcome, answerForm}
 use Rattle.answering.specs.Answering.{Writes, measuredOf}
 use Rattle.document.specs.Lookup.{purposeOf}
 use Rattle.document.specs.Policy.{Doc}
-use Rattle.index.specs.Found.{foundAs}
+use Rattle.workspace.specs.Found.{foundAs}
 use Rattle.lists.specs.Lists.{known}
 use Rattle.query.specs.Authority.{Clock, firstGrant, inRange}
 use Rattle.query.specs.Query.{closedPart, mistypedQuery, unknownColumn, unknownParty}
@@ -22,8 +22,8 @@ use Rattle.stages.specs.Figures.{answeredAs, figuresOf, inFigures}
 use Rattle.stages.specs.Tails.{Gives, afterFitting, answerUnder, ifActing, ifGranted, ifKnown, ifOpen, ifParties, ifRead, ifTimed, ifTyped, refusedAt}
 use Rattle.answering.specs.declared.answers.Measured.{Measured}
 use Rattle.index.specs.declared.counts.Counts.{Counts}
-use Rattle.index.specs.declared.found.Found.{Found}
-use Rattle.index.specs.declared.found.Found.the-variants as found
+use Rattle.workspace.specs.declared.found.Found.{Found}
+use Rattle.workspace.specs.declared.found.Found.the-variants as found
 use Rattle.text.specs.declared.offending.Offending.{Offending}
 use Rattle.text.specs.declared.offending.Offending.the-variants as offending
 use Rattle.stages.specs.declared.answered.Answered as code

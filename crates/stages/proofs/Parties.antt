@@ -12,9 +12,9 @@ use denote.Enum.Declared.{tagOf}
 use Rattle.authority.specs.Authorities.{Authorities}
 use Rattle.document.specs.Lookup.{purposeOf}
 use Rattle.document.specs.Policy.{Doc, Node, Policy, treeOf}
-use Rattle.index.proofs.ListedLaws.{length-listed}
-use Rattle.index.specs.Labels.{Opened}
-use Rattle.index.specs.Nodes.{Nodes, nodeIn}
+use Rattle.workspace.proofs.ListedLaws.{length-listed}
+use Rattle.relations.specs.Labels.{Opened}
+use Rattle.principals.specs.Nodes.{Nodes, nodeIn}
 use Rattle.lists.specs.Lists.{known}
 use Rattle.purpose.specs.Compliance.{inTree}
 use Rattle.purpose.specs.Members.{limit}

@@ -14,8 +14,8 @@ use Rattle.document.specs.Lookup.{columnKind, columnOf, columnsAt, columnsOf, p
 use Rattle.document.specs.Open.{columnOpen, labelOpen, tableOpen}
 use Rattle.document.specs.Policy.{Column, Doc, Policy}
 use Rattle.form.specs.Form.{Scheme}
-use Rattle.index.specs.Found.{FoundBelow, foundAs}
-use Rattle.index.specs.Labels.{Opened}
+use Rattle.workspace.specs.Found.{FoundBelow, foundAs}
+use Rattle.relations.specs.Labels.{Opened}
 use Rattle.judging.specs.Prepared.{Prepared, wantedBy}
 use Rattle.lists.proofs.ListLaws.{all-map, all-parts, map-append, map-map}
 use Rattle.lists.specs.Lists.{allOf, known, there}
@@ -33,8 +33,8 @@ use Rattle.text.proofs.OffendingLaws.{leftmost-only, missing-none}
 use Rattle.text.specs.Offending.{leftmost, missing, unless}
 use Rattle.text.specs.Words.{Word, wordOf}
 use Rattle.index.specs.declared.counts.Counts.{Counts}
-use Rattle.index.specs.declared.found.Found.{Found}
-use Rattle.index.specs.declared.found.Found.the-variants as found
+use Rattle.workspace.specs.declared.found.Found.{Found}
+use Rattle.workspace.specs.declared.found.Found.the-variants as found
 use Rattle.judging.specs.declared.sought.Sought.{Sought}
 use Rattle.query.specs.declared.reading.Question.{Question}
 use Rattle.text.specs.declared.offending.Offending.{Offending}

@@ -8,9 +8,9 @@ use mathlib.Core.Path.{_≡_}
 use Rattle.document.specs.Invariants.{Formed}
 use Rattle.document.specs.Lookup.{columnOf, columnsAt, purposeOf, tableOf}
 use Rattle.document.specs.Policy.{Doc, Policy}
-use Rattle.index.specs.Labels.{Opened}
-use Rattle.index.specs.Rows.{Rows}
-use Rattle.index.specs.Tables.{Tables}
+use Rattle.relations.specs.Labels.{Opened}
+use Rattle.relations.specs.Rows.{Rows}
+use Rattle.relations.specs.Tables.{Tables}
 use Rattle.index.specs.Workspace.{Indexed}
 use Rattle.lists.specs.Lists.{allOf, known, there}
 use Rattle.query.specs.Naming.{TestsPlaced}

@@ -10,9 +10,9 @@ use Rattle.document.specs.Meaning.{columnMeant}
 use Rattle.document.specs.Policy.{Column, Policy, Table}
 use Rattle.form.proofs.WalkSteps.{column-labels-more, columns-more, labelled-columns-more}
 use Rattle.form.specs.Walks.{columnAt, columnLabelAt, columnLabelsAt, columnsAt, firstIn, kindAt, labelledColumnsAt, pairEndAt, secondIn, thirdIn, tripleEndAt}
-use Rattle.index.proofs.ListedLaws.{length-listed}
-use Rattle.index.proofs.TableLaws.{table-empty}
-use Rattle.index.specs.Tables.{ColumnStored, Filling, Tables, columnIn}
+use Rattle.workspace.proofs.ListedLaws.{length-listed}
+use Rattle.relations.proofs.TableLaws.{table-empty}
+use Rattle.relations.specs.Tables.{ColumnStored, Filling, Tables, columnIn}
 use Rattle.lists.specs.Lists.{known}
 use Rattle.stepping.proofs.PlaceLaws.{word-placed}
 use Rattle.stepping.specs.Stored.{ColumnsFilled, LineAt}

@@ -18,16 +18,16 @@ use Rattle.document.specs.Lookup.{roleOf}
 use Rattle.document.specs.Meaning.{add, define, rowsGiven}
 use Rattle.document.specs.Policy.{Doc, Grant, Policy, Row, User}
 use Rattle.form.specs.Form.{ColumnForm, Form, GivenForm, Item, Scheme, attr, condRole, grant, label, purpose, role, row, table, user}
-use Rattle.index.proofs.IndexLaws.{conds-grown, conds-same, users-length, users-none, users-same}
-use Rattle.index.proofs.ListedLaws.{length-listed}
-use Rattle.index.specs.Attributes.{Attributes}
-use Rattle.index.specs.CondRoles.{CondRoles}
-use Rattle.index.specs.Grants.{Grants, grantIn}
-use Rattle.index.specs.Labels.{Labels}
-use Rattle.index.specs.Nodes.{Nodes}
-use Rattle.index.specs.Rows.{Rows, rowIn}
-use Rattle.index.specs.Tables.{Tables}
-use Rattle.index.specs.Users.{Users}
+use Rattle.principals.proofs.IndexLaws.{conds-grown, conds-same, users-length, users-none, users-same}
+use Rattle.workspace.proofs.ListedLaws.{length-listed}
+use Rattle.principals.specs.Attributes.{Attributes}
+use Rattle.principals.specs.CondRoles.{CondRoles}
+use Rattle.principals.specs.Grants.{Grants, grantIn}
+use Rattle.relations.specs.Labels.{Labels}
+use Rattle.principals.specs.Nodes.{Nodes}
+use Rattle.relations.specs.Rows.{Rows, rowIn}
+use Rattle.relations.specs.Tables.{Tables}
+use Rattle.principals.specs.Users.{Users}
 use Rattle.purpose.specs.Members.{limit}
 use Rattle.text.proofs.RefusalLaws.{refuseIf-accepted, then-accepted}
 use Rattle.text.specs.Refusal.{accepted}

@@ -18,15 +18,15 @@ use Rattle.document.specs.NameFaults.{unknown, usableFor}
 use Rattle.document.specs.Policy.{Attribute, CondRole, Doc, Grant, Node, Policy, User}
 use Rattle.form.specs.Form.{GivenForm, attr, condRole, grant, purpose, role, user}
 use Rattle.form.specs.Walks.{givensAt}
-use Rattle.index.proofs.ListedLaws.{length-listed}
-use Rattle.index.proofs.IndexLaws.{attributes-length, conds-length, conds-same, nodes-length, users-length, users-same}
-use Rattle.index.specs.Hash.{hashOf, printOf}
-use Rattle.index.specs.Attributes.{Attributes}
-use Rattle.index.specs.Cells.{lineIn}
-use Rattle.index.specs.CondRoles.{CondRoles, attributesKnown, conditionAt, conditionRead, conditionReads}
-use Rattle.index.specs.Grants.{Grants, grantIn}
-use Rattle.index.specs.Nodes.{Nodes}
-use Rattle.index.specs.Users.{Users}
+use Rattle.workspace.proofs.ListedLaws.{length-listed}
+use Rattle.principals.proofs.IndexLaws.{attributes-length, conds-length, conds-same, nodes-length, users-length, users-same}
+use Rattle.workspace.specs.Hash.{hashOf, printOf}
+use Rattle.principals.specs.Attributes.{Attributes}
+use Rattle.workspace.specs.Cells.{lineIn}
+use Rattle.principals.specs.CondRoles.{CondRoles, attributesKnown, conditionAt, conditionRead, conditionReads}
+use Rattle.principals.specs.Grants.{Grants, grantIn}
+use Rattle.principals.specs.Nodes.{Nodes}
+use Rattle.principals.specs.Users.{Users}
 use Rattle.lists.proofs.ListLaws.{all-map, there-some}
 use Rattle.lists.proofs.Tests.{and-left, neither-left}
 use Rattle.lists.specs.Lists.{allOf, holdsOf, known, listed, there}

@@ -9,7 +9,7 @@ use mathlib.Core.List.{List, [], _++_, _∷_}
 use mathlib.Core.Logic.{⊎-elim}
 use mathlib.Core.Path.{_∙_, _≡_, ap, refl, sym}
 use native.Mathlib.Omega.{arith}
-use Rattle.index.specs.Cells.{lineIn}
+use Rattle.workspace.specs.Cells.{lineIn}
 use Rattle.lists.proofs.Tests.{decide}
 use Rattle.stepping.specs.Stored.{LineAt}
 use Rattle.text.specs.Bytes.{isDigit, isLetter, isNameByte}

@@ -7,8 +7,8 @@ use Rattle.document.specs.Check.{checkForm}
 use Rattle.document.specs.Meaning.{add}
 use Rattle.document.specs.Policy.{Column, Doc, Row, Table}
 use Rattle.form.specs.Form.{Form}
-use Rattle.index.specs.Rows.{FillingRow, Rows}
-use Rattle.index.specs.Tables.{Filling, Tables}
+use Rattle.relations.specs.Rows.{FillingRow, Rows}
+use Rattle.relations.specs.Tables.{Filling, Tables}
 use Rattle.text.specs.Numbers.{Value}
 use Rattle.text.specs.Refusal.{accepted}
 use Rattle.text.specs.Words.{nameBytes}

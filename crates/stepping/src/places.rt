@@ -1,9 +1,9 @@
 // Places of a line as positions in the text, and numbers that were found.
-use index::found::Found;
+use workspace::found::Found;
 ghost use Prim.Native.Nat.{_+_, _≤_};
 ghost use lib.ListN.{length};
 ghost use mathlib.Core.Path.{_≡_};
-ghost use Rattle.index.specs.Found.{foundAs};
+ghost use Rattle.workspace.specs.Found.{foundAs};
 ghost use Rattle.lists.specs.Lists.{known};
 
 // The position in the text of place p of a line that starts at a position; 0 where it would lie behind the text's end.

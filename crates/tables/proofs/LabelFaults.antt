@@ -24,14 +24,14 @@ use Rattle.stepping.specs.declared.fault.Verdict.{Verdict}
 use Rattle.stepping.specs.declared.fault.Verdict.the-variants.{Faulty, Fine}
 use Rattle.form.specs.Form.{Form, label}
 use Rattle.form.specs.Walks.{namesAt}
-use Rattle.index.proofs.ListedLaws.{length-listed}
-use Rattle.index.specs.Found.{foundAs}
-use Rattle.index.specs.Labels.{Labels}
-use Rattle.index.specs.Nodes.{Nodes}
+use Rattle.workspace.proofs.ListedLaws.{length-listed}
+use Rattle.workspace.specs.Found.{foundAs}
+use Rattle.relations.specs.Labels.{Labels}
+use Rattle.principals.specs.Nodes.{Nodes}
 use Rattle.text.specs.declared.offending.Offending.{Offending}
 use Rattle.text.specs.declared.offending.Offending.the-variants as offending
-use Rattle.index.specs.declared.found.Found.{Found}
-use Rattle.index.specs.declared.found.Found.the-variants.{At, Nothing}
+use Rattle.workspace.specs.declared.found.Found.{Found}
+use Rattle.workspace.specs.declared.found.Found.the-variants.{At, Nothing}
 use Rattle.lists.specs.Lists.{findIndex, there}
 use Rattle.purpose.specs.Members.{limit}
 use Rattle.text.proofs.OffendingLaws.{leftmost-first, leftmost-only, leftmost-skip, missing-first, missing-second}

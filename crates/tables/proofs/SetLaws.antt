@@ -12,11 +12,11 @@ use Rattle.document.specs.Policy.{Doc, Label}
 use Rattle.form.proofs.WalkSteps.{names-more, names-stop}
 use Rattle.form.specs.Form.{label}
 use Rattle.form.specs.Walks.{namesAt}
-use Rattle.index.proofs.LabelLaws.{holds-insert-behind, holds-none, labels-long}
-use Rattle.index.specs.Found.{FoundBelow, foundAs}
-use Rattle.index.specs.Labels.{Holds, Labels}
-use Rattle.index.specs.declared.found.Found.{Found}
-use Rattle.index.specs.declared.found.Found.the-variants as found
+use Rattle.relations.proofs.LabelLaws.{holds-insert-behind, holds-none, labels-long}
+use Rattle.workspace.specs.Found.{FoundBelow, foundAs}
+use Rattle.relations.specs.Labels.{Holds, Labels}
+use Rattle.workspace.specs.declared.found.Found.{Found}
+use Rattle.workspace.specs.declared.found.Found.the-variants as found
 use Rattle.lists.specs.Lists.{known}
 use Rattle.purpose.specs.Compliance.{Same}
 use Rattle.purpose.specs.Members.{including, limit, members}

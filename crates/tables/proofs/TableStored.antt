@@ -12,8 +12,8 @@ use Rattle.document.specs.Meaning.{add, columnMeant, define}
 use Rattle.document.specs.Policy.{Column, Doc, Table}
 use Rattle.form.specs.Form.{ColumnForm, byTable, mapScheme}
 use Rattle.form.specs.Walks.{columnLabelsAt, columnsAt, labelledColumnsAt}
-use Rattle.index.proofs.TableLaws.{tables-counted}
-use Rattle.index.specs.Tables.{Filling, Tables, schemeBy}
+use Rattle.relations.proofs.TableLaws.{tables-counted}
+use Rattle.relations.specs.Tables.{Filling, Tables, schemeBy}
 use Rattle.form.specs.TableWords.{columnWords, labelsColumns, schemeWords, tableLine}
 use Rattle.form.specs.declared.lines.Scheme as coded
 use Rattle.form.specs.declared.lines.Scheme.the-variants as code

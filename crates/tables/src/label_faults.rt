@@ -1,22 +1,22 @@
 // Label lines: what is wrong with one.
 use crate::words::first_repeat;
 use crate::words::first_unknown_purpose;
-use index::found::Found;
-use index::labels::find_label;
-use index::layout::LABELS;
-use index::layout::PURPOSE_CELLS;
+use relations::labels::find_label;
 use stepping::fault::Fault;
 use stepping::fault::Verdict;
 use text::offending::Offending;
 use text::refusals::Reason;
+use workspace::found::Found;
+use workspace::layout::LABELS;
+use workspace::layout::PURPOSE_CELLS;
 ghost use Prim.Native.Nat.{_≤_, ℕ};
 ghost use lib.ListN.{length};
 ghost use mathlib.Core.List.{List};
 ghost use Rattle.stepping.specs.Judged.{Judges};
 ghost use Rattle.form.specs.Form.{label};
 ghost use Rattle.form.specs.Walks.{namesAt};
-ghost use Rattle.index.specs.Labels.{Labels};
-ghost use Rattle.index.specs.Nodes.{Nodes};
+ghost use Rattle.relations.specs.Labels.{Labels};
+ghost use Rattle.principals.specs.Nodes.{Nodes};
 ghost use Rattle.purpose.specs.Members.{limit};
 ghost use Rattle.text.specs.Words.{wordOf};
 

@@ -5,12 +5,12 @@ use crate::table_faults::table_fault;
 use crate::table_storing::store_table;
 use form::lines::Scheme;
 use index::counts::Counts;
-use index::layout::LABELS;
-use index::layout::PURPOSE_CELLS;
-use index::layout::SET_WORDS;
-use index::layout::TABLE_CELLS;
 use stepping::fault::Verdict;
 use stepping::step::Step;
+use workspace::layout::LABELS;
+use workspace::layout::PURPOSE_CELLS;
+use workspace::layout::SET_WORDS;
+use workspace::layout::TABLE_CELLS;
 ghost use Prim.Native.Nat.{_≤_, ℕ};
 ghost use lib.ListN.{length};
 ghost use mathlib.Core.List.{List};
@@ -93,7 +93,19 @@ pub fn step_table(
     if let Verdict::Faulty(wrong) = f {
         return Step::Fails(wrong);
     }
-    store_table(text, labels, c.labels, tables, k, at, line, t, scheme, l, cs);
+    store_table(
+        text,
+        labels,
+        c.labels,
+        tables,
+        k,
+        at,
+        line,
+        t,
+        scheme,
+        l,
+        cs,
+    );
     let mut next = c;
     next.tables = k + 1;
     Step::Goes(next)

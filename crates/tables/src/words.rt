@@ -1,21 +1,21 @@
 // The names of a set in a line: whether one stands before, the first that repeats another, and the first that is no purpose.
-use index::found::Found;
-use index::layout::MET_WORDS;
-use index::layout::PURPOSE_CELLS;
-use index::met::LONG_LINE;
-use index::met::is_new;
-use index::names::find_purpose;
+use principals::names::find_purpose;
 use text::bytes::byte_at;
 use text::offending::Offending;
 use text::words::same_name;
 use text::words::word_end;
+use workspace::found::Found;
+use workspace::layout::MET_WORDS;
+use workspace::layout::PURPOSE_CELLS;
+use workspace::met::LONG_LINE;
+use workspace::met::is_new;
 ghost use lib.ListN.{take};
 ghost use mathlib.Core.List.{List};
 ghost use mathlib.Core.Path.{_≡_};
 ghost use Rattle.document.specs.Policy.{Node};
 ghost use Rattle.stepping.specs.Places.{Near};
 ghost use Rattle.form.specs.Walks.{namesAt};
-ghost use Rattle.index.specs.Nodes.{Nodes};
+ghost use Rattle.principals.specs.Nodes.{Nodes};
 ghost use Rattle.lists.specs.Lists.{anyOf, findIndex, there};
 ghost use Rattle.purpose.specs.Members.{limit};
 ghost use Rattle.text.specs.Offending.{missing, repeated};

@@ -16,9 +16,9 @@ use Rattle.form.proofs.WalkSteps.{cells-more, item-bracket-end}
 use Rattle.form.specs.Form.{labelled}
 use Rattle.form.specs.FormReader.{cellValue, item, labelledItem, plainItem}
 use Rattle.form.specs.Walks.{cellAt, cellEndAt, cellLabelIn, cellsAt, firstIn, itemEndAt, itemsAt}
-use Rattle.index.proofs.TableLaws.{column-inside}
-use Rattle.index.specs.Rows.{LabelStored, ValueStored}
-use Rattle.index.specs.Tables.{Tables, columnKindIn}
+use Rattle.relations.proofs.TableLaws.{column-inside}
+use Rattle.relations.specs.Rows.{LabelStored, ValueStored}
+use Rattle.relations.specs.Tables.{Tables, columnKindIn}
 use Rattle.lists.specs.Lists.{known, there}
 use Rattle.walks.proofs.Typed.{ItemsPassed, all-passed, items-turn, none-passed, typed-at, typed-value}
 use Rattle.walks.specs.Walked.{CellsTaken, LabelTaken, LabelWalked, typedEnd}

@@ -16,7 +16,7 @@ use Rattle.form.proofs.LineLaws.{line-read}
 use Rattle.form.proofs.PartLaws.{items-to}
 use Rattle.form.specs.Form.{Form}
 use Rattle.form.specs.FormReader.{formOf, item, lineForms, rowForm}
-use Rattle.index.specs.Rows.{Rows}
+use Rattle.relations.specs.Rows.{Rows}
 use Rattle.lists.proofs.Tests.{and-left, and-right, never, true-not-false}
 use Rattle.walks.specs.Taken.{ItemsClose, TakesItems, TakesRow, closesAt, rowAt, tableEnd}
 use Rattle.stepping.specs.Stored.{Passes}

@@ -25,14 +25,14 @@ use Rattle.form.proofs.WalkSteps.{cells-stop, plain-stop}
 use Rattle.form.specs.Form.{Item, Scheme, byCell, byRow}
 use Rattle.form.specs.FormReader.{item}
 use Rattle.form.specs.Walks.{itemsAt}
-use Rattle.index.proofs.RowLaws.{rows-counted}
-use Rattle.index.proofs.TableLaws.{scheme-read}
-use Rattle.index.specs.Found.{FoundBelow, foundAs}
-use Rattle.index.specs.Rows.{Rows}
-use Rattle.index.specs.Tables.{Tables, columnLabelIn, columnLabelsIn, schemeBy, schemeIn, tableLabelIn}
-use Rattle.index.specs.Listed.{listed}
-use Rattle.index.specs.declared.found.Found.{Found}
-use Rattle.index.specs.declared.found.Found.the-variants as found
+use Rattle.relations.proofs.RowLaws.{rows-counted}
+use Rattle.relations.proofs.TableLaws.{scheme-read}
+use Rattle.workspace.specs.Found.{FoundBelow, foundAs}
+use Rattle.relations.specs.Rows.{Rows}
+use Rattle.relations.specs.Tables.{Tables, columnLabelIn, columnLabelsIn, schemeBy, schemeIn, tableLabelIn}
+use Rattle.workspace.specs.Listed.{listed}
+use Rattle.workspace.specs.declared.found.Found.{Found}
+use Rattle.workspace.specs.declared.found.Found.the-variants as found
 use Rattle.form.specs.declared.lines.Scheme as coded
 use Rattle.lists.proofs.ListLaws.{holdsOf-some}
 use Rattle.lists.proofs.Tests.{eqb-self}

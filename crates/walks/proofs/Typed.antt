@@ -19,9 +19,9 @@ use Rattle.rows.specs.RowWords.{shapedValues, valuesAt}
 use Rattle.form.proofs.FormForward.{forward-item}
 use Rattle.form.specs.FormReader.{cellValue, item, labelledItem, plainItem}
 use Rattle.form.specs.Walks.{itemEndAt, itemsAt}
-use Rattle.index.proofs.ListedLaws.{length-listed}
-use Rattle.index.proofs.TableLaws.{columns-at}
-use Rattle.index.specs.Tables.{Cut, Tables, columnCountIn, columnIn, columnKindIn}
+use Rattle.workspace.proofs.ListedLaws.{length-listed}
+use Rattle.relations.proofs.TableLaws.{columns-at}
+use Rattle.relations.specs.Tables.{Cut, Tables, columnCountIn, columnIn, columnKindIn}
 use Rattle.lists.proofs.Tests.{never, or-left, or-right, true-not-false}
 use Rattle.lists.specs.Lists.{there}
 use Rattle.walks.specs.Walked.{ItemsWalked, typedEnd}

@@ -11,9 +11,9 @@ use Rattle.document.specs.Lookup.{columnsAt}
 use Rattle.document.specs.Policy.{Column, Policy}
 use Rattle.form.proofs.WalkSteps.{item-plain-end, plain-more}
 use Rattle.form.specs.Walks.{plainAt}
-use Rattle.index.proofs.TableLaws.{column-inside}
-use Rattle.index.specs.Rows.{FillingRow, ValueStored}
-use Rattle.index.specs.Tables.{Tables, columnKindIn}
+use Rattle.relations.proofs.TableLaws.{column-inside}
+use Rattle.relations.specs.Rows.{FillingRow, ValueStored}
+use Rattle.relations.specs.Tables.{Tables, columnKindIn}
 use Rattle.walks.proofs.Typed.{ItemsPassed, all-passed, items-turn, none-passed, typed-at, typed-bare, typed-plain}
 use Rattle.walks.specs.Walked.{ValuesTaken, typedEnd}
 use Rattle.stepping.proofs.PlaceLaws.{written-placed}

@@ -11,8 +11,8 @@ use Rattle.document.specs.Meaning.{add}
 use Rattle.document.specs.Policy.{Doc, Node}
 use Rattle.form.specs.Form.{Form, purpose}
 use Rattle.form.specs.FormReader.{formOf}
-use Rattle.index.specs.Hash.{hashOf}
-use Rattle.index.specs.Nodes.{Nodes}
+use Rattle.workspace.specs.Hash.{hashOf}
+use Rattle.principals.specs.Nodes.{Nodes}
 use Rattle.lists.specs.Lists.{findIndex}
 use Rattle.purpose.specs.Members.{limit}
 use Rattle.stepping.specs.Stored.{Passes}

@@ -13,7 +13,7 @@ use Rattle.document.specs.ValueFaults.{plainValues, rowValues}
 use Rattle.form.specs.Form.{Form, Item, Scheme, row}
 use Rattle.form.specs.FormReader.{formOf, item}
 use Rattle.form.specs.Walks.{itemsAt}
-use Rattle.index.specs.Rows.{Rows}
+use Rattle.relations.specs.Rows.{Rows}
 use Rattle.stepping.specs.Stored.{Passes}
 use Rattle.text.specs.Brackets.{many}
 use Rattle.text.specs.Bytes.{ascii}

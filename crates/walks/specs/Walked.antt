@@ -13,7 +13,7 @@ use Rattle.document.specs.TypeFaults.{mistypedValue}
 use Rattle.rows.specs.RowWords.{shapedValues, valuesAt}
 use Rattle.form.specs.FormReader.{item}
 use Rattle.form.specs.Walks.{cellsAt, itemsAt, plainAt}
-use Rattle.index.specs.Rows.{LabelStored, Rows}
+use Rattle.relations.specs.Rows.{LabelStored, Rows}
 use Rattle.lists.specs.Lists.{holdsOf, known, there}
 use Rattle.stepping.specs.Stored.{RowFilled}
 use Rattle.text.specs.Brackets.{many}

@@ -1,22 +1,22 @@
 // A purpose line below another, `(purpose N PARENT)`: read, judged and stored in one walk, in which each name is gone through once,
 // for its end and its hash.
 use crate::lines::closes;
-use index::found::Found;
-use index::layout::PURPOSE_CELLS;
-use index::layout::PURPOSES;
-use index::names::add_purpose;
-use index::names::seek_purpose;
+use principals::names::add_purpose;
+use principals::names::seek_purpose;
 use stepping::places::place;
 use text::bytes::byte_at;
 use text::bytes::is_letter;
 use text::words::is_word;
+use workspace::found::Found;
+use workspace::layout::PURPOSE_CELLS;
+use workspace::layout::PURPOSES;
 ghost use Prim.Native.Nat.{_+_, _<_};
 ghost use lib.ListN.{length};
 ghost use mathlib.Core.Bool.{true};
 ghost use mathlib.Core.Path.{_≡_};
 ghost use Rattle.walks.specs.PurposeLine.{BelowAt, ReadsBelow, TakesPurpose, beginsPurpose};
 ghost use Rattle.document.specs.Policy.{Doc};
-ghost use Rattle.index.specs.Nodes.{Nodes};
+ghost use Rattle.principals.specs.Nodes.{Nodes};
 ghost use Rattle.purpose.specs.Members.{limit};
 ghost use Rattle.stepping.specs.Stored.{LineAt};
 ghost use Rattle.text.specs.Names.{isName};

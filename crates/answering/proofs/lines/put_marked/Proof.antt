@@ -9,7 +9,7 @@ use native.Mathlib.Omega.{arith}
 use Rattle.answering.proofs.LineLaws.{lines-more, lines-start}
 use Rattle.answering.specs.Lines.{linesMarked}
 use Rattle.document.specs.Policy.{Row}
-use Rattle.index.specs.Rows.{Rows}
+use Rattle.relations.specs.Rows.{Rows}
 use Rattle.writing.specs.Write.{Wrote}
 use Rattle.answering.proofs.lines.put_marked.Statement.{statement}
 use Rattle.answering.proofs.lines.put_marked.Tie as tie

@@ -8,8 +8,8 @@ use mathlib.Core.Path.{_∙_, ap, sym}
 use native.Mathlib.Omega.{arith}
 use Rattle.answering.proofs.LineLaws.{sizes-none, spaced-more, spaced-none}
 use Rattle.answering.specs.Lines.{Sizes, spaced}
-use Rattle.index.specs.Listed.{listed}
-use Rattle.index.specs.Rows.{valueIn}
+use Rattle.workspace.specs.Listed.{listed}
+use Rattle.relations.specs.Rows.{valueIn}
 use Rattle.writing.proofs.Writing as w
 use Rattle.answering.proofs.lines.put_values.Statement.{statement}
 use Rattle.answering.proofs.lines.put_values.Tie as tie

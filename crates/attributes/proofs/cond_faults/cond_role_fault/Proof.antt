@@ -15,11 +15,11 @@ use Rattle.document.specs.TypeFaults.{wrongType}
 use Rattle.attributes.proofs.CondLineLaws.{cond-form, cond-late, cond-many, cond-new, cond-room, cond-root, cond-taken, cond-values, cond-wide, not-both, read-there, role-unknown, stored-count, stored-many, stored-near, stored-over, types-stored, unknown-stored}
 use Rattle.stepping.proofs.Judging.{judge-bound, judge-fine, judge-taken, judge-type, judge-unknown}
 use Rattle.stepping.specs.Places.{Near}
-use Rattle.index.proofs.IndexLaws.{conds-length}
-use Rattle.index.specs.Attributes.{Attributes}
-use Rattle.index.specs.CondRoles.{CondRoles}
-use Rattle.index.specs.Found.{foundAs}
-use Rattle.index.specs.Nodes.{Nodes}
+use Rattle.principals.proofs.IndexLaws.{conds-length}
+use Rattle.principals.specs.Attributes.{Attributes}
+use Rattle.principals.specs.CondRoles.{CondRoles}
+use Rattle.workspace.specs.Found.{foundAs}
+use Rattle.principals.specs.Nodes.{Nodes}
 use Rattle.text.specs.CodeEnds.{offendingOf}
 use Rattle.text.specs.Reader.{Left, from}
 use Rattle.text.specs.Words.{wordOf}

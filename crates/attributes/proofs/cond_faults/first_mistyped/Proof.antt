@@ -12,7 +12,7 @@ use Rattle.condition.specs.CondForm.{mistyped}
 use Rattle.document.specs.Lookup.{attributeKind}
 use Rattle.document.specs.Policy.{Policy}
 use Rattle.attributes.proofs.CondLineLaws.{mistyped-near}
-use Rattle.index.specs.Attributes.{Attributes}
+use Rattle.principals.specs.Attributes.{Attributes}
 use Rattle.text.proofs.FirstOffending.{first-of, none-of}
 use Rattle.text.specs.CodeEnds.{offendingOf}
 use Rattle.text.specs.Walking.{nextWord}

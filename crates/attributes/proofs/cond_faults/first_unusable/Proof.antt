@@ -10,8 +10,8 @@ use mathlib.Core.Path.{_∙_, _≡_, ap, sym}
 use native.Mathlib.Omega.{arith}
 use Rattle.document.specs.NameFaults.{usableFor}
 use Rattle.document.specs.Policy.{Policy}
-use Rattle.index.specs.Attributes.{Attributes}
-use Rattle.index.specs.Nodes.{Nodes}
+use Rattle.principals.specs.Attributes.{Attributes}
+use Rattle.principals.specs.Nodes.{Nodes}
 use Rattle.text.proofs.FirstOffending.{first-missing, none-missing}
 use Rattle.text.proofs.WalkingLaws.{next-within}
 use Rattle.text.specs.Walking.{nextWord}

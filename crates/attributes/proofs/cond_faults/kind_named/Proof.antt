@@ -5,8 +5,8 @@ use mathlib.Core.Path.{_∙_, _≡_, ap, sym}
 use Rattle.document.specs.Lookup.{attributeOf}
 use Rattle.document.specs.Policy.{Policy}
 use Rattle.attributes.proofs.CondLineLaws.{kind-none, kind-there, named, named-none}
-use Rattle.index.specs.Attributes.{Attributes}
-use Rattle.index.specs.Found.{foundAs}
+use Rattle.principals.specs.Attributes.{Attributes}
+use Rattle.workspace.specs.Found.{foundAs}
 use Rattle.text.specs.Words.{wordOf}
 use Rattle.attributes.proofs.cond_faults.kind_named.Statement.{statement}
 use Rattle.attributes.proofs.cond_faults.kind_named.Tie as tie

@@ -5,8 +5,8 @@ use mathlib.Core.Path.{_∙_, _≡_, ap, sym}
 use Rattle.document.specs.Lookup.{attributeOf}
 use Rattle.document.specs.Policy.{Policy}
 use Rattle.attributes.proofs.CondLineLaws.{named, named-none, usable-clock, usable-none, usable-role}
-use Rattle.index.specs.Attributes.{Attributes}
-use Rattle.index.specs.Found.{foundAs}
+use Rattle.principals.specs.Attributes.{Attributes}
+use Rattle.workspace.specs.Found.{foundAs}
 use Rattle.text.specs.Words.{wordOf}
 use Rattle.attributes.proofs.cond_faults.usable.Statement.{statement}
 use Rattle.attributes.proofs.cond_faults.usable.Tie as tie

@@ -4,7 +4,7 @@ use native.Mathlib.Omega.{arith}
 use borrow.Author.Needs.{needs}
 use Rattle.stepping.proofs.Growing.{grow-attr}
 use Rattle.stepping.proofs.Judgements.{follows-fails, follows-goes, has-room, passes, refuses}
-use Rattle.index.proofs.IndexLaws.{users-length}
+use Rattle.principals.proofs.IndexLaws.{users-length}
 use Rattle.attributes.proofs.steps.step_attr.Statement.{statement}
 use Rattle.attributes.proofs.steps.step_attr.Tie as tie
 

@@ -11,7 +11,7 @@ use Rattle.authority.proofs.HeldLaws.{role-short, roles-held, truths-mo
 use Rattle.authority.specs.Held.{Told, conditionHolds}
 use Rattle.condition.specs.Cond.{comparisons}
 use Rattle.document.specs.Policy.{CondRole, Policy, User}
-use Rattle.index.specs.CondRoles.{CondRoles, condRoleIn}
+use Rattle.principals.specs.CondRoles.{CondRoles, condRoleIn}
 use Rattle.query.specs.HostClock.{clockOf}
 use Rattle.authority.proofs.belonging.fill_held.Statement.{statement}
 use Rattle.authority.proofs.belonging.fill_held.Tie as tie

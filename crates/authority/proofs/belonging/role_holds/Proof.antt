@@ -5,7 +5,7 @@ use native.Mathlib.Omega.{arith}
 use Rattle.authority.proofs.HeldLaws.{role-few, role-is, role-read, role-reads}
 use Rattle.authority.specs.Held.{comparisonHolds}
 use Rattle.condition.specs.Cond.{comparisons, holds}
-use Rattle.index.specs.CondRoles.{attributesKnown}
+use Rattle.principals.specs.CondRoles.{attributesKnown}
 use Rattle.query.specs.HostClock.{clockOf}
 use borrow.Author.Needs.{needs}
 use Rattle.authority.proofs.belonging.role_holds.Statement.{statement}

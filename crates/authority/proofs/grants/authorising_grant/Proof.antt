@@ -1,7 +1,7 @@
 -- `authority::grants::authorising_grant` meets its contract. Assumes nothing.
 use mathlib.Core.Path.{_∙_}
 use Rattle.authority.proofs.ActingLaws.{first-for, role-of, user-at, values-of}
-use Rattle.index.specs.Users.{userIn}
+use Rattle.principals.specs.Users.{userIn}
 use Rattle.query.specs.HostClock.{clockOf}
 use borrow.Author.Needs.{needs}
 use Rattle.authority.proofs.grants.authorising_grant.Statement.{statement}

@@ -10,10 +10,10 @@ use mathlib.Core.Path.{_∙_, _≡_, ap, refl, subst, sym}
 use native.Mathlib.Omega.{arith}
 use Rattle.authority.proofs.GrantingLaws.{Told, all-so, no-holding, no-purpose, no-role, none-found, one-found, passes, told}
 use Rattle.document.specs.Policy.{Node, treeOf}
-use Rattle.index.proofs.NodeLaws.{way-ends, way-here, way-up}
-use Rattle.index.specs.Found.{foundAs}
-use Rattle.index.specs.Nodes.{Nodes}
-use Rattle.index.specs.declared.found.Found.the-variants as variant
+use Rattle.principals.proofs.NodeLaws.{way-ends, way-here, way-up}
+use Rattle.workspace.specs.Found.{foundAs}
+use Rattle.principals.specs.Nodes.{Nodes}
+use Rattle.workspace.specs.declared.found.Found.the-variants as variant
 use Rattle.purpose.specs.Compliance.{descends, parent}
 use Rattle.authority.proofs.grants.first_grant.Statement.{statement}
 use Rattle.authority.proofs.grants.first_grant.Tie as tie

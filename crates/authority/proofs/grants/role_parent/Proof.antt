@@ -5,7 +5,7 @@ use lib.ListN.{List·getD-eq-default}
 use mathlib.Core.Path.{subst, sym}
 use native.Mathlib.Omega.{arith}
 use Rattle.document.specs.Policy.{treeOf}
-use Rattle.index.proofs.NodeLaws.{tree-length, tree-parent}
+use Rattle.principals.proofs.NodeLaws.{tree-length, tree-parent}
 use Rattle.authority.proofs.grants.role_parent.Statement.{statement}
 use Rattle.authority.proofs.grants.role_parent.Tie as tie
 

@@ -1,6 +1,6 @@
 -- `authority::values::attribute_number` meets its contract. Assumes nothing.
 use Rattle.document.specs.Lookup.{attributeOf}
-use Rattle.index.specs.Found.{foundAs}
+use Rattle.workspace.specs.Found.{foundAs}
 use Rattle.lists.specs.Lists.{known}
 use mathlib.Core.Path.{_∙_, ap, sym}
 use borrow.Author.Needs.{needs}

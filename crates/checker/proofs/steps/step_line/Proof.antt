@@ -8,7 +8,7 @@ use native.Mathlib.Omega.{arith}
 use Rattle.stepping.proofs.Growing.{grow-row, keep-rows}
 use Rattle.stepping.proofs.Judgements.{follows-goes, line-form}
 use Rattle.document.specs.Policy.{Doc}
-use Rattle.index.specs.Rows.{Rows}
+use Rattle.relations.specs.Rows.{Rows}
 use Rattle.walks.specs.Taken.{RowTaken, TakesRow}
 use Rattle.checker.proofs.steps.step_line.Statement.{statement}
 use Rattle.checker.proofs.steps.step_line.Tie as tie

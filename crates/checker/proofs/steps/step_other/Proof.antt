@@ -9,7 +9,7 @@ use Rattle.stepping.proofs.Growing.{grow-purpose, keep-purposes}
 use Rattle.stepping.proofs.Judgements.{follows-goes, line-form}
 use Rattle.walks.specs.PurposeLine.{PurposeTaken, TakesPurpose}
 use Rattle.document.specs.Policy.{Doc}
-use Rattle.index.specs.Nodes.{Nodes}
+use Rattle.principals.specs.Nodes.{Nodes}
 use Rattle.purpose.specs.Members.{limit}
 use Rattle.checker.proofs.steps.step_other.Statement.{statement}
 use Rattle.checker.proofs.steps.step_other.Tie as tie

@@ -8,8 +8,8 @@ use native.Mathlib.Omega.{arith}
 use Rattle.judging.proofs.OpenCells.{any-found, any-more, any-none}
 use Rattle.judging.specs.Judging.{openIn}
 use Rattle.document.specs.Policy.{Policy}
-use Rattle.index.specs.Labels.{Opened}
-use Rattle.index.specs.Rows.{labelCountIn}
+use Rattle.relations.specs.Labels.{Opened}
+use Rattle.relations.specs.Rows.{labelCountIn}
 use Rattle.lists.specs.Lists.{anyOf}
 use Rattle.judging.proofs.fates.any_closed.Statement.{statement}
 use Rattle.judging.proofs.fates.any_closed.Tie as tie

@@ -3,7 +3,7 @@ use Prim.Native.Nat.{_-_, _≤_, ℕ}
 use Rattle.judging.proofs.FateLaws.{Fewer, fewer-more, judged-more, judged-none}
 use Rattle.judging.specs.Judging.{JudgedTo, Judgeable}
 use Rattle.document.specs.Policy.{Doc}
-use Rattle.index.specs.Rows.{rowIn}
+use Rattle.relations.specs.Rows.{rowIn}
 use Rattle.query.specs.Query.{Query}
 use borrow.Author.Needs.{needs}
 use lib.ListN.{length, length-set}

@@ -3,7 +3,7 @@ use borrow.Author.Needs.{needs}
 use mathlib.Core.Path.{_∙_, ap, sym}
 use Rattle.document.specs.Lookup.{hasAttribute}
 use Rattle.document.specs.Policy.{treeOf}
-use Rattle.index.specs.Found.{foundAs}
+use Rattle.workspace.specs.Found.{foundAs}
 use Rattle.lists.specs.Lists.{holdsOf}
 use Rattle.purpose.specs.Compliance.{descends}
 use Rattle.members.proofs.givens.attribute_of_role.Statement.{statement}

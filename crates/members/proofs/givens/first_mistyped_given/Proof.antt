@@ -10,7 +10,7 @@ use native.Mathlib.Omega.{arith}
 use Rattle.document.specs.Policy.{Policy}
 use Rattle.members.proofs.GivenLaws.{mistypedGiven, pair-less, second-near, space-here, typed-here, typed-onward, typed-over}
 use Rattle.form.specs.Walks.{givensAt}
-use Rattle.index.specs.Attributes.{Attributes}
+use Rattle.principals.specs.Attributes.{Attributes}
 use Rattle.text.specs.Offending.{leftmost}
 use Rattle.members.proofs.givens.first_mistyped_given.Statement.{statement}
 use Rattle.members.proofs.givens.first_mistyped_given.Tie as tie

@@ -9,7 +9,7 @@ use native.Mathlib.Omega.{arith}
 use Rattle.document.specs.Lookup.{attributeOf}
 use Rattle.document.specs.Policy.{Policy}
 use Rattle.members.proofs.GivenLaws.{first-near, givenNames, missing-found, missing-onward, missing-over, pair-less, space-here}
-use Rattle.index.specs.Attributes.{Attributes}
+use Rattle.principals.specs.Attributes.{Attributes}
 use Rattle.lists.specs.Lists.{there}
 use Rattle.text.specs.Offending.{missing}
 use Rattle.members.proofs.givens.first_unknown_given.Statement.{statement}

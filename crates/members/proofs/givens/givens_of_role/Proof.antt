@@ -9,8 +9,8 @@ use native.Mathlib.Omega.{arith}
 use Rattle.document.specs.Policy.{Policy}
 use Rattle.document.specs.ValueFaults.{isAttributeOf}
 use Rattle.members.proofs.GivenLaws.{all-here, all-onward, all-over, givenNames, pair-less, space-here}
-use Rattle.index.specs.Attributes.{Attributes}
-use Rattle.index.specs.Nodes.{Nodes}
+use Rattle.principals.specs.Attributes.{Attributes}
+use Rattle.principals.specs.Nodes.{Nodes}
 use Rattle.lists.specs.Lists.{allOf}
 use Rattle.members.proofs.givens.givens_of_role.Statement.{statement}
 use Rattle.members.proofs.givens.givens_of_role.Tie as tie

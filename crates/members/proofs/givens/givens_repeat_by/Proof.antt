@@ -9,8 +9,8 @@ use mathlib.Core.Path.{_∙_, _≡_, ap, refl, sym}
 use native.Mathlib.Omega.{arith}
 use Rattle.members.proofs.GivenLaws.{givenNames, pair-less, repeats-here, repeats-onward, repeats-over, rest-onward, space-here, tests-onward}
 use Rattle.form.proofs.WalkSteps.{pair-after}
-use Rattle.index.proofs.MetLaws.{met-none}
-use Rattle.index.specs.Met.{Met}
+use Rattle.workspace.proofs.MetLaws.{met-none}
+use Rattle.workspace.specs.Met.{Met}
 use Rattle.lists.proofs.Tests.{not-false}
 use Rattle.lists.specs.Lists.{anyOf, there}
 use Rattle.text.specs.Offending.{repeated, repeatedAfter}

@@ -3,7 +3,7 @@ use borrow.Author.Needs.{needs}
 use mathlib.Core.Path.{_∙_, ap, sym}
 use Rattle.document.specs.Lookup.{attributeOf}
 use Rattle.members.proofs.GivenLaws.{of-role-at, of-role-none}
-use Rattle.index.specs.Found.{foundAs}
+use Rattle.workspace.specs.Found.{foundAs}
 use Rattle.text.specs.Words.{wordOf}
 use Rattle.members.proofs.givens.names_attribute_of.Statement.{statement}
 use Rattle.members.proofs.givens.names_attribute_of.Tie as tie

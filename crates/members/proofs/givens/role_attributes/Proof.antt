@@ -8,8 +8,8 @@ use mathlib.Core.Path.{_∙_, _≡_, ap, sym}
 use native.Mathlib.Omega.{arith}
 use Rattle.document.specs.Policy.{Policy}
 use Rattle.members.proofs.GivenLaws.{held-all, held-at, held-more, held-none, held-same, heldOf}
-use Rattle.index.specs.Attributes.{Attributes, attributeIn}
-use Rattle.index.specs.Nodes.{Nodes}
+use Rattle.principals.specs.Attributes.{Attributes, attributeIn}
+use Rattle.principals.specs.Nodes.{Nodes}
 use Rattle.members.proofs.givens.role_attributes.Statement.{statement}
 use Rattle.members.proofs.givens.role_attributes.Tie as tie
 

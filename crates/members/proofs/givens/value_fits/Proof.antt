@@ -3,7 +3,7 @@ use Rattle.condition.specs.Answers.{kindOf}
 use Rattle.condition.specs.Kinds.{hasKind}
 use Rattle.document.specs.Lookup.{attributeOf}
 use Rattle.members.proofs.GivenLaws.{kind-at, kind-none}
-use Rattle.index.specs.Found.{foundAs}
+use Rattle.workspace.specs.Found.{foundAs}
 use Rattle.text.specs.Words.{wordAt, wordOf}
 use mathlib.Core.Path.{_∙_, ap, sym}
 use borrow.Author.Needs.{needs}

@@ -7,7 +7,7 @@ use Rattle.document.specs.Lookup.{roleOf}
 use Rattle.members.proofs.UserFaults.{user-attribute, user-fine, user-no-role, user-over, user-twice, user-type, user-values, users-length}
 use Rattle.stepping.specs.Places.{Near}
 use Rattle.form.specs.Walks.{givensAt}
-use Rattle.index.specs.Found.{foundAs}
+use Rattle.workspace.specs.Found.{foundAs}
 use Rattle.lists.specs.Lists.{there}
 use Rattle.text.specs.CodeEnds.{offendingOf}
 use Rattle.text.specs.Words.{wordOf}

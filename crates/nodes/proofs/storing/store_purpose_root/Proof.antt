@@ -1,7 +1,7 @@
 -- `nodes::storing::store_purpose_root` meets its contract: a root is its own parent. Assumes nothing.
 use mathlib.Core.Option.{none, bind}
 use mathlib.Core.Path.{_∙_, ap, refl, sym}
-use Rattle.index.proofs.IndexLaws.{nodes-length}
+use Rattle.principals.proofs.IndexLaws.{nodes-length}
 use Rattle.stepping.proofs.NamedLaws.{hash-placed, purpose-stored}
 use borrow.Author.Needs.{needs}
 use Rattle.nodes.proofs.storing.store_purpose_root.Statement.{statement}

@@ -7,8 +7,8 @@ use mathlib.Core.Path.{_∙_, _≡_, ap, refl, sym}
 use native.Mathlib.Omega.{arith}
 use Rattle.document.specs.Lookup.{columnsAt}
 use Rattle.document.specs.Policy.{Policy}
-use Rattle.index.specs.Found.{foundAs}
-use Rattle.index.specs.Tables.{Tables}
+use Rattle.workspace.specs.Found.{foundAs}
+use Rattle.relations.specs.Tables.{Tables}
 use Rattle.resolving.proofs.Resolving.{Resolving, resolving-done, resolving-more, resolving-start, resolving-stop}
 use Rattle.resolving.proofs.TableReads.{column-read}
 use Rattle.text.specs.Words.{wordOf}

@@ -1,7 +1,7 @@
 -- `resolving::openness::closed_column` meets its contract: only labels by column close a column. Assumes nothing.
 use mathlib.Core.Path.{_∙_, refl, sym}
 use Rattle.document.specs.Open.{columnOpen}
-use Rattle.index.specs.Tables.{schemeBy}
+use Rattle.relations.specs.Tables.{schemeBy}
 use Rattle.text.proofs.OffendingLaws.{missing-all}
 use Rattle.form.specs.declared.lines.Scheme.the-variants as code
 use Rattle.query.specs.Naming.{wordsAt}

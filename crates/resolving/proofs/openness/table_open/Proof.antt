@@ -2,8 +2,8 @@
 use mathlib.Core.Option.{some}
 use mathlib.Core.Path.{_∙_, ap, sym}
 use Rattle.document.specs.Open.{labelOpen, tableOpen}
-use Rattle.index.proofs.TableLaws.{table-inside}
-use Rattle.index.specs.Tables.{schemeBy}
+use Rattle.relations.proofs.TableLaws.{table-inside}
+use Rattle.relations.specs.Tables.{schemeBy}
 use Rattle.form.specs.declared.lines.Scheme.the-variants as code
 use Rattle.resolving.proofs.OpennessLaws.{table-by}
 use borrow.Author.Needs.{needs}

@@ -1,8 +1,8 @@
 -- `resolving::parties::find_parties` meets its contract: the first lookup that finds nothing decides.
 -- Assumes nothing.
 use Rattle.document.specs.Lookup.{purposeOf, roleOf}
-use Rattle.index.proofs.UserLaws.{userOf-known}
-use Rattle.index.specs.Found.{FoundBelow, foundAs}
+use Rattle.principals.proofs.UserLaws.{userOf-known}
+use Rattle.workspace.specs.Found.{FoundBelow, foundAs}
 use Rattle.resolving.proofs.PartyLaws.{parties-known, purpose-unknown, role-missing, role-unknown, user-unknown}
 use Rattle.text.specs.Words.{wordOf}
 use borrow.Author.Needs.{needs}

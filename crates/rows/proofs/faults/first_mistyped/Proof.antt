@@ -13,8 +13,8 @@ use Rattle.document.specs.Policy.{Policy}
 use Rattle.document.specs.TypeFaults.{mistypedValue}
 use Rattle.rows.specs.RowWords.{valuesAt}
 use Rattle.form.specs.Walks.{firstIn}
-use Rattle.index.proofs.TableLaws.{width-read}
-use Rattle.index.specs.Tables.{Tables}
+use Rattle.relations.proofs.TableLaws.{width-read}
+use Rattle.relations.specs.Tables.{Tables}
 use Rattle.text.proofs.Spaces.{space-here}
 use Rattle.text.proofs.WalkingLaws.{past-within}
 use Rattle.rows.proofs.RowChecks.{no-columns-left, no-values-left, types-here, types-on}

@@ -15,7 +15,7 @@ use Rattle.rows.specs.RowWords.{labelAt}
 use Rattle.form.proofs.WalkLaws.{cell-label}
 use Rattle.form.proofs.WalkSteps.{item-after, item-inside}
 use Rattle.form.specs.Walks.{firstIn, itemsAt, secondIn}
-use Rattle.index.specs.Labels.{Labels}
+use Rattle.relations.specs.Labels.{Labels}
 use Rattle.lists.specs.Lists.{there}
 use Rattle.text.proofs.Spaces.{space-here}
 use Rattle.text.proofs.WalkingLaws.{next-within, past-within}

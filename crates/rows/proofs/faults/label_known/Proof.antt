@@ -4,7 +4,7 @@ use lib.ListN.{getD}
 use mathlib.Core.Bool.{false, true}
 use mathlib.Core.Path.{_∙_, ap, sym}
 use Rattle.document.specs.Lookup.{labelOf}
-use Rattle.index.specs.Found.{foundAs}
+use Rattle.workspace.specs.Found.{foundAs}
 use Rattle.lists.specs.Lists.{there}
 use Rattle.text.specs.Words.{wordOf}
 use Rattle.rows.proofs.RowChecks.{bracket-known, plain-known}

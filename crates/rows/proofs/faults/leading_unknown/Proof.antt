@@ -6,7 +6,7 @@ use mathlib.Core.Path.{_∙_, ap, refl, sym}
 use native.Mathlib.Omega.{arith}
 use Rattle.document.proofs.RowItems.{led-name}
 use Rattle.document.specs.Lookup.{labelOf}
-use Rattle.index.specs.Found.{foundAs}
+use Rattle.workspace.specs.Found.{foundAs}
 use Rattle.lists.specs.Lists.{there}
 use Rattle.text.proofs.OffendingLaws.{missing-nil}
 use Rattle.text.proofs.Spaces.{space-here}

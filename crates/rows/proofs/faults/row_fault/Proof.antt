@@ -4,7 +4,7 @@ use borrow.Author.Tests.{not-false, not-true}
 use mathlib.Core.Path.{_∙_, ap, sym}
 use Rattle.document.specs.Lookup.{tableOf}
 use Rattle.form.specs.Walks.{itemsAt}
-use Rattle.index.specs.Found.{foundAs}
+use Rattle.workspace.specs.Found.{foundAs}
 use Rattle.stepping.proofs.NearLaws.{place-near}
 use Rattle.text.specs.Words.{wordOf}
 use Rattle.rows.proofs.RowJudging.{found-fine, found-misfit, found-mistyped, found-unknown, row-no-table, row-over}

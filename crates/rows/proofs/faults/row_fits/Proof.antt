@@ -3,7 +3,7 @@ use mathlib.Core.Path.{_∙_, ap, sym}
 use Rattle.document.specs.ValueFaults.{rowValues}
 use Rattle.rows.specs.RowWords.{shapedValues}
 use Rattle.form.specs.Walks.{itemsAt}
-use Rattle.index.specs.Tables.{schemeBy}
+use Rattle.relations.specs.Tables.{schemeBy}
 use Rattle.rows.proofs.RowItems.{width-fits}
 use borrow.Author.Needs.{needs}
 use Rattle.rows.proofs.faults.row_fits.Statement.{statement}

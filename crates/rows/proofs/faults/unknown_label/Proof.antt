@@ -3,7 +3,7 @@ use mathlib.Core.Path.{_∙_, ap, sym}
 use Rattle.document.specs.Lookup.{labelOf}
 use Rattle.document.specs.NameFaults.{rowLabels}
 use Rattle.form.specs.Walks.{itemsAt}
-use Rattle.index.specs.Tables.{schemeBy}
+use Rattle.relations.specs.Tables.{schemeBy}
 use Rattle.lists.specs.Lists.{there}
 use Rattle.text.proofs.OffendingLaws.{missing-nil}
 use Rattle.text.specs.Offending.{missing}

@@ -4,7 +4,7 @@ use mathlib.Core.Path.{_∙_, ap, sym}
 use Rattle.document.specs.ValueFaults.{rowValues}
 use Rattle.rows.specs.RowWords.{shapedValues}
 use Rattle.form.specs.Walks.{itemsAt}
-use Rattle.index.specs.Tables.{schemeBy}
+use Rattle.relations.specs.Tables.{schemeBy}
 use Rattle.rows.proofs.RowItems.{shaped-at}
 use borrow.Author.Needs.{needs}
 use Rattle.rows.proofs.faults.values_start.Statement.{statement}

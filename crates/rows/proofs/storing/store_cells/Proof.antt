@@ -12,7 +12,7 @@ use Rattle.document.specs.Lookup.{labelOf}
 use Rattle.document.specs.Policy.{Policy}
 use Rattle.form.proofs.WalkSteps.{cell-after, cells-stop}
 use Rattle.form.specs.Walks.{cellsAt}
-use Rattle.index.specs.Labels.{Labels}
+use Rattle.relations.specs.Labels.{Labels}
 use Rattle.lists.specs.Lists.{known}
 use Rattle.rows.proofs.RowTurns.{Rowed, cell-turn, rowed-all, rowed-none}
 use Rattle.rows.proofs.storing.store_cells.Statement.{statement}

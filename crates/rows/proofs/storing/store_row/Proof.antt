@@ -4,7 +4,7 @@ use Rattle.document.specs.Lookup.{tableOf}
 use Rattle.document.specs.NameFaults.{rowLabels}
 use Rattle.document.specs.ValueFaults.{rowValues}
 use Rattle.form.specs.Walks.{itemsAt}
-use Rattle.index.specs.Tables.{schemeBy}
+use Rattle.relations.specs.Tables.{schemeBy}
 use Rattle.form.specs.declared.lines.Scheme.the-variants as code
 use Rattle.lists.specs.Lists.{known}
 use Rattle.rows.proofs.RowStored.{row-fits, row-stored}

@@ -8,7 +8,7 @@ use native.Mathlib.Omega.{arith}
 use Rattle.document.specs.Lookup.{purposeOf}
 use Rattle.document.specs.Policy.{Policy}
 use Rattle.form.proofs.WalkSteps.{word-after}
-use Rattle.index.specs.Nodes.{Nodes}
+use Rattle.principals.specs.Nodes.{Nodes}
 use Rattle.lists.specs.Lists.{known}
 use Rattle.purpose.specs.Members.{limit}
 use Rattle.tables.proofs.SetLaws.{Gathered, found-small, gathered-all, gathered-more, gathered-none}

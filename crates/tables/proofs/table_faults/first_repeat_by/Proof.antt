@@ -11,8 +11,8 @@ use native.Mathlib.Omega.{arith}
 use Rattle.tables.proofs.TableLineLaws.{Passing, bracket-after, columnNames, first-within, names-by-more, names-by-stop, passing-end, passing-found, passing-more, passing-start, passing-tests}
 use Rattle.tables.specs.TableLine.{bracketEndBy, columnsBy}
 use Rattle.form.specs.Walks.{firstIn}
-use Rattle.index.proofs.MetLaws.{met-none}
-use Rattle.index.specs.Met.{Met}
+use Rattle.workspace.proofs.MetLaws.{met-none}
+use Rattle.workspace.specs.Met.{Met}
 use Rattle.lists.proofs.Tests.{not-false}
 use Rattle.lists.specs.Lists.{anyOf}
 use Rattle.text.proofs.Spaces.{space-here}

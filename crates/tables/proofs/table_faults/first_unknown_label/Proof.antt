@@ -10,7 +10,7 @@ use native.Mathlib.Omega.{arith}
 use Rattle.document.specs.Policy.{Label}
 use Rattle.tables.proofs.TableLineLaws.{bracket-after, labels-found, labels-next, labels-stop, third-within}
 use Rattle.form.specs.Walks.{columnLabelsAt}
-use Rattle.index.specs.Labels.{Labels}
+use Rattle.relations.specs.Labels.{Labels}
 use Rattle.lists.specs.Lists.{findIndex, there}
 use Rattle.lists.proofs.Tests.{not-false}
 use borrow.Author.Tests.{not-true}

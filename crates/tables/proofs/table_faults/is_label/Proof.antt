@@ -1,7 +1,7 @@
 -- `tables::table_faults::is_label` meets its contract. Assumes nothing.
 use borrow.Author.Needs.{needs}
 use mathlib.Core.Path.{_∙_, ap, sym}
-use Rattle.index.specs.Found.{foundAs}
+use Rattle.workspace.specs.Found.{foundAs}
 use Rattle.lists.specs.Lists.{there}
 use Rattle.tables.proofs.table_faults.is_label.Statement.{statement}
 use Rattle.tables.proofs.table_faults.is_label.Tie as tie

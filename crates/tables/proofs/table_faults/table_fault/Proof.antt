@@ -13,9 +13,9 @@ use Rattle.stepping.proofs.Judging.{judge-bound, judge-fine, judge-taken, judge
 use Rattle.tables.proofs.TableLineLaws.{columnNames, columns-words, fine-apart, table-again, table-late, table-many, table-room, table-root, table-taken, table-type, table-unknown, table-values, table-wide}
 use Rattle.stepping.specs.Places.{Near}
 use Rattle.tables.specs.TableLine.{columnsBy}
-use Rattle.index.proofs.TableLaws.{tables-counted}
-use Rattle.index.specs.Found.{foundAs}
-use Rattle.index.specs.Tables.{Tables}
+use Rattle.relations.proofs.TableLaws.{tables-counted}
+use Rattle.workspace.specs.Found.{foundAs}
+use Rattle.relations.specs.Tables.{Tables}
 use Rattle.form.specs.TableWords.{columnWords, tableLine}
 use Rattle.text.specs.CodeEnds.{offendingOf}
 use Rattle.text.specs.Offending.{repeated}

@@ -11,7 +11,7 @@ use Rattle.document.specs.Meaning.{columnMeant}
 use Rattle.document.specs.Policy.{Policy}
 use Rattle.form.proofs.WalkSteps.{column-labels-stop, labelled-columns-stop, triple-after}
 use Rattle.form.specs.Walks.{columnLabelsAt, labelledColumnsAt}
-use Rattle.index.specs.Labels.{Labels}
+use Rattle.relations.specs.Labels.{Labels}
 use Rattle.lists.specs.Lists.{known}
 use Rattle.stepping.proofs.ColumnLaws.{Columned, columned-all, columned-none, labelled-turn, triple-ends}
 use Rattle.stepping.specs.Stored.{LineAt}

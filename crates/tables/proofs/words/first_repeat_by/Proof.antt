@@ -9,8 +9,8 @@ use mathlib.Core.Path.{_∙_, _≡_, refl, sym}
 use native.Mathlib.Omega.{arith}
 use Rattle.tables.proofs.NameWalks.{Repeats, repeats-here, repeats-more, repeats-on, repeats-start, repeats-stop}
 use Rattle.form.specs.Walks.{namesAt}
-use Rattle.index.proofs.MetLaws.{met-none}
-use Rattle.index.specs.Met.{Met}
+use Rattle.workspace.proofs.MetLaws.{met-none}
+use Rattle.workspace.specs.Met.{Met}
 use Rattle.lists.proofs.Tests.{not-false}
 use Rattle.lists.specs.Lists.{anyOf}
 use Rattle.text.proofs.Spaces.{space-here}

@@ -11,7 +11,7 @@ use Rattle.stepping.proofs.FoundLaws.{found-absent, found-there}
 use Rattle.tables.proofs.NameWalks.{unknown-here, unknown-on, unknown-stop}
 use Rattle.nodes.proofs.NodeFaults.{isNode}
 use Rattle.form.specs.Walks.{namesAt}
-use Rattle.index.specs.Nodes.{Nodes}
+use Rattle.principals.specs.Nodes.{Nodes}
 use Rattle.purpose.specs.Members.{limit}
 use Rattle.text.proofs.Spaces.{space-here}
 use Rattle.text.specs.Offending.{missing}

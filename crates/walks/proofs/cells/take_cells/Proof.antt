@@ -9,8 +9,8 @@ use native.Mathlib.Omega.{arith}
 use Rattle.condition.specs.Answers.{kindOf}
 use Rattle.document.specs.Lookup.{columnsAt}
 use Rattle.document.specs.Policy.{Policy}
-use Rattle.index.specs.Labels.{Labels}
-use Rattle.index.specs.Tables.{Tables}
+use Rattle.relations.specs.Labels.{Labels}
+use Rattle.relations.specs.Tables.{Tables}
 use Rattle.walks.proofs.CellTurns.{CellsPassed, all-cells-passed, cells-turn, label-at, no-cells-passed}
 use Rattle.walks.specs.Walked.{KeepsRows}
 use Rattle.stepping.specs.Stored.{LineAt}

@@ -3,7 +3,7 @@ use borrow.Author.Needs.{needs}
 use mathlib.Core.Path.{_∙_, ap, sym}
 use native.Mathlib.Omega.{arith}
 use Rattle.document.specs.Lookup.{labelOf}
-use Rattle.index.specs.Found.{foundAs}
+use Rattle.workspace.specs.Found.{foundAs}
 use Rattle.walks.proofs.CellTurns.{label-taken}
 use Rattle.text.proofs.Spaces.{space-here}
 use Rattle.walks.proofs.cells.take_label.Statement.{statement}

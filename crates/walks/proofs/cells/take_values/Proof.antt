@@ -9,8 +9,8 @@ use native.Mathlib.Omega.{arith}
 use Rattle.condition.specs.Answers.{kindOf}
 use Rattle.document.specs.Lookup.{columnsAt}
 use Rattle.document.specs.Policy.{Policy}
-use Rattle.index.specs.Rows.{FillingRow}
-use Rattle.index.specs.Tables.{Tables}
+use Rattle.relations.specs.Rows.{FillingRow}
+use Rattle.relations.specs.Tables.{Tables}
 use Rattle.walks.proofs.ValueTurns.{ValuesPassed, all-values-passed, no-values-passed, values-turn}
 use Rattle.walks.specs.Walked.{KeepsRows}
 use Rattle.stepping.specs.Stored.{LineAt}

@@ -4,7 +4,7 @@ use borrow.Author.Needs.{needs}
 use borrow.Author.Tests.{not-false}
 use mathlib.Core.Path.{_∙_, subst, sym}
 use Rattle.document.specs.Lookup.{columnsAt}
-use Rattle.index.proofs.TableLaws.{width-read}
+use Rattle.relations.proofs.TableLaws.{width-read}
 use Rattle.walks.proofs.RowsTaken.{cells-taken}
 use Rattle.walks.specs.Walked.{CellsWalked}
 use Rattle.walks.proofs.lines.take_labelled.Statement.{statement}

@@ -6,8 +6,8 @@ use mathlib.Core.List.{List, [], _∷_}
 use mathlib.Core.Path.{_∙_, subst, sym}
 use native.Mathlib.Omega.{arith}
 use Rattle.document.specs.Lookup.{columnsAt, labelOf}
-use Rattle.index.proofs.RowLaws.{row-empty}
-use Rattle.index.proofs.TableLaws.{width-read}
+use Rattle.relations.proofs.RowLaws.{row-empty}
+use Rattle.relations.proofs.TableLaws.{width-read}
 use Rattle.lists.specs.Lists.{known}
 use Rattle.walks.proofs.RowsTaken.{led-taken}
 use Rattle.walks.specs.Walked.{LabelWalked, ValuesWalked}

@@ -5,8 +5,8 @@ use borrow.Author.Tests.{not-false}
 use mathlib.Core.List.{[]}
 use mathlib.Core.Path.{_∙_, subst, sym}
 use Rattle.document.specs.Lookup.{columnsAt}
-use Rattle.index.proofs.RowLaws.{row-empty}
-use Rattle.index.proofs.TableLaws.{width-read}
+use Rattle.relations.proofs.RowLaws.{row-empty}
+use Rattle.relations.proofs.TableLaws.{width-read}
 use Rattle.walks.proofs.RowsTaken.{plain-taken}
 use Rattle.walks.specs.Walked.{ValuesWalked}
 use Rattle.walks.proofs.lines.take_plain.Statement.{statement}

@@ -8,7 +8,7 @@ use Rattle.document.specs.Lookup.{tableOf}
 use Rattle.document.specs.NameFaults.{rowLabels}
 use Rattle.document.specs.Policy.{Doc}
 use Rattle.document.specs.ValueFaults.{rowValues}
-use Rattle.index.specs.Tables.{Tables, schemeBy}
+use Rattle.relations.specs.Tables.{Tables, schemeBy}
 use Rattle.form.specs.declared.lines.Scheme as coded
 use Rattle.lists.proofs.Tests.{true-not-false}
 use Rattle.walks.proofs.RowLines.{line-taken, name-ends}

@@ -5,7 +5,7 @@ use lib.ListN.{getD, length}
 use mathlib.Core.Path.{_∙_, _≡_, ap, sym}
 use native.Mathlib.Omega.{arith}
 use Rattle.walks.proofs.PurposeLines.{below-form, space}
-use Rattle.index.specs.Found.{foundAs}
+use Rattle.workspace.specs.Found.{foundAs}
 use Rattle.text.proofs.Lefts.{before-end}
 use borrow.Author.Needs.{needs}
 use Rattle.walks.proofs.purposes.read_below.Statement.{statement}

@@ -7,7 +7,7 @@ use native.Mathlib.Omega.{arith}
 use Rattle.document.specs.Lookup.{purposeOf}
 use Rattle.nodes.proofs.NodeFaults.{below-fine, purpose-kind}
 use Rattle.form.specs.Form.{purpose}
-use Rattle.index.specs.declared.found.Found.the-variants.{At, Nothing}
+use Rattle.workspace.specs.declared.found.Found.the-variants.{At, Nothing}
 use Rattle.lists.proofs.Tests.{true-not-false}
 use Rattle.lists.specs.Lists.{known}
 use Rattle.purpose.specs.Members.{limit}

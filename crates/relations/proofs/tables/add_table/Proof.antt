@@ -1,0 +1,85 @@
+-- `relations::tables::add_table` meets its contract. Assumes nothing.
+use Prim.Native.Nat.{_+_}
+use lib.Seq.{lt-length-set}
+use mathlib.Core.Path.{_≡_}
+use lib.ListN.{length, set}
+use native.Mathlib.Omega.{arith}
+use Rattle.relations.specs.Tables.{schemeBy}
+use Rattle.relations.proofs.TableLaws.{table-added}
+use borrow.Author.Needs.{needs}
+use Rattle.relations.proofs.tables.add_table.Statement.{statement}
+use Rattle.relations.proofs.tables.add_table.Tie as tie
+
+scheme-cell-requires : tie.Need-scheme-cell-requires
+scheme-cell-requires c κs = search needs
+
+mul-cells : tie.Need-mul-cells
+mul-cells c = search needs
+
+slice-write-cells : tie.Need-slice-write-cells
+slice-write-cells c = search needs
+
+add-cells : tie.Need-add-cells
+add-cells c = search needs
+
+mul-cells-2 : tie.Need-mul-cells-2
+mul-cells-2 c = search needs
+
+slice-write-cells-2 : tie.Need-slice-write-cells-2
+slice-write-cells-2 c =
+    let a = c .before .before .before .args in
+    let l : length (c .before .before .before .args .ws .now) ≡ 416 = search needs in
+    lt-length-set (a .ws .now) (a .k) (a .pos) (omega arith)
+
+add-cells-2 : tie.Need-add-cells-2
+add-cells-2 c = search needs
+
+mul-cells-3 : tie.Need-mul-cells-3
+mul-cells-3 c = search needs
+
+slice-write-cells-3 : tie.Need-slice-write-cells-3
+slice-write-cells-3 c =
+    let a = c .before .before .before .args in
+    let l : length (c .before .before .before .args .ws .now) ≡ 416 = search needs in
+    lt-length-set (set (a .ws .now) (a .k) (a .pos)) (8 + a .k) (c .before .scheme-cell .result) (lt-length-set (a .ws .now) (a .k) (a .pos) (omega arith))
+
+add-cells-3 : tie.Need-add-cells-3
+add-cells-3 c = search needs
+
+mul-cells-4 : tie.Need-mul-cells-4
+mul-cells-4 c = search needs
+
+slice-write-cells-4 : tie.Need-slice-write-cells-4
+slice-write-cells-4 c =
+    let a = c .before .before .before .args in
+    let l : length (c .before .before .before .args .ws .now) ≡ 416 = search needs in
+    let w = set (a .ws .now) (a .k) (a .pos) in
+    lt-length-set (set w (8 + a .k) (c .before .scheme-cell .result)) (16 + a .k) (a .label) (lt-length-set w (8 + a .k) (c .before .scheme-cell .result) (lt-length-set (a .ws .now) (a .k) (a .pos) (omega arith)))
+
+returns : tie.Need-returns
+returns c text ts cs ls h b f =
+    let a = c .before .before .before .args in
+    let l : length (c .before .before .before .args .ws .now) ≡ 416 = search needs in
+    table-added (a .ws .now) (a .k) (a .pos) (c .before .scheme-cell .result) (a .label) (a .width) l b text (schemeBy (a .scheme) (a .label) ls) ts cs ls (c .before .scheme-cell .ensures (a .label) ls) h f
+
+returns-2 : tie.Need-returns-2
+returns-2 c text ts cs ls h b f = absurd (omega (arith, b, c .if1 .left))
+
+pub add-table-spec : {M : Type 1} → statement M
+add-table-spec =
+    tie.close
+    (tie.spec
+    scheme-cell-requires
+    mul-cells
+    slice-write-cells
+    add-cells
+    mul-cells-2
+    slice-write-cells-2
+    add-cells-2
+    mul-cells-3
+    slice-write-cells-3
+    add-cells-3
+    mul-cells-4
+    slice-write-cells-4
+    returns
+    returns-2)

@@ -1,0 +1,148 @@
+-- Lists by what stands at each number: one more, the same below k, and looking up. Assumes nothing.
+use Prim.Native.Nat.{_+_, _<_, _≤_, suc, zero, ℕ}
+use lib.ListN.{getD, getElem?, length, length-append}
+use mathlib.Core.Bool.{Bool, cond, false, true}
+use mathlib.Core.List.{List, [], _++_, _∷_, map}
+use mathlib.Core.Logic.{⊎-elim}
+use mathlib.Core.Option.{Option·map, Option·none-ne-some, Option·some-injective, none, some}
+use mathlib.Core.Path.{_∙_, _≡_, ap, refl, subst, sym}
+use native.Mathlib.Nat.{add-suc, eq-or-lt-of-le, not-suc-le-zero}
+use native.Mathlib.Numerals.{add-one}
+use native.Mathlib.Omega.{arith}
+use Rattle.workspace.specs.Listed.{listed}
+use Rattle.lists.proofs.ListLaws.{findIndexFrom-append, getElem?-inside-append, map-append}
+use Rattle.lists.specs.Lists.{findIndex, findIndexFrom}
+
+module _ {A : Type 0} where
+  -- what stands behind a list
+  getElem?-behind : (xs : List A) (y : A) (i : ℕ) → i ≡ length xs → getElem? (xs ++ (y ∷ [])) i ≡ some y
+  getElem?-behind [] y zero e = refl
+  getElem?-behind [] y (suc i) e = absurd (omega (arith, e))
+  getElem?-behind (x ∷ xs) y zero e = absurd (omega (arith, e))
+  getElem?-behind (x ∷ xs) y (suc i) e = getElem?-behind xs y i (omega (arith, e))
+
+  -- where something stands is inside the list
+  getElem?-inside : (xs : List A) (i : ℕ) (a : A) → getElem? xs i ≡ some a → i < length xs
+  getElem?-inside [] i a e = absurd (Option·none-ne-some _ e)
+  getElem?-inside (x ∷ xs) zero a e = omega arith
+  getElem?-inside (x ∷ xs) (suc i) a e = omega (arith, getElem?-inside xs i a e)
+
+  -- what stands there, either way
+  getD-there : (xs : List A) (i : ℕ) (d y : A) → getElem? xs i ≡ some y → getD xs i d ≡ y
+  getD-there [] i d y e = absurd (Option·none-ne-some _ e)
+  getD-there (x ∷ xs) zero d y e = Option·some-injective x y e
+  getD-there (x ∷ xs) (suc i) d y e = getD-there xs i d y e
+
+  -- where nothing is found in a list, nothing is found in it and one more that fails; one more that passes is found behind it
+  missed-behind : (t : A → Bool) (xs : List A) (y : A) (n : ℕ) → findIndexFrom n t xs ≡ none → t y ≡ false → findIndexFrom n t (xs ++ (y ∷ [])) ≡ none
+  unfolding findIndexFrom
+  missed-behind t [] y n e p = rw p
+  missed-behind t (x ∷ xs) y n e p = go (t x) refl (missed-behind t xs y (suc n))
+    where
+      go : (b : Bool) → t x ≡ b → (findIndexFrom (suc n) t xs ≡ none → t y ≡ false → findIndexFrom (suc n) t (xs ++ (y ∷ [])) ≡ none) → findIndexFrom n t (x ∷ xs ++ (y ∷ [])) ≡ none
+      go true q rest = absurd (Option·none-ne-some _ (sym (rw (q, findIndexFrom) at e)))
+      go false q rest = rw (q, findIndexFrom) (rest (rw (q, findIndexFrom) at e) p)
+
+  found-behind : (t : A → Bool) (xs : List A) (y : A) (n : ℕ) → findIndexFrom n t xs ≡ none → t y ≡ true → findIndexFrom n t (xs ++ (y ∷ [])) ≡ some (n + length xs)
+  unfolding findIndexFrom
+  found-behind t [] y n e p = rw p (ap some (omega arith))
+  found-behind t (x ∷ xs) y n e p = go (t x) refl (found-behind t xs y (suc n))
+    where
+      go : (b : Bool) → t x ≡ b → (findIndexFrom (suc n) t xs ≡ none → t y ≡ true → findIndexFrom (suc n) t (xs ++ (y ∷ [])) ≡ some (suc n + length xs)) → findIndexFrom n t (x ∷ xs ++ (y ∷ [])) ≡ some (n + suc (length xs))
+      go true q rest = absurd (Option·none-ne-some _ (sym (rw (q, findIndexFrom) at e)))
+      go false q rest = rw (q, findIndexFrom) (rest (rw (q, findIndexFrom) at e) p ∙ ap some (omega arith))
+
+  -- where the count starts at a number more, so do the numbers found
+  pub findIndexFrom-shift : (t : A → Bool) (m n : ℕ) (xs : List A) → findIndexFrom (m + n) t xs ≡ Option·map (λ j. m + j) (findIndexFrom n t xs)
+  unfolding findIndexFrom
+  findIndexFrom-shift t m n [] = refl
+  findIndexFrom-shift t m n (x ∷ xs) = go (t x) (ap (λ i. findIndexFrom i t xs) (sym (add-suc m n)) ∙ findIndexFrom-shift t m (suc n) xs)
+    where
+      go : (b : Bool) → findIndexFrom (suc (m + n)) t xs ≡ Option·map (λ j. m + j) (findIndexFrom (suc n) t xs)
+          → cond b (some (m + n)) (findIndexFrom (suc (m + n)) t xs) ≡ Option·map (λ j. m + j) (cond b (some n) (findIndexFrom (suc n) t xs))
+      go true e = refl
+      go false e = e
+
+  -- one more
+  pub listed-more : (f : ℕ → A) (k : ℕ) → listed f (k + 1) ≡ listed f k ++ (f k ∷ [])
+  unfolding listed
+  listed-more f k = rw (add-one k)
+
+  -- what agrees below k gives the same list
+  pub listed-same : (f g : ℕ → A) (k : ℕ) → ((i : ℕ) → i < k → f i ≡ g i) → listed f k ≡ listed g k
+  unfolding listed
+  listed-same f g zero h = refl
+  listed-same f g (suc k) h = λ j. listed-same f g k (λ i l. h i (omega (arith, l))) j ++ (h k (omega arith) j ∷ [])
+
+  -- one more behind what stays
+  pub listed-pushed : (f g : ℕ → A) (k : ℕ) (xs : List A) (y : A) → listed f k ≡ xs → ((i : ℕ) → i < k → g i ≡ f i) → g k ≡ y → listed g (k + 1) ≡ xs ++ (y ∷ [])
+  listed-pushed f g k xs y are kept new = listed-more g k ∙ (λ j. (listed-same g f k kept ∙ are) j ++ (new j ∷ []))
+
+  pub length-listed : (f : ℕ → A) (k : ℕ) → length (listed f k) ≡ k
+  unfolding listed
+  length-listed f zero = refl
+  length-listed f (suc k) = length-append (listed f k) (f k ∷ []) ∙ omega (arith, length-listed f k)
+
+  -- what stands at a number below k
+  pub listed-at : (f : ℕ → A) (k i : ℕ) → i < k → getElem? (listed f k) i ≡ some (f i)
+  unfolding listed
+  listed-at f zero i l = absurd (not-suc-le-zero l)
+  listed-at f (suc k) i l = ⊎-elim (λ e. last e) (λ m. old m (listed-at f k i m)) (eq-or-lt-of-le le)
+    where
+      le : i ≤ k
+      le = omega (arith, l)
+
+      last : i ≡ k → getElem? (listed f k ++ (f k ∷ [])) i ≡ some (f i)
+      last e = getElem?-behind (listed f k) (f k) i (e ∙ sym (length-listed f k)) ∙ ap (λ n. some (f n)) (sym e)
+
+      old : i < k → getElem? (listed f k) i ≡ some (f i) → getElem? (listed f k ++ (f k ∷ [])) i ≡ some (f i)
+      old m e = getElem?-inside-append (listed f k) (f k ∷ []) i (omega (arith, m, length-listed f k)) ∙ e
+
+  -- the same, with what stands past the end
+  pub listed-getD : (f : ℕ → A) (k i : ℕ) (d : A) → i < k → getD (listed f k) i d ≡ f i
+  listed-getD f k i d l = getD-there (listed f k) i d (f i) (listed-at f k i l)
+
+  -- what stands at a number is what f gives for it, and the number is below k
+  pub listed-there : (f : ℕ → A) (k i : ℕ) (a : A) → getElem? (listed f k) i ≡ some a → (i < k) × (a ≡ f i)
+  listed-there f k i a e =
+      let l : i < k = subst (λ n. i < n) (length-listed f k) (getElem?-inside (listed f k) i a e) in
+      (l, Option·some-injective a (f i) (sym e ∙ listed-at f k i l))
+
+  -- a test that fails for every number below k finds nothing
+  pub listed-none : (t : A → Bool) (f : ℕ → A) (k : ℕ) → ((i : ℕ) → i < k → t (f i) ≡ false) → findIndex t (listed f k) ≡ none
+  unfolding listed findIndex findIndexFrom
+  listed-none t f zero h = refl
+  listed-none t f (suc k) h = missed-behind t (listed f k) (f k) 0 (listed-none t f k (λ i l. h i (omega (arith, l)))) (h k (omega arith))
+
+  -- the first number that passes it is found
+  pub listed-found : (t : A → Bool) (f : ℕ → A) (k j : ℕ) → j < k → ((i : ℕ) → i < j → t (f i) ≡ false) → t (f j) ≡ true → findIndex t (listed f k) ≡ some j
+  unfolding listed findIndex findIndexFrom
+  listed-found t f zero j l h p = absurd (not-suc-le-zero l)
+  listed-found t f (suc k) j l h p = ⊎-elim (λ e. last e) (λ m. old (listed-found t f k j m h p)) (eq-or-lt-of-le le)
+    where
+      le : j ≤ k
+      le = omega (arith, l)
+
+      last : j ≡ k → findIndexFrom 0 t (listed f k ++ (f k ∷ [])) ≡ some j
+      last e =
+          found-behind t (listed f k) (f k) 0 (unfold findIndex in listed-none t f k (λ i l. h i (omega (arith, l, e)))) (ap (λ n. t (f n)) (sym e) ∙ p)
+          ∙ ap some (omega (arith, length-listed f k, e))
+
+      old : findIndexFrom 0 t (listed f k) ≡ some j → findIndexFrom 0 t (listed f k ++ (f k ∷ [])) ≡ some j
+      old e = findIndexFrom-append 0 t (listed f k) (f k ∷ []) j e
+
+-- each element replaced
+pub listed-map : {A B : Type 0} (g : A → B) (f : ℕ → A) (k : ℕ) → map g (listed f k) ≡ listed (λ i. g (f i)) k
+unfolding listed
+listed-map g f zero = refl
+listed-map g f (suc k) = map-append g (listed f k) (f k ∷ []) ∙ ap (λ l. l ++ (g (f k) ∷ [])) (listed-map g f k)
+
+findFrom-map : {A B : Type 0} (t : B → Bool) (g : A → B) (n : ℕ) (xs : List A) → findIndexFrom n t (map g xs) ≡ findIndexFrom n (λ x. t (g x)) xs
+unfolding findIndexFrom
+findFrom-map t g n [] = refl
+findFrom-map t g n (x ∷ xs) = ap (cond (t (g x)) (some n)) (findFrom-map t g (suc n) xs)
+
+-- a test of what each element becomes
+pub findIndex-map : {A B : Type 0} (t : B → Bool) (g : A → B) (xs : List A) → findIndex t (map g xs) ≡ findIndex (λ x. t (g x)) xs
+unfolding findIndex
+findIndex-map t g xs = findFrom-map t g 0 xs

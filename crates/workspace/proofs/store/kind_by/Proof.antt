@@ -1,0 +1,16 @@
+-- `workspace::store::kind_by` meets its contract. Assumes nothing.
+use mathlib.Core.Path.{ap, sym}
+use Rattle.workspace.proofs.CellLaws.{kind-names}
+use Rattle.workspace.specs.Cells.{kindOfCell}
+use Rattle.workspace.proofs.store.kind_by.Statement.{statement}
+use Rattle.workspace.proofs.store.kind_by.Tie as tie
+
+returns : tie.Need-returns
+unfolding kindOfCell
+returns c = ap kindOfCell (sym (c .if1 .taken))
+
+returns-2 : tie.Need-returns-2
+returns-2 c = sym (kind-names (c .before .args .n) (c .if1 .left))
+
+pub kind-by-spec : {M : Type 1} → statement M
+kind-by-spec = tie.close (tie.spec returns returns-2)

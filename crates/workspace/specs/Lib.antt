@@ -1,0 +1,6 @@
+-- What the code finds by a name, lines and types as arrays hold them, hashes of names.
+pub mod Listed
+pub mod Hash
+pub mod Met
+pub mod Cells
+pub mod Found
