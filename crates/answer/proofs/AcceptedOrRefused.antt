@@ -15,7 +15,7 @@ use Rattle.document.specs.Check.{Accepted, check}
 use Rattle.document.specs.Lookup.{purposeOf, userOf}
 use Rattle.document.specs.Policy.{Doc}
 use Rattle.lists.proofs.Tests.{not-false}
-use Rattle.lists.specs.Lists.{known, there}
+use Rattle.lists.specs.Lists.{orZero, there}
 use Rattle.query.specs.Authority.{Clock, firstGrant, inRange}
 use Rattle.query.specs.Query.{closedPart, mistypedQuery, resolved, unknownColumn, unknownParty}
 use Rattle.query.specs.QueryForm.{QueryForm, queryOf}
@@ -83,7 +83,7 @@ module _ {A : Type 0} (fs : List Fault) where
 module _ (d : Doc) (c : Clock) (q : QueryForm) where
   -- a query is refused with the lowest of 12 to 17 whose condition holds
   form-number : refusalNumber (answerForm d c q) ≡ firstFault (formFaults d c q)
-  unfolding answerForm formFaults pointing known
+  unfolding answerForm formFaults pointing orZero
   form-number =
       at-number _ _ _ _ _ (
       need-number _ _ _ _ (λ u is-u.
@@ -98,7 +98,7 @@ pub record Answers (d : Doc) (c : Clock) (q : QueryForm) (r : Answered) : Type 0
   pub grant : ℕ
   pub party : unknownParty (d .policy) q ≡ none
   pub has-role : userOf (d .policy) (q .user) (q .role) ≡ some user
-  pub authorised : firstGrant (d .policy) c user (known (purposeOf (d .policy) (q .purpose))) ≡ some grant
+  pub authorised : firstGrant (d .policy) c user (orZero (purposeOf (d .policy) (q .purpose))) ≡ some grant
   pub columns : unknownColumn (d .policy) q ≡ none
   pub types : mistypedQuery (d .policy) q ≡ none
   pub parts : closedPart (d .policy) q ≡ none

@@ -26,7 +26,7 @@ use Rattle.form.specs.Form.{Item, Scheme, row}
 use Rattle.form.specs.FormReader.{formOf}
 use Rattle.form.specs.RowText.{labelCount, rowText}
 use Rattle.lists.proofs.ListLaws.{map-map}
-use Rattle.lists.specs.Lists.{known}
+use Rattle.lists.specs.Lists.{orZero}
 use Rattle.query.specs.QueryForm.{QueryForm, queryOf}
 use Rattle.text.proofs.OffendingLaws.{leftmost-head, unless-none}
 use Rattle.text.specs.Refusal.{accepted}
@@ -181,7 +181,7 @@ alike-complete text a b x y h g s =
 -- the row that a row form means is the row of its parts
 pub meant-parts : (d : Policy) (t : Word) (is : List Item) → rowMeant d t is ≡ rowOf d (t .bytes) (bytesOf (rowLabels (schemeOf d t) is)) (rowMeant d t is .values)
 unfolding rowMeant rowOf tableOf labelOf isCalled plainWord
-meant-parts d t is = λ i. record { table = rowMeant d t is .table; values = rowMeant d t is .values; labels = sym (map-map (λ l. known (labelOf d (plainWord l))) (λ w. w .bytes) (rowLabels (schemeOf d t) is)) i }
+meant-parts d t is = λ i. record { table = rowMeant d t is .table; values = rowMeant d t is .values; labels = sym (map-map (λ l. orZero (labelOf d (plainWord l))) (λ w. w .bytes) (rowLabels (schemeOf d t) is)) i }
 
 read-rows : (d e : Policy) (q : Option QueryForm) (l m : List ℕ) (w : ReadAlike d e q l m) → ReadParts d l (w .table) (w .items) → ReadParts e m (w .table′) (w .items′) → PartsAlike d e q l m
 read-rows d e q l m w r s = record {

@@ -21,7 +21,7 @@ use Rattle.answer.proofs.AlikeComplete.{ReadParts, alike-as-read, asRow
 use Rattle.answer.proofs.AlikeDocuments.{alike-twins, same-length}
 use Rattle.answer.specs.Alike.{Alike, AlikeLines, AlikeRows, RowLine, SameOrFree, alikeRows, differs, done, free, linesOf, noMore, rowOf, same, sameLine}
 use Rattle.answer.specs.AlikeRead.{ReadAlike, SameBut}
-use Rattle.answer.specs.AlikeTest.{alike?, bothAlike, bothRows, labelTexts, linesAlike, rowIn, sameBytes, sameOrFree, sameOrRows, sameRow, sameTexts}
+use Rattle.answer.specs.AlikeTest.{alike?, bothAlike, bothRows, labelTexts, linesAlike, rowInForm, sameBytes, sameOrFree, sameOrRows, sameRow, sameTexts}
 use Rattle.lists.proofs.Tests.{and-both, and-left, and-right, eqb-self, or-cases, or-left, or-right, true-not-false}
 use Rattle.query.specs.QueryForm.{QueryForm, queryOf}
 use Rattle.text.specs.Numbers.{Value}
@@ -75,8 +75,8 @@ module _ (f : ℕ → Bool) where
 -- ---- row lines
 
 -- a form is a row, or is taken for none
-row-or-none : (f : Form) → ((t : Word) × (is : List Item) × (f ≡ row t is)) ⊎ ((rowIn f ≡ none) × (rowParts f ≡ none))
-unfolding rowIn rowParts
+row-or-none : (f : Form) → ((t : Word) × (is : List Item) × (f ≡ row t is)) ⊎ ((rowInForm f ≡ none) × (rowParts f ≡ none))
+unfolding rowInForm rowParts
 row-or-none (purpose n p) = inr (refl, refl)
 row-or-none (role n p) = inr (refl, refl)
 row-or-none (attr r a k) = inr (refl, refl)
@@ -88,14 +88,14 @@ row-or-none (table t s cs) = inr (refl, refl)
 row-or-none (row t is) = inl (t, is, refl)
 
 -- a line that the test takes for a row is read as that row
-is-row : (l : List ℕ) (r : Word × List Item) → bind (formOf l) rowIn ≡ some r → formOf l ≡ some (row (r .0) (r .1))
-unfolding rowIn
+is-row : (l : List ℕ) (r : Word × List Item) → bind (formOf l) rowInForm ≡ some r → formOf l ≡ some (row (r .0) (r .1))
+unfolding rowInForm
 is-row l r e =
-    let x = bind-eq-some-iff (formOf l) rowIn .0 e in
+    let x = bind-eq-some-iff (formOf l) rowInForm .0 e in
     x .1 ∙ ap some (go (row-or-none (x .0)) (x .2))
   where
-    go : {f : Form} → ((t : Word) × (is : List Item) × (f ≡ row t is)) ⊎ ((rowIn f ≡ none) × (rowParts f ≡ none)) → rowIn f ≡ some r → f ≡ row (r .0) (r .1)
-    go (inl x) e = x .2 ∙ (let p = Option·some-injective _ _ (sym (ap rowIn (x .2)) ∙ e) in λ i. row (p i .0) (p i .1))
+    go : {f : Form} → ((t : Word) × (is : List Item) × (f ≡ row t is)) ⊎ ((rowInForm f ≡ none) × (rowParts f ≡ none)) → rowInForm f ≡ some r → f ≡ row (r .0) (r .1)
+    go (inl x) e = x .2 ∙ (let p = Option·some-injective _ _ (sym (ap rowInForm (x .2)) ∙ e) in λ i. row (p i .0) (p i .1))
     go (inr x) e = absurd (Option·none-ne-some _ (sym (x .0) ∙ e))
 
 -- a line that was written out from its parts is read as a row
@@ -106,7 +106,7 @@ row-line {d} {l} r =
     go (f .0) (ap formOf (r .written) ∙ f .1) (row-back s (r .table) (r .labels) (r .values) (r .isTable) (r .areLabels) (r .areValues) (f .0) (f .1)) (row-or-none (f .0))
   where
     go : (f : Form) {x : Word × List Item} → formOf l ≡ some f → rowParts f ≡ some x
-        → ((t : Word) × (is : List Item) × (f ≡ row t is)) ⊎ ((rowIn f ≡ none) × (rowParts f ≡ none)) → (t : Word) × (is : List Item) × (formOf l ≡ some (row t is))
+        → ((t : Word) × (is : List Item) × (f ≡ row t is)) ⊎ ((rowInForm f ≡ none) × (rowParts f ≡ none)) → (t : Word) × (is : List Item) × (formOf l ≡ some (row t is))
     go f e p (inl x) = (x .0, x .1, e ∙ ap some (x .2))
     go f e p (inr x) = absurd (Option·none-ne-some _ (sym (x .1) ∙ p))
 
@@ -138,7 +138,7 @@ module _ {d : Policy} {q : Option QueryForm} {l m : List ℕ} (a : AlikeRows d q
 -- ---- what the test says is so
 
 module _ (d e : Policy) (q : Option QueryForm) where
-  rows-read : (l m : List ℕ) (r s : Option (Word × List Item)) → bind (formOf l) rowIn ≡ r → bind (formOf m) rowIn ≡ s → bothRows d e q r s ≡ true → ReadAlike d e q l m
+  rows-read : (l m : List ℕ) (r s : Option (Word × List Item)) → bind (formOf l) rowInForm ≡ r → bind (formOf m) rowInForm ≡ s → bothRows d e q r s ≡ true → ReadAlike d e q l m
   unfolding bothRows sameRow labelTexts
   rows-read l m none s f g h = true-not-false h refl
   rows-read l m (some r) none f g h = true-not-false h refl
@@ -214,8 +214,8 @@ module _ (d : Policy) (q : Option QueryForm) where
       let y = row-line (second-line a) in
       go (x .0) (x .1) (x .2) (y .0) (y .1) (y .2)
     where
-      go : (t : Word) (is : List Item) → formOf l ≡ some (row t is) → (u : Word) (js : List Item) → formOf m ≡ some (row u js) → bothRows d d q (bind (formOf l) rowIn) (bind (formOf m) rowIn) ≡ true
-      go t is f u js g = unfold bothRows bind rowIn in (λ i. bothRows d d q (bind (f i) rowIn) (bind (g i) rowIn)) ∙ rows-tested a t is (r t is f) u js (s u js g)
+      go : (t : Word) (is : List Item) → formOf l ≡ some (row t is) → (u : Word) (js : List Item) → formOf m ≡ some (row u js) → bothRows d d q (bind (formOf l) rowInForm) (bind (formOf m) rowInForm) ≡ true
+      go t is f u js g = unfold bothRows bind rowInForm in (λ i. bothRows d d q (bind (f i) rowInForm) (bind (g i) rowInForm)) ∙ rows-tested a t is (r t is f) u js (s u js g)
 
   lines-tested : {ls ms : List (List ℕ)} → AlikeLines d q ls ms → RowsWritten d ls → RowsWritten d ms → linesAlike d d q ls ms ≡ true
   unfolding linesAlike sameOrRows

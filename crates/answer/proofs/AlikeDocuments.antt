@@ -23,7 +23,7 @@ use Rattle.answer.specs.Alike.{Alike, AlikeLines, AlikeRows, SameOrFree,
 use Rattle.query.specs.QueryForm.{QueryForm, queryOf}
 use Rattle.lists.proofs.ListLaws.{map-map}
 use Rattle.lists.proofs.Tests.{and-left, and-right}
-use Rattle.lists.specs.Lists.{allOf, known, there}
+use Rattle.lists.specs.Lists.{allOf, orZero, there}
 use Rattle.text.specs.Names.{Name, isName}
 use Rattle.text.specs.Numbers.{Value}
 use Rattle.text.specs.Refusal.{accepted}
@@ -37,10 +37,10 @@ meant-back : (d : Policy) (t : Name) (ls : List Name) (vs : List Value) → leng
 unfolding rowMeant rowOf
 meant-back d t ls vs e h =
     let s : Scheme ℕ = schemeOf d (plainWord t) in
-    rw (values-back s ls vs e h, labels-back s ls vs e h, bytes-back vs, map-map (λ w. known (labelOf d w)) plainWord ls)
+    rw (values-back s ls vs e h, labels-back s ls vs e h, bytes-back vs, map-map (λ w. orZero (labelOf d w)) plainWord ls)
 
 kept-labels : (d e : Policy) → Kept d e → (ls : List Name) → allOf (λ w. there (labelOf d w)) (map plainWord ls) ≡ true
-    → map (λ l. known (labelOf d (plainWord l))) ls ≡ map (λ l. known (labelOf e (plainWord l))) ls
+    → map (λ l. orZero (labelOf d (plainWord l))) ls ≡ map (λ l. orZero (labelOf e (plainWord l))) ls
 unfolding allOf
 kept-labels d e k [] h = refl
 kept-labels d e k (l ∷ ls) h =

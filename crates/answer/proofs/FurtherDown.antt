@@ -17,7 +17,7 @@ use Rattle.answer.specs.Answer.{answerTo, counted, isWithheld, lineOf, m
 use Rattle.answer.specs.Ask.{Answered, answerForm}
 use Rattle.answer.specs.Seen.{Seen, rowsIn, seenRow, seenRows, shown, withheld}
 use Rattle.lists.proofs.Tests.{true-not-false}
-use Rattle.lists.specs.Lists.{countOf, known}
+use Rattle.lists.specs.Lists.{countOf, orZero}
 use Rattle.purpose.specs.Compliance.{descends}
 use Rattle.query.proofs.Below.{forPurpose, grant-below, label-down, parts-down, party-down, resolved-down, toPurpose}
 use Rattle.query.specs.Authority.{Clock, firstGrant}
@@ -106,14 +106,14 @@ seen-further d q p wider =
 -- ---- the theorem
 
 module _ (d : Doc) (q : QueryForm) (w : Word) (p : ℕ) (is-p : purposeOf (d .policy) w ≡ some p)
-    (below : descends (treeOf (d .policy .purposes)) p (known (purposeOf (d .policy) (q .purpose))) ≡ true) where
+    (below : descends (treeOf (d .policy .purposes)) p (orZero (purposeOf (d .policy) (q .purpose))) ≡ true) where
   -- Q's answer has P's rows in the same order, perhaps with others between, and withholds no more rows.
   pub further-down : (c : Clock) (r : Answered) → answerForm d c q ≡ accepted r
       → (s : Answered) × (answerForm d c (forPurpose w q) ≡ accepted s)
       × Sublistᴰ (passedRows (matches (resolved (d .policy) q .condition)) (seenRows d (resolved (d .policy) q)))
       (passedRows (matches (resolved (d .policy) q .condition)) (seenRows d (resolved (d .policy) (forPurpose w q))))
       × (s .answer .withheld ≤ r .answer .withheld)
-  unfolding answerTo counted forPurpose unknownColumn mistypedQuery namedWords selectedWords known
+  unfolding answerTo counted forPurpose unknownColumn mistypedQuery namedWords selectedWords orZero
   further-down c r h =
       let a = answered d c q r h in
       let g = grant-below (d .policy) _ p below c (a .user) (a .grant) (a .authorised) in
@@ -126,7 +126,7 @@ module _ (d : Doc) (q : QueryForm) (w : Word) (p : ℕ) (is-p : purposeOf (d .po
           grant = g .0;
           party = party-down (d .policy) q w p is-p below (a .party);
           has-role = a .has-role;
-          authorised = ap (λ x. firstGrant (d .policy) c (a .user) (known x)) is-p ∙ g .1;
+          authorised = ap (λ x. firstGrant (d .policy) c (a .user) (orZero x)) is-p ∙ g .1;
           columns = a .columns;
           types = a .types;
           parts = parts-down (d .policy) q w p is-p below (a .parts);

@@ -29,7 +29,7 @@ use Rattle.text.proofs.OffendingLaws.{leftmost-head, leftmost-tail, unless-none
 use Rattle.text.proofs.RefusalLaws.{accepted-same, bind-accepted, need-accepted, refuseAt-accepted, then-accepted}
 use Rattle.lists.proofs.Tests.{neither-left, neither-right, true-not-false}
 use Rattle.text.specs.Bytes.{ascii}
-use Rattle.lists.specs.Lists.{anyOf, countOf, holdsOf, keep, known, member, there}
+use Rattle.lists.specs.Lists.{anyOf, countOf, holdsOf, keep, member, orZero, there}
 use Rattle.text.specs.Names.{Name, sameName}
 use Rattle.text.specs.Numbers.{Value, decimal, digitsOf}
 use Rattle.text.specs.Offending.{missing, repeated, repeatedAfter}
@@ -165,7 +165,7 @@ unfolding repeated unknownColumn namedWords selectedWords resolved wantedOf colu
 select-cost d q ws c r k h =
     answer-cost d (resolved (d .policy) q) (map (columnNumber cols) ws) (ap (wantedOf cols) c)
     (distinct-columns cols [] ws tt knows r)
-    (subst (λ (n : ℕ). AllBelow n (map (columnNumber cols) ws)) (columns-count (d .policy) (known (tableOf (d .policy) (q .table)))) (below-columns cols ws knows)) h
+    (subst (λ (n : ℕ). AllBelow n (map (columnNumber cols) ws)) (columns-count (d .policy) (orZero (tableOf (d .policy) (q .table)))) (below-columns cols ws knows)) h
   where
     cols : List Column
     cols = columnsOf (d .policy) (q .table)

@@ -17,7 +17,7 @@ use Rattle.answer.specs.Ask.{Answered, ask}
 use Rattle.answer.specs.Further.{Contains, GivenFurtherDown, Prints, SelectsBelow, selectText}
 use Rattle.answer.specs.Seen.{Seen, seenRows}
 use Rattle.answer.specs.Session.{answers}
-use Rattle.lists.specs.Lists.{known}
+use Rattle.lists.specs.Lists.{orZero}
 use Rattle.purpose.specs.Compliance.{descends}
 use Rattle.query.proofs.Below.{forPurpose}
 use Rattle.query.proofs.NamedColumns.{columnNumber}
@@ -98,7 +98,7 @@ further-answered : (doc : List ℕ) (A : Accepted) → check doc ≡ accepted A
     → (c : Clock) (room : ℕ) (a : Answered) → ask doc (selectText u r p rest) c room ≡ accepted a
     → length (selectText u r p′ rest) ≤ 4096
     → (s : Answered) × ((room′ : ℕ) → length (s .answer .bytes) ≤ room′ → ask doc (selectText u r p′ rest) c room′ ≡ accepted s) × Contains (a .answer) (s .answer)
-unfolding purposeOf isCalled plainWord other known IsSelect forPurpose placelessQuery resolved
+unfolding purposeOf isCalled plainWord other orZero IsSelect forPurpose placelessQuery resolved
 further-answered doc A is-A u r p p′ rest is-u is-r is-p is-p′ n n′ known-p known-p′ below c room a h short =
     let d : Doc = A .doc in
     let x = ask-answered doc _ c room a h in
@@ -108,7 +108,7 @@ further-answered doc A is-A u r p p′ rest is-u is-r is-p is-p′ n n′ known-
     let w : Word = other u r p p′ rest is-u is-r is-p is-p′ in
     let y = other-query u r p p′ rest is-u is-r is-p is-p′ q (x .reads) (le-leb _ _ short) in
     let sel = is-select u r p p′ rest is-u is-r is-p is-p′ q (x .reads) in
-    let z = further-down d q w n′ known-p′ (subst (λ o. descends (treeOf (d .policy .purposes)) n′ (known o) ≡ true) (sym (ap (purposeOf (d .policy)) (sel .0) ∙ known-p)) below) c a (is-answered d c q a answers) in
+    let z = further-down d q w n′ known-p′ (subst (λ o. descends (treeOf (d .policy .purposes)) n′ (orZero o) ≡ true) (sym (ap (purposeOf (d .policy)) (sel .0) ∙ known-p)) below) c a (is-answered d c q a answers) in
     let s : Answered = z .0 in
     let q′ : QueryForm = forPurpose w (y .0) in
     let t : Answers d c (forPurpose w q) s = answered d c (forPurpose w q) s (z .1) in

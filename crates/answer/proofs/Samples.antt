@@ -11,7 +11,7 @@ use Rattle.answer.specs.Ask.{Outcome, ask}
 use Rattle.answer.specs.Computing.{computing}
 use Rattle.query.specs.Authority.{Clock}
 use Rattle.text.specs.Bytes.{ascii}
-use Rattle.lists.specs.Lists.{known}
+use Rattle.lists.specs.Lists.{orZero}
 use Rattle.text.specs.Refusal.{Result, accepted, query, refused}
 use Rattle.text.specs.Words.{Word, plainWord}
 use Rattle.answer.specs.Session as Session
@@ -69,7 +69,7 @@ pub data Found : Type 0 where
 -- whether the label opens the purpose, in a document that is accepted
 unfoldable pub openedIn : Result Accepted → Word → Word → Found
 openedIn (refused r) l p = broken
-openedIn (accepted a) l p = opened (labelOpen (a .doc .policy) (known (purposeOf (a .doc .policy) p)) (labelOf (a .doc .policy) l))
+openedIn (accepted a) l p = opened (labelOpen (a .doc .policy) (orZero (purposeOf (a .doc .policy) p)) (labelOf (a .doc .policy) l))
 
 -- what the definitions say
 unfoldable pub answerOf : Question → Found

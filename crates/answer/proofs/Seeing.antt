@@ -22,7 +22,7 @@ use Rattle.query.specs.Query.{closedPart, mistypedQuery, named, resolved, unkno
 use Rattle.query.specs.QueryForm.{QueryForm, namedWords}
 use Rattle.text.proofs.RefusalLaws.{bind-cong, refuseAt-accepted, then-cong}
 use Rattle.lists.proofs.Tests.{true-not-false}
-use Rattle.lists.specs.Lists.{holdsOf, keep, known, member}
+use Rattle.lists.specs.Lists.{holdsOf, keep, member, orZero}
 use Rattle.text.specs.Numbers.{Value}
 use Rattle.text.specs.Refusal.{accepted, need, pointing, query, refuseAt}
 
@@ -125,7 +125,7 @@ unfolding answerForm
 same-outcome d rs ss c q a =
     then-cong (refuseAt 12 query (unknownParty d q)) _ _ (λ _ party.
     bind-cong (need (userOf d (q .user) (q .role)) (pointing 13 query (q .role))) _ _ (λ u _.
-    bind-cong (need (firstGrant d c u (known (purposeOf d (q .purpose)))) (pointing 14 query (q .purpose))) _ _ (λ g _.
+    bind-cong (need (firstGrant d c u (orZero (purposeOf d (q .purpose)))) (pointing 14 query (q .purpose))) _ _ (λ g _.
     then-cong (refuseAt 15 query (unknownColumn d q)) _ _ (λ _ columns.
     then-cong (refuseAt 16 query (mistypedQuery d q)) _ _ (λ _ _.
     then-cong (refuseAt 17 query (closedPart d q)) _ _ (λ _ parts.

@@ -15,7 +15,7 @@ use Rattle.form.specs.Form.{table}
 use Rattle.form.specs.RowText.{labelCount, rowText}
 use Rattle.query.specs.QueryForm.{QueryForm, namedWords, queryOf}
 use Rattle.text.specs.Lines.{cut}
-use Rattle.lists.specs.Lists.{allOf, found, holdsOf, known, member}
+use Rattle.lists.specs.Lists.{allOf, found, holdsOf, member, orZero}
 use Rattle.text.specs.Names.{Name, isName}
 use Rattle.text.specs.Numbers.{Value, isValue}
 use Rattle.text.specs.Refusal.{accepted}
@@ -53,9 +53,9 @@ pub data SameOrFree (f : ℕ → Bool) : ℕ → List Value → List Value → T
 -- the row that a row line of these parts means
 unfoldable pub rowOf : Policy → Name → List Name → List Value → Row
 rowOf d t ls vs = record {
-  table = known (tableOf d (plainWord t));
+  table = orZero (tableOf d (plainWord t));
   values = vs;
-  labels = map (λ l. known (labelOf d (plainWord l))) ls;
+  labels = map (λ l. orZero (labelOf d (plainWord l))) ls;
 }
 
 -- a row line, written out from its parts: the table, the labels and the values

@@ -40,16 +40,16 @@ sameOrFree f c (v ∷ vs) [] = false
 sameOrFree f c (v ∷ vs) (w ∷ ws) = (sameBytes v w || f c) && sameOrFree f (suc c) vs ws
 
 -- the table and the items of a row form
-unfoldable pub rowIn : Form → Option (Word × List Item)
-rowIn (purpose n p) = none
-rowIn (role n p) = none
-rowIn (attr r a k) = none
-rowIn (user u r gs) = none
-rowIn (condRole c r x) = none
-rowIn (grant p c) = none
-rowIn (label l ps qs) = none
-rowIn (table t s cs) = none
-rowIn (row t is) = some (t, is)
+unfoldable pub rowInForm : Form → Option (Word × List Item)
+rowInForm (purpose n p) = none
+rowInForm (role n p) = none
+rowInForm (attr r a k) = none
+rowInForm (user u r gs) = none
+rowInForm (condRole c r x) = none
+rowInForm (grant p c) = none
+rowInForm (label l ps qs) = none
+rowInForm (table t s cs) = none
+rowInForm (row t is) = some (t, is)
 
 -- the bytes of the labels that a row of these items uses
 unfoldable pub labelTexts : Policy → Word → List Item → List (List ℕ)
@@ -72,7 +72,7 @@ module _ (d e : Policy) (q : Option QueryForm) where
   -- two lines, which are the same or not: if not, both are rows that are alike
   unfoldable pub sameOrRows : (same : Bool) → List ℕ → List ℕ → Bool
   sameOrRows true l m = true
-  sameOrRows false l m = bothRows (bind (formOf l) rowIn) (bind (formOf m) rowIn)
+  sameOrRows false l m = bothRows (bind (formOf l) rowInForm) (bind (formOf m) rowInForm)
 
   -- equally many lines, and each the same in both or a row that is alike
   unfoldable pub linesAlike : List (List ℕ) → List (List ℕ) → Bool

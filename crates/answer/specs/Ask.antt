@@ -12,7 +12,7 @@ use Rattle.answer.specs.Seen.{seenRows}
 use Rattle.query.specs.Authority.{Clock, firstGrant, inRange}
 use Rattle.query.specs.Query.{closedPart, mistypedQuery, resolved, unknownColumn, unknownParty}
 use Rattle.query.specs.QueryForm.{QueryForm, queryOf}
-use Rattle.lists.specs.Lists.{known}
+use Rattle.lists.specs.Lists.{orZero}
 use Rattle.text.specs.Refusal.{Refusal, Result, Source, _>>=_, _>>_, accepted, document, file, need, pointing, pointingAll, pointingNowhere, query, refuseAt, refuseIf, refused}
 
 -- an accepted answer, and the position of the grant that authorised it
@@ -29,7 +29,7 @@ unfoldable pub answerForm : Doc → Clock → QueryForm → Outcome
 answerForm d c q = do
   refuseAt 12 query (unknownParty (d .policy) q)
   u ← need (userOf (d .policy) (q .user) (q .role)) (pointing 13 query (q .role))
-  g ← need (firstGrant (d .policy) c u (known (purposeOf (d .policy) (q .purpose)))) (pointing 14 query (q .purpose))
+  g ← need (firstGrant (d .policy) c u (orZero (purposeOf (d .policy) (q .purpose)))) (pointing 14 query (q .purpose))
   refuseAt 15 query (unknownColumn (d .policy) q)
   refuseAt 16 query (mistypedQuery (d .policy) q)
   refuseAt 17 query (closedPart (d .policy) q)

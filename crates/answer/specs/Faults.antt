@@ -9,7 +9,7 @@ use Rattle.answer.specs.Answer.{Answer, answerTo}
 use Rattle.answer.specs.Seen.{seenRows}
 use Rattle.document.specs.Lookup.{purposeOf, userOf}
 use Rattle.document.specs.Policy.{Doc}
-use Rattle.lists.specs.Lists.{known, there}
+use Rattle.lists.specs.Lists.{orZero, there}
 use Rattle.query.specs.Authority.{Clock, firstGrant, inRange}
 use Rattle.query.specs.Query.{closedPart, mistypedQuery, resolved, unknownColumn, unknownParty}
 use Rattle.query.specs.QueryForm.{QueryForm, queryOf}
@@ -34,7 +34,7 @@ unfoldable pub formFaults : Doc → Clock → QueryForm → List Fault
 formFaults d c q =
     (12, there (unknownParty (d .policy) q))
     ∷ (13, not (there (userOf (d .policy) (q .user) (q .role))))
-    ∷ (14, not (there (firstGrant (d .policy) c (known (userOf (d .policy) (q .user) (q .role))) (known (purposeOf (d .policy) (q .purpose))))))
+    ∷ (14, not (there (firstGrant (d .policy) c (orZero (userOf (d .policy) (q .user) (q .role))) (orZero (purposeOf (d .policy) (q .purpose))))))
     ∷ (15, there (unknownColumn (d .policy) q))
     ∷ (16, there (mistypedQuery (d .policy) q))
     ∷ (17, there (closedPart (d .policy) q))

@@ -15,7 +15,7 @@ use Rattle.answering.specs.Lines.{answerMarked, lineMarked, linesMarked}
 use Rattle.judging.specs.declared.sought.Sought.{Sought}
 use Rattle.judging.specs.declared.tally.Tally.{Tally}
 use Rattle.document.specs.Policy.{Doc, Row}
-use Rattle.workspace.proofs.ListedLaws.{listed-map, listed-same}
+use Rattle.workspace.proofs.TabulatedLaws.{tabulated-map, tabulated-same}
 use Rattle.relations.proofs.RowLaws.{row-at}
 use Rattle.relations.specs.Rows.{Rows, rowIn}
 use Rattle.lists.proofs.KeptLaws.{flatten-keep}
@@ -48,8 +48,8 @@ module _ (cs : List ℕ) (f g : Row → Bool) where
       → linesMarked text ws cs marks k ≡ flatten (map line (keep g (keep f rs)))
   unfolding linesMarked lineMarked
   marked-kept text ws marks k rs rows given =
-      ap flatten (listed-same (λ r. lineMarked text ws cs r (getD marks r false)) (λ r. piece (rowIn text ws r)) k (λ r l. ap (lineMarked text ws cs r) (given r (rowIn text ws r) (row-at text ws k rs rows r l))))
-      ∙ ap flatten (sym (listed-map piece (rowIn text ws) k))
+      ap flatten (tabulated-same (λ r. lineMarked text ws cs r (getD marks r false)) (λ r. piece (rowIn text ws r)) k (λ r l. ap (lineMarked text ws cs r) (given r (rowIn text ws r) (row-at text ws k rs rows r l))))
+      ∙ ap flatten (sym (tabulated-map piece (rowIn text ws) k))
       ∙ ap (λ l. flatten (map piece l)) (rows .are)
       ∙ flatten-keep (λ r. f r && g r) line rs
       ∙ ap (λ l. flatten (map line l)) (keep-both f g rs)

@@ -9,12 +9,12 @@ use mathlib.Core.List.{List, [], _++_, _∷_, append-assoc, append-nil, flatten}
 use mathlib.Core.Path.{_∙_, _≡_, ap, refl, subst, sym}
 use native.Mathlib.Omega.{arith}
 use Rattle.answer.specs.Answer.{rowLine}
-use Rattle.answering.specs.Lines.{Sizes, lineMarked, linesMarked, spaced}
+use Rattle.answering.specs.Lines.{Sizes, lineMarked, linesMarked, spacedValues}
 use Rattle.document.specs.Policy.{Row}
-use Rattle.workspace.proofs.ListedLaws.{listed-getD, listed-more}
+use Rattle.workspace.proofs.TabulatedLaws.{tabulated-getD, tabulated-more}
 use Rattle.relations.specs.Rows.{Rows, rowIn, valueCountIn, valueIn, valuePlaceIn}
 use Rattle.relations.specs.Tables.{Cut}
-use Rattle.workspace.specs.Listed.{listed}
+use Rattle.workspace.specs.Tabulated.{tabulated}
 use Rattle.judging.proofs.ValueLaws.{no-value}
 use Rattle.text.proofs.Lefts.{drop-here}
 use Rattle.text.specs.Bytes.{ascii}
@@ -26,36 +26,36 @@ use Rattle.writing.specs.Write.{Wrote}
 
 module _ (text ws : List ℕ) (r : ℕ) where
   -- a value is no longer than the text
-  values-fit : (k c : ℕ) → length (getD (listed (valueIn text ws r) k) c []) ≤ length text
+  values-fit : (k c : ℕ) → length (getD (tabulated (valueIn text ws r) k) c []) ≤ length text
   values-fit k c = go (ltb c k) refl
     where
-      go : (b : Bool) → ltb c k ≡ b → length (getD (listed (valueIn text ws r) k) c []) ≤ length text
-      go true e = omega (arith, ap length (listed-getD (valueIn text ws r) k c [] (ltb-true c k e)), written-short text (valuePlaceIn ws r c))
+      go : (b : Bool) → ltb c k ≡ b → length (getD (tabulated (valueIn text ws r) k) c []) ≤ length text
+      go true e = omega (arith, ap length (tabulated-getD (valueIn text ws r) k c [] (ltb-true c k e)), written-short text (valuePlaceIn ws r c))
       go false e = omega (arith, ap length (no-value text ws r k c (ltb-false c k e)))
 
 module _ (vs : List Value) where
   -- the values in some columns are the first and the others
-  pub spaced-more : (cs : List ℕ) (i : ℕ) → i < length cs → spaced (drop i cs) vs ≡ (32 ∷ getD vs (getD cs i 0) []) ++ spaced (drop (i + 1) cs) vs
-  unfolding spaced flatten
+  pub spaced-more : (cs : List ℕ) (i : ℕ) → i < length cs → spacedValues (drop i cs) vs ≡ (32 ∷ getD vs (getD cs i 0) []) ++ spacedValues (drop (i + 1) cs) vs
+  unfolding spacedValues flatten
   spaced-more cs i h = rw (drop-here cs i h)
 
-  pub spaced-none : (cs : List ℕ) (i : ℕ) → length cs ≤ i → spaced (drop i cs) vs ≡ []
-  unfolding spaced flatten
+  pub spaced-none : (cs : List ℕ) (i : ℕ) → length cs ≤ i → spacedValues (drop i cs) vs ≡ []
+  unfolding spacedValues flatten
   spaced-none cs i h = rw (drop-of-length-le cs h)
 
   -- how long they are at most
-  spaced-short : (cs : List ℕ) → ((c : ℕ) → length (getD vs c []) ≤ 60000) → length (spaced cs vs) ≤ length cs * 60001
-  unfolding spaced flatten
+  spaced-short : (cs : List ℕ) → ((c : ℕ) → length (getD vs c []) ≤ 60000) → length (spacedValues cs vs) ≤ length cs * 60001
+  unfolding spacedValues flatten
   spaced-short [] h = omega arith
-  spaced-short (c ∷ cs) h = omega (arith, length-append (32 ∷ getD vs c []) (spaced cs vs), h c, spaced-short cs h)
+  spaced-short (c ∷ cs) h = omega (arith, length-append (32 ∷ getD vs c []) (spacedValues cs vs), h c, spaced-short cs h)
 
 module _ (text ws : List ℕ) (r width : ℕ) (cs : List ℕ) (small : length text ≤ 60000) (few : length cs ≤ 16) where
-  values-short : length (spaced cs (listed (valueIn text ws r) width)) ≤ 960016
-  values-short = omega (arith, small, few, spaced-short (listed (valueIn text ws r) width) cs (λ c. omega (arith, small, values-fit text ws r width c)))
+  values-short : length (spacedValues cs (tabulated (valueIn text ws r) width)) ≤ 960016
+  values-short = omega (arith, small, few, spaced-short (tabulated (valueIn text ws r) width) cs (λ c. omega (arith, small, values-fit text ws r width c)))
 
-  row-short : length (rowLine cs (listed (valueIn text ws r) width)) ≤ 960022
-  unfolding rowLine spaced
-  row-short = omega (arith, values-short, length-append (ascii "(row" ++ spaced cs (listed (valueIn text ws r) width)) (ascii ")\n"))
+  row-short : length (rowLine cs (tabulated (valueIn text ws r) width)) ≤ 960022
+  unfolding rowLine spacedValues
+  row-short = omega (arith, values-short, length-append (ascii "(row" ++ spacedValues cs (tabulated (valueIn text ws r) width)) (ascii ")\n"))
 
 -- ---- the sizes that are kept
 
@@ -89,10 +89,10 @@ sizes-more vs ns c n h e = record { each = λ k. go k (eqb k c) refl }
 module _ (text ws cs : List ℕ) (r : ℕ) {marked : Bool} where
   -- the line of a marked row
   pub line-written : {d e : List ℕ} {at next width : ℕ} → r < 1024 → marked ≡ true → Cut 16 r 1024 (valueCountIn ws r) width
-      → Wrote d at (rowLine cs (listed (valueIn text ws r) width)) e next → valueCountIn ws r ≤ 16 → Wrote d at (lineMarked text ws cs r marked) e next
+      → Wrote d at (rowLine cs (tabulated (valueIn text ws r) width)) e next → valueCountIn ws r ≤ 16 → Wrote d at (lineMarked text ws cs r marked) e next
   unfolding lineMarked rowIn
   line-written {d} {e} {at} {next} inside is cut w n =
-      subst (λ b. Wrote d at (lineMarked text ws cs r b) e next) (sym is) (subst (λ k. Wrote d at (rowLine cs (listed (valueIn text ws r) k)) e next) (cut .is inside n) w)
+      subst (λ b. Wrote d at (lineMarked text ws cs r b) e next) (sym is) (subst (λ k. Wrote d at (rowLine cs (tabulated (valueIn text ws r) k)) e next) (cut .is inside n) w)
 
   -- another row has none
   pub line-none : (d : List ℕ) (at : ℕ) → marked ≡ false → Wrote d at (lineMarked text ws cs r marked) d at
@@ -105,7 +105,7 @@ flatten-last [] l = append-nil l
 flatten-last (x ∷ ls) l = ap (λ y. x ++ y) (flatten-last ls l) ∙ sym (append-assoc x (flatten ls) l)
 
 -- the array holds the rows before the last
-fewer-rows : (text ws : List ℕ) (k : ℕ) (rs : List Row) → Rows text ws (k + 1) rs → Rows text ws k (listed (rowIn text ws) k)
+fewer-rows : (text ws : List ℕ) (k : ℕ) (rs : List Row) → Rows text ws (k + 1) rs → Rows text ws k (tabulated (rowIn text ws) k)
 fewer-rows text ws k rs h = record {
   few = omega (arith, h .few);
   narrow = λ r l. h .narrow r (omega (arith, l));
@@ -117,13 +117,13 @@ module _ (text ws cs : List ℕ) (marks : List Bool) where
   -- the lines of one row more
   marked-more : (k : ℕ) → linesMarked text ws cs marks (k + 1) ≡ linesMarked text ws cs marks k ++ lineMarked text ws cs k (getD marks k false)
   unfolding linesMarked
-  marked-more k = ap flatten (listed-more line k) ∙ flatten-last (listed line k) (line k)
+  marked-more k = ap flatten (tabulated-more line k) ∙ flatten-last (tabulated line k) (line k)
     where
       line : ℕ → List ℕ
       line r = lineMarked text ws cs r (getD marks r false)
 
   pub lines-start : (d : List ℕ) → Wrote d 0 (linesMarked text ws cs marks 0) d 0
-  unfolding linesMarked listed flatten
+  unfolding linesMarked tabulated flatten
   lines-start d = wrote-nothing d 0
 
   pub lines-more : {d e f : List ℕ} {k m n : ℕ} {b : Bool} → ((rs : List Row) → Rows text ws k rs → Wrote d 0 (linesMarked text ws cs marks k) e m) → b ≡ getD marks k false
@@ -140,7 +140,7 @@ module _ (text ws cs : List ℕ) (marks : List Bool) where
 
     -- and how long so many lines are
     pub lines-short : (k : ℕ) → length (linesMarked text ws cs marks k) ≤ k * 960022
-    unfolding linesMarked listed flatten
+    unfolding linesMarked tabulated flatten
     lines-short zero = omega arith
     lines-short (suc k) =
         let e : suc k ≡ k + 1 = omega arith in

@@ -6,12 +6,12 @@ use mathlib.Core.List.{List, [], _∷_, flatten, map}
 use mathlib.Core.Path.{_≡_}
 use Rattle.answer.specs.Answer.{Answer, counted, rowLine}
 use Rattle.relations.specs.Rows.{rowIn}
-use Rattle.workspace.specs.Listed.{listed}
+use Rattle.workspace.specs.Tabulated.{tabulated}
 use Rattle.text.specs.Numbers.{Value}
 
 -- the values of a row in these columns, each after a space
-unfoldable pub spaced : List ℕ → List Value → List ℕ
-spaced columns vs = flatten (map (λ c. 32 ∷ getD vs c []) columns)
+unfoldable pub spacedValues : List ℕ → List Value → List ℕ
+spacedValues columns vs = flatten (map (λ c. 32 ∷ getD vs c []) columns)
 
 -- the sizes that are kept are those of the values
 pub record Sizes (vs : List Value) (ns : List ℕ) : Type 0 where
@@ -23,7 +23,7 @@ lineMarked text ws columns r marked = cond marked (rowLine columns (rowIn text w
 
 -- the lines of those of the first k rows that are marked, with their values in these columns
 unfoldable pub linesMarked : (text ws columns : List ℕ) → List Bool → ℕ → List ℕ
-linesMarked text ws columns marks k = flatten (listed (λ r. lineMarked text ws columns r (getD marks r false)) k)
+linesMarked text ws columns marks k = flatten (tabulated (λ r. lineMarked text ws columns r (getD marks r false)) k)
 
 -- the answer of the marked rows: their lines, if it is a select, and the end line with these counts
 unfoldable pub answerMarked : (text ws columns : List ℕ) → List Bool → ℕ → Bool → ℕ → ℕ → ℕ → Answer

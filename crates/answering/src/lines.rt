@@ -15,10 +15,10 @@ ghost use lib.ListN.{getD, length, set, take};
 ghost use mathlib.Core.List.{List, []};
 ghost use mathlib.Core.Path.{_≡_};
 ghost use Rattle.answer.specs.Answer.{endLine, rowLine};
-ghost use Rattle.answering.specs.Lines.{Sizes, lineMarked, linesMarked, spaced};
+ghost use Rattle.answering.specs.Lines.{Sizes, lineMarked, linesMarked, spacedValues};
 ghost use Rattle.document.specs.Policy.{Row};
 ghost use Rattle.relations.specs.Rows.{Rows, valueCountIn, valueIn};
-ghost use Rattle.workspace.specs.Listed.{listed};
+ghost use Rattle.workspace.specs.Tabulated.{tabulated};
 ghost use Rattle.text.specs.Numbers.{Value};
 ghost use Rattle.text.specs.Words.{writtenAt};
 ghost use Rattle.writing.specs.Write.{Wrote};
@@ -73,7 +73,7 @@ fn put_values(
     columns: &[usize],
 ) -> usize
     requires { ⌜ (r < 1024) × (width ≤ 16) ⌝ }
-    ensures { λ x. ⌜ Wrote (now (out .entry)) at (spaced (now (columns .entry)) (listed (valueIn (now (text .entry)) (now (rows .entry)) r) width)) (now (out .exit)) x ⌝ }
+    ensures { λ x. ⌜ Wrote (now (out .entry)) at (spacedValues (now (columns .entry)) (tabulated (valueIn (now (text .entry)) (now (rows .entry)) r) width)) (now (out .exit)) x ⌝ }
 {
     let mut sizes = [0usize; COLUMNS];
     let mut to = at;
@@ -100,7 +100,7 @@ fn put_row(
     columns: &[usize],
 ) -> usize
     requires { ⌜ (r < 1024) × (width ≤ 16) ⌝ }
-    ensures { λ x. ⌜ Wrote (now (out .entry)) at (rowLine (now (columns .entry)) (listed (valueIn (now (text .entry)) (now (rows .entry)) r) width)) (now (out .exit)) x ⌝ }
+    ensures { λ x. ⌜ Wrote (now (out .entry)) at (rowLine (now (columns .entry)) (tabulated (valueIn (now (text .entry)) (now (rows .entry)) r) width)) (now (out .exit)) x ⌝ }
 {
     let a = put_bytes(out, at, b"(row");
     let b = put_values(out, a, text, rows, r, width, columns);

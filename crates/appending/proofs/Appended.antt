@@ -19,11 +19,11 @@ use Rattle.form.specs.Form.{byRow}
 use Rattle.form.specs.RowText.{rowText}
 use Rattle.import.proofs.ReadBack.{lines-cut}
 use Rattle.import.proofs.RowLaws.{unfit-first}
-use Rattle.import.specs.Importing.{firstUnfit, linesOf, oneLabel}
+use Rattle.import.specs.Importing.{firstUnfit, oneLabel, recordLines}
 use Rattle.import.specs.Records.{Entry}
 use Rattle.lists.proofs.ListLaws.{there-some}
 use Rattle.lists.proofs.Tests.{and-both, and-left, and-right}
-use Rattle.lists.specs.Lists.{allOf, known, there}
+use Rattle.lists.specs.Lists.{allOf, orZero, there}
 use Rattle.text.specs.Lines.{Pieces, cut}
 use Rattle.text.specs.Names.{Name, isName}
 use Rattle.text.specs.Numbers.{isValue}
@@ -37,14 +37,14 @@ module _ (t l : Name) (nameT : isName t ≡ true) (nameL : isName l ≡ true) (p
   docWith rs = record { policy = p; rows = rs }
 
   abbrev rowWith : Entry → Row
-  rowWith e = rowFor (known (tableOf p (plainWord t))) (known (labelOf p (plainWord l))) e
+  rowWith e = rowFor (orZero (tableOf p (plainWord t))) (orZero (labelOf p (plainWord l))) e
 
   abbrev checkLines : List Row → ℕ → ℕ → List Entry → Result Accepted
-  checkLines rs n at es = checkFrom (docWith rs) n at (cut (linesOf t l es) .head) (cut (linesOf t l es) .others)
+  checkLines rs n at es = checkFrom (docWith rs) n at (cut (recordLines t l es) .head) (cut (recordLines t l es) .others)
 
   -- nothing stands behind the last line
   none-left : (rs : List Row) (n at : ℕ) → checkLines rs n at [] ≡ accepted (record { lines = n; doc = docWith rs })
-  unfolding linesOf flatten cut checkFrom movedBy refuseIf _>>_
+  unfolding recordLines flatten cut checkFrom movedBy refuseIf _>>_
   none-left rs n at = refl
 
   line-checked : (e : Entry) (rs : List Row) → allOf isValue (e .fields) ≡ true → Takes (docWith rs) t l e
@@ -58,7 +58,7 @@ module _ (t l : Name) (nameT : isName t ≡ true) (nameL : isName l ≡ true) (p
   one-checked e es rs n at v k = (
     _,
     ap (λ (ps : Pieces). checkFrom (docWith rs) n at (ps .head) (ps .others)) (lines-cut t l nameT nameL e es v)
-        ∙ line-first (docWith rs) _ n at _ (cut (linesOf t l es) .head) (cut (linesOf t l es) .others) (line-checked e rs v k),
+        ∙ line-first (docWith rs) _ n at _ (cut (recordLines t l es) .head) (cut (recordLines t l es) .others) (line-checked e rs v k),
   )
 
   lines-accepted : there (tableOf p (plainWord t)) ≡ true → there (labelOf p (plainWord l)) ≡ true
@@ -82,7 +82,7 @@ module _ (t l : Name) (nameT : isName t ≡ true) (nameL : isName l ≡ true) (p
       → Takes (docWith rs) t l e × ((at′ : ℕ) × (checkLines (rs ++ (rowWith e ∷ [])) (n + 1) at′ es ≡ accepted b))
   first-taken e es rs n at b v h =
       let r = row-of t l (e .fields) nameT nameL v in
-      let m = more-accepted (docWith rs) n at (rowText oneLabel t (l ∷ []) (e .fields)) (cut (linesOf t l es) .head) (cut (linesOf t l es) .others) b
+      let m = more-accepted (docWith rs) n at (rowText oneLabel t (l ∷ []) (e .fields)) (cut (recordLines t l es) .head) (cut (recordLines t l es) .others) b
       (sym (ap (λ (ps : Pieces). checkFrom (docWith rs) n at (ps .head) (ps .others)) (lines-cut t l nameT nameL e es v)) ∙ h) in
       let k = row-taken (docWith rs) e (r .2) s (rowText oneLabel t (l ∷ []) (e .fields)) (r .1) (m .0) (m .1) in
       let x = one-checked e es rs n at v k in
@@ -103,39 +103,39 @@ module _ (t l : Name) (nameT : isName t ≡ true) (nameL : isName l ≡ true) (p
 
 -- The lines of records that fit an accepted document are accepted behind it, and add one row for each record, in order.
 pub rows-appended : (doc : List ℕ) (t l : Name) (es : List Entry) → isName t ≡ true → isName l ≡ true → firstUnfit es ≡ none
-    → (h : Appends doc (linesOf t l es) t l es) → check (doc ++ linesOf t l es) ≡ accepted (appended (h .checked) (h .table) (h .label) es)
-unfolding schemeOf columnsOf known there appended
+    → (h : Appends doc (recordLines t l es) t l es) → check (doc ++ recordLines t l es) ≡ accepted (appended (h .checked) (h .table) (h .label) es)
+unfolding schemeOf columnsOf orZero there appended
 rows-appended doc t l es nameT nameL u h =
     let a = h .checked in
     let p : Policy = a .doc .policy in
-    let scheme : schemeOf p (plainWord t) ≡ byRow = ap (λ (o : Option ℕ). schemeAt p (known o)) (h .knownTable) ∙ h .isByRow in
-    let fits : allOf (fitsColumns (columnsOf p (plainWord t))) es ≡ true = ap (λ (o : Option ℕ). allOf (fitsColumns (columnsAt p (known o))) es) (h .knownTable) ∙ h .fit in
-    let x = check-joined doc (linesOf t l es) a (h .accepts) (h .short) in
+    let scheme : schemeOf p (plainWord t) ≡ byRow = ap (λ (o : Option ℕ). schemeAt p (orZero o)) (h .knownTable) ∙ h .isByRow in
+    let fits : allOf (fitsColumns (columnsOf p (plainWord t))) es ≡ true = ap (λ (o : Option ℕ). allOf (fitsColumns (columnsAt p (orZero o))) es) (h .knownTable) ∙ h .fit in
+    let x = check-joined doc (recordLines t l es) a (h .accepts) (h .short) in
     x .1
     ∙ lines-accepted t l nameT nameL p scheme (ap there (h .knownTable)) (ap there (h .knownLabel)) es (a .doc .rows) (a .lines) (x .0) u fits (h .few)
-    ∙ (λ i. accepted (appended a (known (h .knownTable i)) (known (h .knownLabel i)) es))
+    ∙ (λ i. accepted (appended a (orZero (h .knownTable i)) (orZero (h .knownLabel i)) es))
 
 -- and where they are accepted behind it they fit it, if there is a record and the table is labelled by row
 pub only-appended : (doc : List ℕ) (t l : Name) (e : Entry) (es : List Entry) → isName t ≡ true → isName l ≡ true → firstUnfit (e ∷ es) ≡ none
-    → (a b : Accepted) → check doc ≡ accepted a → schemeOf (a .doc .policy) (plainWord t) ≡ byRow → check (doc ++ linesOf t l (e ∷ es)) ≡ accepted b
-    → Appends doc (linesOf t l (e ∷ es)) t l (e ∷ es)
+    → (a b : Accepted) → check doc ≡ accepted a → schemeOf (a .doc .policy) (plainWord t) ≡ byRow → check (doc ++ recordLines t l (e ∷ es)) ≡ accepted b
+    → Appends doc (recordLines t l (e ∷ es)) t l (e ∷ es)
 unfolding schemeOf columnsOf allOf
 only-appended doc t l e es nameT nameL u a b h scheme g =
     let p : Policy = a .doc .policy in
     let rs : List Row = a .doc .rows in
     let v = unfit-first e es u in
-    let short : length (doc ++ linesOf t l (e ∷ es)) ≤ 60000 = ltb-false 60000 _ (check-accepted _ b g .0) in
-    let x = check-joined doc (linesOf t l (e ∷ es)) a h short in
+    let short : length (doc ++ recordLines t l (e ∷ es)) ≤ 60000 = ltb-false 60000 _ (check-accepted _ b g .0) in
+    let x = check-joined doc (recordLines t l (e ∷ es)) a h short in
     let k = first-taken t l nameT nameL p scheme e es rs (a .lines) (x .0) b (v .0) (sym (x .1) ∙ g) in
     let room = k .0 .room in
     let y = lines-taken t l nameT nameL p scheme (e ∷ es) rs (a .lines) (x .0) b u (omega (arith, room)) (sym (x .1) ∙ g) in
     record {
       checked = a;
       accepts = h;
-      table = known (tableOf p (plainWord t));
+      table = orZero (tableOf p (plainWord t));
       knownTable = there-some (tableOf p (plainWord t)) (k .0 .table);
       isByRow = scheme;
-      label = known (labelOf p (plainWord l));
+      label = orZero (labelOf p (plainWord l));
       knownLabel = there-some (labelOf p (plainWord l)) (k .0 .label);
       fit = y .0;
       few = y .1;

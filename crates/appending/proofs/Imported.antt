@@ -10,7 +10,7 @@ use Rattle.document.specs.Check.{Accepted, check}
 use Rattle.document.specs.Lookup.{schemeOf}
 use Rattle.form.specs.Form.{byRow}
 use Rattle.import.proofs.ReadBack.{was-accepted}
-use Rattle.import.specs.Importing.{firstUnfit, importing, linesOf}
+use Rattle.import.specs.Importing.{firstUnfit, importing, recordLines}
 use Rattle.import.specs.Records.{Entry}
 use Rattle.lists.proofs.Tests.{and-left, and-right, true-not-false}
 use Rattle.lists.specs.Lists.{isEmpty}
@@ -34,6 +34,6 @@ file-appended doc file t l room bs h =
     }
   where
     some-record : (es : List Entry) → isName t ≡ true → isName l ≡ true → firstUnfit es ≡ none → (a b : Accepted) → check doc ≡ accepted a → schemeOf (a .doc .policy) (plainWord t) ≡ byRow → isEmpty es ≡ false
-        → check (doc ++ linesOf t l es) ≡ accepted b → Appends doc (linesOf t l es) t l es
+        → check (doc ++ recordLines t l es) ≡ accepted b → Appends doc (recordLines t l es) t l es
     some-record [] isT isL u a b h s e g = true-not-false refl e
     some-record (x ∷ es) isT isL u a b h s e g = only-appended doc t l x es isT isL u a b h s g

@@ -30,7 +30,7 @@ use Rattle.import.specs.Fields.{Field}
 use Rattle.import.specs.Records.{Entry}
 use Rattle.lists.proofs.ListLaws.{map-inv, map-map, there-none}
 use Rattle.lists.proofs.Tests.{and-both, and-left, and-right, not-false}
-use Rattle.lists.specs.Lists.{allOf, holdsOf, known, there}
+use Rattle.lists.specs.Lists.{allOf, holdsOf, orZero, there}
 use Rattle.text.proofs.OffendingLaws.{leftmost-head, leftmost-none, leftmost-nil, leftmost-only, leftmost-tail, unless-none, unless-true}
 use Rattle.text.proofs.ReadBack.{placeless}
 use Rattle.text.specs.Names.{Name, isName}
@@ -141,15 +141,15 @@ module _ (p : Policy) {t l : Name} {vs : List Value} {f : Form} (r : RowOf t l v
       ∙ mistyped-by-bytes (columnsOf p (r .table)) (r .words)
       ∙ (λ i. there (mistypedValue (columnsOf p (plainWord (r .isTable i))) (map plainWord (r .areValues i))))
 
-  meant-is : rowMeant p (r .table) (r .items) ≡ record { table = known (tableOf p (plainWord t)); values = vs; labels = known (labelOf p (plainWord l)) ∷ [] }
+  meant-is : rowMeant p (r .table) (r .items) ≡ record { table = orZero (tableOf p (plainWord t)); values = vs; labels = orZero (labelOf p (plainWord l)) ∷ [] }
   unfolding rowMeant tableOf labelOf isCalled plainWord
   meant-is =
       ap (λ (x : Scheme ℕ). meant x (rowValues x (r .items)) (rowLabels x (r .items))) scheme-is
       ∙ (λ i. meant byRow (r .values i) (r .labels i))
-      ∙ (λ i. record { table = known (tableOf p (plainWord (r .isTable i))); values = r .areValues i; labels = known (labelOf p (plainWord (r .isLabel i))) ∷ [] })
+      ∙ (λ i. record { table = orZero (tableOf p (plainWord (r .isTable i))); values = r .areValues i; labels = orZero (labelOf p (plainWord (r .isLabel i))) ∷ [] })
     where
       meant : Scheme ℕ → Option (List Word) → List Word → Row
-      meant x o ws = record { table = known (tableOf p (r .table)); values = map (λ w. w .bytes) (Option·getD o []); labels = map (λ w. known (labelOf p w)) ws }
+      meant x o ws = record { table = orZero (tableOf p (r .table)); values = map (λ w. w .bytes) (Option·getD o []); labels = map (λ w. orZero (labelOf p w)) ws }
 
 -- ---- the line
 
@@ -163,7 +163,7 @@ pub record Takes (d : Doc) (t l : Name) (e : Entry) : Type 0 where
 
 -- the document with the row behind its others
 unfoldable pub withRow : Doc → Name → Name → Entry → Doc
-withRow d t l e = record { policy = d .policy; rows = d .rows ++ (rowFor (known (tableOf (d .policy) (plainWord t))) (known (labelOf (d .policy) (plainWord l))) e ∷ []) }
+withRow d t l e = record { policy = d .policy; rows = d .rows ++ (rowFor (orZero (tableOf (d .policy) (plainWord t))) (orZero (labelOf (d .policy) (plainWord l))) e ∷ []) }
 
 module _ (d : Doc) {t l : Name} (e : Entry) {f : Form} (r : RowOf t l (e .fields) f) (s : schemeOf (d .policy) (plainWord t) ≡ byRow) where
   adds-row : add d (row (r .table) (r .items)) ≡ withRow d t l e

@@ -12,7 +12,7 @@ use native.Mathlib.Omega.{arith}
 use Rattle.condition.proofs.CondEats.{size}
 use Rattle.condition.proofs.PlaceLaws.{places-here, places-next, places-read, placesIn}
 use Rattle.condition.proofs.ReadLaws.{condition-at, placed-is, read-count}
-use Rattle.condition.specs.Answers.{Placed, comparedAt, counted, opensComparison}
+use Rattle.condition.specs.Answers.{Placed, comparedAt, opensComparison, readTo}
 use Rattle.condition.specs.Cond.{Cond, comparisons}
 use Rattle.condition.specs.CondForm.{Compared, conditionInForm, mistyped}
 use Rattle.condition.specs.Kinds.{Kind, hasKind, numbers, takes}
@@ -25,7 +25,7 @@ use Rattle.document.specs.ValueFaults.{misfit}
 use Rattle.form.specs.Form.{Form, condRole}
 use Rattle.lists.proofs.ListLaws.{all-map, findIndex-found, holdsOf-some, map-map}
 use Rattle.lists.proofs.Tests.{and-both, and-left, and-right, or-right}
-use Rattle.lists.specs.Lists.{allOf, holdsOf, known, there}
+use Rattle.lists.specs.Lists.{allOf, holdsOf, orZero, there}
 use Rattle.purpose.specs.Compliance.{descends}
 use Rattle.text.proofs.Lefts.{before-end}
 use Rattle.text.proofs.OffendingLaws.{leftmost-only}
@@ -120,7 +120,7 @@ all-taken f (x ∷ xs) (suc n) (suc i) h a b = all-taken f xs n i (and-right (f 
 -- the answer of n comparisons and the places that were stored: how many there are, and what a condition that stands there has
 module _ (s : List ℕ) (at : ℕ) (r : Read) (ops : List ℕ) (p : Placed s at r ops) (e n : ℕ) (h : r ≡ read.At e n) where
   count-is : (x : Cond Compared) (l : Left) → conditionInForm (from s at) ≡ some (x, l) → n ≡ size x
-  count-is x l k = read-count e (l .at) n (size x) (sym h ∙ p .reads ∙ ap counted k)
+  count-is x l k = read-count e (l .at) n (size x) (sym h ∙ p .reads ∙ ap readTo k)
 
   -- there are no more than 64 of them, and so they are those that were stored
   module _ (few : n ≤ 64) where
@@ -158,7 +158,7 @@ module _ (s : List ℕ) (at : ℕ) (r : Read) (ops : List ℕ) (p : Placed s at 
   stored-count o x l k = omega (arith, count-is x l k)
 
 -- a condition that was read is not none
-pub read-there : (s : List ℕ) (at e n : ℕ) (r : Read) → r ≡ counted (conditionInForm (from s at)) → r ≡ read.At e n → {A : Type 0} → conditionInForm (from s at) ≡ none → A
+pub read-there : (s : List ℕ) (at e n : ℕ) (r : Read) → r ≡ readTo (conditionInForm (from s at)) → r ≡ read.At e n → {A : Type 0} → conditionInForm (from s at) ≡ none → A
 read-there s at e n r h k {A} z = absurd (Option·none-ne-some _ (sym z ∙ condition-at s at e n (sym h ∙ k) .is))
 
 -- what was read and what was not
@@ -197,7 +197,7 @@ module _ (d : Doc) (line : List ℕ) (c r : ℕ) (x : Cond Compared) where
 
   -- what is unknown, by the role that was found
   abbrev unknownBy : Option ℕ → Option Word
-  unknownBy o = leftmost (unless (there o) (wordOf line r) ∷ missing (usableFor (d .policy) (known o)) (map (λ y. y .of) (comparisons x)) ∷ [])
+  unknownBy o = leftmost (unless (there o) (wordOf line r) ∷ missing (usableFor (d .policy) (orZero o)) (map (λ y. y .of) (comparisons x)) ∷ [])
 
   pub role-unknown : none ≡ roleOf (d .policy) (wordOf line r) → unknown (d .policy) form ≡ some (wordOf line r)
   unfolding unknown leftmost unless there
@@ -205,7 +205,7 @@ module _ (d : Doc) (line : List ℕ) (c r : ℕ) (x : Cond Compared) where
 
   attribute-unknown : (i : ℕ) (ps : List ℕ) → some i ≡ roleOf (d .policy) (wordOf line r) → comparisons x ≡ map (comparedAt line) ps
       → unknown (d .policy) form ≡ missing (usableFor (d .policy) i) (map (λ p. wordOf line (nextWord line p)) ps)
-  unfolding unknown leftmost unless there known comparedAt
+  unfolding unknown leftmost unless there orZero comparedAt
   attribute-unknown i ps h e =
       ap unknownBy (sym h)
       ∙ leftmost-only (missing (usableFor (d .policy) i) (map (λ y. y .of) (comparisons x)))

@@ -9,7 +9,7 @@ use Rattle.authority.specs.Values.{Values}
 use Rattle.document.specs.Meaning.{givenOf}
 use Rattle.document.specs.Policy.{Given, Policy, User}
 use Rattle.form.specs.Walks.{givensAt}
-use Rattle.workspace.proofs.ListedLaws.{listed-at}
+use Rattle.workspace.proofs.TabulatedLaws.{tabulated-at}
 use Rattle.workspace.specs.Cells.{lineIn}
 use Rattle.principals.specs.Users.{Users, userEndIn, userIn, userPlaceIn, userRoleIn, userStartIn}
 use Rattle.lists.specs.Lists.{findIndex}
@@ -25,7 +25,7 @@ module _ {d : Policy} {text ws : List ℕ} {k : ℕ} {us : List User} (h : Users
   small = omega (arith, l, h .few)
 
   pub user-at : getElem? us i ≡ some (userIn d text ws i)
-  user-at = ap (λ xs. getElem? xs i) (sym (h .are)) ∙ listed-at (userIn d text ws) k i l
+  user-at = ap (λ xs. getElem? xs i) (sym (h .are)) ∙ tabulated-at (userIn d text ws) k i l
 
   pub role-of : (r : ℕ) → (i < 256 → r ≡ userRoleIn ws i) → r ≡ userIn d text ws i .role
   unfolding userIn

@@ -9,7 +9,7 @@ use native.Mathlib.Omega.{arith}
 use Rattle.authority.specs.Held.{Held, conditionHolds}
 use Rattle.document.specs.Policy.{CondRole, Grant, Policy, User, treeOf}
 use Rattle.principals.proofs.IndexLaws.{conds-length}
-use Rattle.workspace.proofs.ListedLaws.{listed-at, listed-found, listed-none, listed-there}
+use Rattle.workspace.proofs.TabulatedLaws.{tabulated-at, tabulated-found, tabulated-none, tabulated-there}
 use Rattle.principals.specs.CondRoles.{CondRoles, condRoleIn, condRoleRoleIn}
 use Rattle.principals.specs.Grants.{Grants, grantIn}
 use Rattle.principals.specs.Nodes.{Nodes}
@@ -127,16 +127,16 @@ module _ {closure : Closure} {roles : List ℕ} {rcount : ℕ} {conds : List ℕ
   pub none-found : ((j : ℕ) → j < gcount → passes j ≡ false) → none ≡ findIndex (authorises (t .d) (t .clock) (t .u) (t .p)) (t .d .grants)
   none-found h =
       let f : Grant → Bool = authorises (t .d) (t .clock) (t .u) (t .p) in
-      sym (listed-none f (grantIn grants) gcount h) ∙ ap (findIndex f) (t .given .are)
+      sym (tabulated-none f (grantIn grants) gcount h) ∙ ap (findIndex f) (t .given .are)
 
   pub one-found : (i : ℕ) → i < gcount → ((j : ℕ) → j < i → passes j ≡ false) → passes i ≡ true → some i ≡ findIndex (authorises (t .d) (t .clock) (t .u) (t .p)) (t .d .grants)
   one-found i l h e =
       let f : Grant → Bool = authorises (t .d) (t .clock) (t .u) (t .p) in
-      sym (listed-found f (grantIn grants) gcount i l h e) ∙ ap (findIndex f) (t .given .are)
+      sym (tabulated-found f (grantIn grants) gcount i l h e) ∙ ap (findIndex f) (t .given .are)
 
   module _ (i : ℕ) (l : i < gcount) where
     here : getElem? (t .d .grants) i ≡ some (grantIn grants i)
-    here = ap (λ gs. getElem? gs i) (sym (t .given .are)) ∙ listed-at (grantIn grants) gcount i l
+    here = ap (λ gs. getElem? gs i) (sym (t .given .are)) ∙ tabulated-at (grantIn grants) gcount i l
 
     above-is : (q : ℕ) → PurposeRead grants i q → isAbove closure q ≡ descends (treeOf (t .d .purposes)) (t .p) (grantIn grants i .purpose)
     above-is q of =
@@ -163,7 +163,7 @@ module _ {closure : Closure} {roles : List ℕ} {rcount : ℕ} {conds : List ℕ
         target-is : (x : CondRole) → getElem? (t .d .condRoles) (grantIn grants i .condRole) ≡ some x → x .role ≡ target
         unfolding condRoleIn
         target-is x e =
-            let w = listed-there (condRoleIn (t .d) (t .text) conds) ccount (grantIn grants i .condRole) x (ap (λ xs. getElem? xs (grantIn grants i .condRole)) (t .conditions .are) ∙ e) in
+            let w = tabulated-there (condRoleIn (t .d) (t .text) conds) ccount (grantIn grants i .condRole) x (ap (λ xs. getElem? xs (grantIn grants i .condRole)) (t .conditions .are) ∙ e) in
             let small : r < 64 = omega (arith, w .0, role-is, t .conditions .few) in
             ap (λ y. y .role) (w .1) ∙ ap (λ n. condRoleRoleIn conds n) (sym role-is) ∙ sym (is small)
 

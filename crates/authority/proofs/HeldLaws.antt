@@ -12,7 +12,7 @@ use mathlib.Core.Option.{Option·getD, Option·map, Option·none-ne-some, Option
 use mathlib.Core.Path.{_∙_, _≡_, ap, refl, sym}
 use native.Mathlib.Omega.{arith}
 use Rattle.authority.specs.Held.{Held, comparisonHolds, conditionHolds, wordsMeet}
-use Rattle.authority.specs.Values.{Values, valueAt}
+use Rattle.authority.specs.Values.{Values, valueGivenAt}
 use Rattle.condition.proofs.CondLaws.{comparisons-map, holds-map}
 use Rattle.condition.proofs.ReadLaws.{held-is, placed-is}
 use Rattle.condition.specs.Answers.{Placed, comparedAt, comparisonsAt, heldRead, operatorOf}
@@ -25,13 +25,13 @@ use Rattle.document.specs.Lookup.{attributeKind, attributeNamed, attributeOf}
 use Rattle.document.specs.Meaning.{attributeComparison}
 use Rattle.document.specs.Policy.{Attribute, CondRole, Policy, User}
 use Rattle.principals.proofs.IndexLaws.{attributes-length}
-use Rattle.workspace.proofs.ListedLaws.{listed-at, listed-there}
+use Rattle.workspace.proofs.TabulatedLaws.{tabulated-at, tabulated-there}
 use Rattle.principals.specs.Attributes.{Attributes}
 use Rattle.workspace.specs.Cells.{lineIn}
-use Rattle.principals.specs.CondRoles.{CondRoles, attributesKnown, condRoleEndIn, condRoleIn, condRolePlaceIn, condRoleStartIn, conditionAt, conditionIn, conditionRead, conditionReads, readsIn}
+use Rattle.principals.specs.CondRoles.{CondRoles, attributesKnown, condRoleEndIn, condRoleIn, condRolePlaceIn, condRoleStartIn, conditionIn, conditionInLine, conditionRead, conditionReads, readsIn}
 use Rattle.lists.proofs.ListLaws.{all-here, findIndex-found, holdsOf-some, map-map, there-some}
 use Rattle.lists.proofs.Tests.{and-left, and-right, decide}
-use Rattle.lists.specs.Lists.{allOf, holdsOf, known, there}
+use Rattle.lists.specs.Lists.{allOf, holdsOf, orZero, there}
 use Rattle.query.specs.Authority.{Clock, attributeMeets, clockNumber, daysIn, inRange, leap, userValue}
 use Rattle.text.specs.Bytes.{within}
 use Rattle.text.specs.Numbers.{Value, rank, rankOf}
@@ -96,17 +96,17 @@ module _ (c : Clock) where
 -- ---- the user's values
 
 module _ (line places : List ℕ) (u : User) (h : Values line (u .values) places) (n : ℕ) (l : n < 35) where
-  user-place : userValue u n ≡ valueAt line (getD places n 0)
+  user-place : userValue u n ≡ valueGivenAt line (getD places n 0)
   unfolding userValue
   user-place = sym (h .are n l)
 
   pub user-none : (f : Value → Bool) → getD places n 0 ≡ 0 → false ≡ holdsOf f (userValue u n)
-  unfolding valueAt holdsOf
-  user-none f e = sym (ap (holdsOf f) (user-place ∙ ap (valueAt line) e))
+  unfolding valueGivenAt holdsOf
+  user-none f e = sym (ap (holdsOf f) (user-place ∙ ap (valueGivenAt line) e))
 
   pub user-some : (f : Value → Bool) → (getD places n 0 ≡ 0 → ⊥) → f (wordAt line (getD places n 0 - 1)) ≡ holdsOf f (userValue u n)
-  unfolding valueAt holdsOf
-  user-some f e = sym (ap (holdsOf f) (user-place ∙ ap (valueAt line) one))
+  unfolding valueGivenAt holdsOf
+  user-some f e = sym (ap (holdsOf f) (user-place ∙ ap (valueGivenAt line) one))
     where
       one : getD places n 0 ≡ suc (getD places n 0 - 1)
       one = omega (arith, e)
@@ -122,11 +122,11 @@ attribute-below text ws k xs n a h e = omega (arith, inside xs n a e, attributes
 
 -- ---- one comparison
 
-module _ (d : Policy) (c : Clock) (u : User) (op : Op) (w : Word) (v : Value) (n : ℕ) (e : n ≡ known (attributeOf d w)) where
+module _ (d : Policy) (c : Clock) (u : User) (op : Op) (w : Word) (v : Value) (n : ℕ) (e : n ≡ orZero (attributeOf d w)) where
   -- an attribute of the clock
-  pub meets-clock : (m : ℕ) → clockNumber c n ≡ some m → ranksMeet op (rankOf m) (known (rank v)) ≡ wordsMeet d c u op w v
+  pub meets-clock : (m : ℕ) → clockNumber c n ≡ some m → ranksMeet op (rankOf m) (orZero (rank v)) ≡ wordsMeet d c u op w v
   unfolding wordsMeet attributeMeets
-  meets-clock m f = sym (ap (attributeMeets u (record { of = known (attributeOf d w); kind = attributeKind d w; op = op; value = v })) (ap (clockNumber c) (sym e) ∙ f))
+  meets-clock m f = sym (ap (attributeMeets u (record { of = orZero (attributeOf d w); kind = attributeKind d w; op = op; value = v })) (ap (clockNumber c) (sym e) ∙ f))
 
   -- the attribute itself
   pub attribute-there : there (attributeOf d w) ≡ true → (a : Attribute) × (getElem? (d .attributes) n ≡ some a) × (attributeKind d w ≡ a .kind)
@@ -142,7 +142,7 @@ module _ (d : Policy) (c : Clock) (u : User) (op : Op) (w : Word) (v : Value) (n
   meets-user k l f =
       ap (λ x. holdsOf (λ y. valuesMeet x op y v) (userValue u n)) (sym f)
       ∙ ap (λ m. holdsOf (λ y. valuesMeet (attributeKind d w) op y v) (userValue u m)) e
-      ∙ sym (ap (attributeMeets u (record { of = known (attributeOf d w); kind = attributeKind d w; op = op; value = v })) (ap (clockNumber c) (sym e) ∙ clock-none c n l))
+      ∙ sym (ap (attributeMeets u (record { of = orZero (attributeOf d w); kind = attributeKind d w; op = op; value = v })) (ap (clockNumber c) (sym e) ∙ clock-none c n l))
 
 -- the comparison whose operator stands at a place
 module _ (s : List ℕ) (at name v : ℕ) (p : name ≡ nextWord s at) (q : v ≡ nextWord s name) where
@@ -224,7 +224,7 @@ module _ (d : Policy) (k : Clock) (u : User) (s : List ℕ) (at : ℕ) where
 -- the condition read in its line is that of the conditional role
 pub role-read : (text ws : List ℕ) (i a e p : ℕ) (line : List ℕ) → a ≡ condRoleStartIn ws i → e ≡ condRoleEndIn ws i → p ≡ condRolePlaceIn ws i → line ≡ lineIn text a e
     → conditionRead (conditionInForm (from line p)) ≡ conditionIn text ws i
-unfolding conditionIn conditionAt
+unfolding conditionIn conditionInLine
 role-read text ws i a e p line ea ee ep el =
     ap (λ l. conditionRead (conditionInForm (from l p))) (el ∙ (λ j. lineIn text (ea j) (ee j)))
     ∙ ap (λ n. conditionRead (conditionInForm (from (lineIn text (condRoleStartIn ws i) (condRoleEndIn ws i)) n))) ep
@@ -251,7 +251,7 @@ module _ (d : Policy) (c : Clock) (u : User) (text ws : List ℕ) (i : ℕ) wher
 -- all conditional roles
 module _ (d : Policy) (text ws : List ℕ) (k : ℕ) (rs : List CondRole) (h : CondRoles d text ws k rs) where
   pub role-short : ((i : ℕ) (r : CondRole) → getElem? rs i ≡ some r → length (comparisons (r .condition)) ≤ 64) → (i : ℕ) → i < k → length (comparisons (condRoleIn d text ws i .condition)) ≤ 64
-  role-short short i l = short i (condRoleIn d text ws i) (ap (λ (x : List CondRole). getElem? x i) (sym (h .are)) ∙ listed-at (condRoleIn d text ws) k i l)
+  role-short short i l = short i (condRoleIn d text ws i) (ap (λ (x : List CondRole). getElem? x i) (sym (h .are)) ∙ tabulated-at (condRoleIn d text ws) k i l)
 
   pub roles-held : (c : Clock) (u : User) (ts : List Bool) → ((j : ℕ) → j < k → getD ts j false ≡ conditionHolds c u (condRoleIn d text ws j)) → Held c u rs ts
-  roles-held c u ts each = record { are = λ i r e. let got = listed-there (condRoleIn d text ws) k i r (ap (λ (x : List CondRole). getElem? x i) (h .are) ∙ e) in each i (got .0) ∙ ap (conditionHolds c u) (sym (got .1)) }
+  roles-held c u ts each = record { are = λ i r e. let got = tabulated-there (condRoleIn d text ws) k i r (ap (λ (x : List CondRole). getElem? x i) (h .are) ∙ e) in each i (got .0) ∙ ap (conditionHolds c u) (sym (got .1)) }

@@ -13,10 +13,10 @@ use native.Mathlib.Omega.{arith}
 use Rattle.authority.specs.Purposes.{parentIn}
 use Rattle.document.specs.Policy.{Node}
 use Rattle.document.specs.Policy as policy
-use Rattle.workspace.proofs.ListedLaws.{length-listed, listed-getD}
+use Rattle.workspace.proofs.TabulatedLaws.{length-tabulated, tabulated-getD}
 use Rattle.principals.proofs.NodeLaws.{tree-length, tree-parent}
 use Rattle.principals.specs.Nodes.{Nodes}
-use Rattle.workspace.specs.Listed.{listed}
+use Rattle.workspace.specs.Tabulated.{tabulated}
 use Rattle.lists.proofs.Tests.{decide}
 use Rattle.purpose.specs.Compliance.{Grown, climbs, descends, parent}
 use Rattle.purpose.proofs.Growing.{treeFrom-all}
@@ -61,49 +61,49 @@ parent-later ws zero l = absurd (omega (arith, l))
 parent-later ws (suc i) l = refl
 
 module _ {text ws : List ℕ} {k : ℕ} {ns : List Node} (n : Nodes limit text ws k ns) where
-  parent-same : (p : ℕ) → 0 < p → parent (listed (parentIn ws) k) p ≡ parent (policy.treeOf ns) p
+  parent-same : (p : ℕ) → 0 < p → parent (tabulated (parentIn ws) k) p ≡ parent (policy.treeOf ns) p
   parent-same p pos = ⊎-elim (λ e. inside (ltb-true p k e)) (λ e. outside (ltb-false p k e)) (decide (ltb p k))
     where
-      inside : p < k → parent (listed (parentIn ws) k) p ≡ parent (policy.treeOf ns) p
-      inside l = listed-getD (parentIn ws) k p p l ∙ parent-later ws p pos ∙ sym (tree-parent n p l)
+      inside : p < k → parent (tabulated (parentIn ws) k) p ≡ parent (policy.treeOf ns) p
+      inside l = tabulated-getD (parentIn ws) k p p l ∙ parent-later ws p pos ∙ sym (tree-parent n p l)
 
-      outside : k ≤ p → parent (listed (parentIn ws) k) p ≡ parent (policy.treeOf ns) p
+      outside : k ≤ p → parent (tabulated (parentIn ws) k) p ≡ parent (policy.treeOf ns) p
       outside l =
-          List·getD-eq-default (listed (parentIn ws) k) p (subst (λ m. m ≤ p) (sym (length-listed (parentIn ws) k)) l)
+          List·getD-eq-default (tabulated (parentIn ws) k) p (subst (λ m. m ≤ p) (sym (length-tabulated (parentIn ws) k)) l)
           ∙ sym (List·getD-eq-default (policy.treeOf ns) p (subst (λ m. m ≤ p) (sym (tree-length n)) l))
 
   -- the closure in the tree as it is built is that in the document's
-  pub closure-listed : (t : List ℕ) → t ≡ listed (parentIn ws) k → (p : ℕ) (c : Closure) → ClosureOf t p c → ClosureOf (policy.treeOf ns) p c
+  pub closure-listed : (t : List ℕ) → t ≡ tabulated (parentIn ws) k → (p : ℕ) (c : Closure) → ClosureOf t p c → ClosureOf (policy.treeOf ns) p c
   closure-listed t e p c h =
-      closure-same (listed (parentIn ws) k) (policy.treeOf ns) parent-same (length-listed (parentIn ws) k ∙ sym (tree-length n)) p c
+      closure-same (tabulated (parentIn ws) k) (policy.treeOf ns) parent-same (length-tabulated (parentIn ws) k ∙ sym (tree-length n)) p c
       (subst (λ s. ClosureOf s p c) e h)
 
   -- every parent is smaller than its child there too
-  grown-listed : Grown (policy.treeOf ns) → Grown (listed (parentIn ws) k)
+  grown-listed : Grown (policy.treeOf ns) → Grown (tabulated (parentIn ws) k)
   grown-listed g p pos l =
       subst (λ q. q < p) (sym (parent-same p pos))
-      (g p pos (subst (λ m. p < m) (length-listed (parentIn ws) k ∙ sym (tree-length n)) l))
+      (g p pos (subst (λ m. p < m) (length-tabulated (parentIn ws) k ∙ sym (tree-length n)) l))
 
 -- parents that are those of the array, but for the first, grow to the listed tree
-module _ (ws : List ℕ) (k : ℕ) (few : k ≤ limit) (g : Grown (listed (parentIn ws) k)) where
-  rooted : (ps : List ℕ) → length ps ≡ k → ((i : ℕ) → i < k → getD ps i 0 ≡ getD ws (limit + i) 0) → treeFrom ps ≡ listed (parentIn ws) k
-  unfolding listed treeFrom
-  rooted [] e here = subst (λ (m : ℕ). [] ≡ listed (parentIn ws) m) e refl
+module _ (ws : List ℕ) (k : ℕ) (few : k ≤ limit) (g : Grown (tabulated (parentIn ws) k)) where
+  rooted : (ps : List ℕ) → length ps ≡ k → ((i : ℕ) → i < k → getD ps i 0 ≡ getD ws (limit + i) 0) → treeFrom ps ≡ tabulated (parentIn ws) k
+  unfolding tabulated treeFrom
+  rooted [] e here = subst (λ (m : ℕ). [] ≡ tabulated (parentIn ws) m) e refl
   rooted (q ∷ ps) e here =
       treeFrom-all q ps (subst (λ (m : ℕ). m ≤ limit) (sym e) few) (subst (λ (t : List ℕ). Grown t) (sym same) g) ∙ same
     where
-      entry : (i : ℕ) → i < length (0 ∷ ps) → getD (0 ∷ ps) i 0 ≡ getD (listed (parentIn ws) k) i 0
-      entry zero l = sym (listed-getD (parentIn ws) k 0 0 (subst (λ m. 0 < m) e l) ∙ parent-first ws)
+      entry : (i : ℕ) → i < length (0 ∷ ps) → getD (0 ∷ ps) i 0 ≡ getD (tabulated (parentIn ws) k) i 0
+      entry zero l = sym (tabulated-getD (parentIn ws) k 0 0 (subst (λ m. 0 < m) e l) ∙ parent-first ws)
       entry (suc i) l =
           let inside : suc i < k = subst (λ m. suc i < m) e l in
-          here (suc i) inside ∙ sym (listed-getD (parentIn ws) k (suc i) 0 inside ∙ parent-later ws (suc i) (omega arith))
+          here (suc i) inside ∙ sym (tabulated-getD (parentIn ws) k (suc i) 0 inside ∙ parent-later ws (suc i) (omega arith))
 
-      same : 0 ∷ ps ≡ listed (parentIn ws) k
-      same = ext-getD 0 (0 ∷ ps) (listed (parentIn ws) k) (e ∙ sym (length-listed (parentIn ws) k)) entry
+      same : 0 ∷ ps ≡ tabulated (parentIn ws) k
+      same = ext-getD 0 (0 ∷ ps) (tabulated (parentIn ws) k) (e ∙ sym (length-tabulated (parentIn ws) k)) entry
 
 -- what grows from the parents, which stand behind the names, is the tree of the purposes
 pub tree-grown : {text ws : List ℕ} {k : ℕ} {ns : List Node} → Nodes limit text ws k ns → Grown (policy.treeOf ns) → 2 * limit ≤ length ws
-    → treeFrom (take k (take (length ws - limit) (drop limit ws))) ≡ listed (parentIn ws) k
+    → treeFrom (take k (take (length ws - limit) (drop limit ws))) ≡ tabulated (parentIn ws) k
 tree-grown {text} {ws} {k} {ns} n g full =
     let behind = drop limit ws in
     let long : length (take (length ws - limit) (drop limit ws)) ≡ length ws - limit = length-take-le (length ws - limit) (drop limit ws) (omega (arith, length-drop limit ws)) in

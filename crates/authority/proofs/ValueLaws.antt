@@ -10,7 +10,7 @@ use mathlib.Core.Logic.{⊎-elim}
 use mathlib.Core.Option.{Option, Option·map, none, orElse, some}
 use mathlib.Core.Path.{_∙_, _≡_, ap, refl, sym}
 use native.Mathlib.Omega.{arith}
-use Rattle.authority.specs.Values.{Values, firstKept, valueAt}
+use Rattle.authority.specs.Values.{Values, firstKept, valueGivenAt}
 use Rattle.document.specs.Lookup.{attributeOf}
 use Rattle.document.specs.Meaning.{givenOf}
 use Rattle.document.specs.Policy.{Given, Policy}
@@ -18,7 +18,7 @@ use Rattle.form.proofs.WalkSteps.{givens-more, givens-stop, pair-after}
 use Rattle.form.specs.Walks.{firstIn, givenAt, givensAt, pairEndAt, secondIn}
 use Rattle.principals.specs.Attributes.{Attributes}
 use Rattle.lists.proofs.Tests.{decide}
-use Rattle.lists.specs.Lists.{find, known}
+use Rattle.lists.specs.Lists.{find, orZero}
 use Rattle.text.proofs.Lefts.{before-end}
 use Rattle.text.proofs.WalkingLaws.{next-within, past-within}
 use Rattle.text.specs.Numbers.{Value}
@@ -47,7 +47,7 @@ valueFor i gs = Option·map (λ g. g .value) (find (λ g. eqb (g .attribute) i) 
 
 -- the value for attribute i that is stored, or else the first of those given
 abbrev pub stored : List ℕ → List ℕ → ℕ → List Given → Option Value
-stored line places i gs = orElse (valueAt line (getD places i 0)) (valueFor i gs)
+stored line places i gs = orElse (valueGivenAt line (getD places i 0)) (valueFor i gs)
 
 for-this : (i : ℕ) (g : Given) (gs : List Given) → g .attribute ≡ i → valueFor i (g ∷ gs) ≡ some (g .value)
 unfolding find
@@ -58,20 +58,20 @@ unfolding find
 for-other i g gs e = ap (λ b. Option·map (λ (x : Given). x .value) (cond b (some g) (find (λ x. eqb (x .attribute) i) gs))) (ne-eqb (g .attribute) i e)
 
 -- a value that is stored stays
-kept-there : (line : List ℕ) (p : ℕ) (x y : Option Value) → (p ≡ 0 → ⊥) → orElse (valueAt line p) x ≡ orElse (valueAt line p) y
-unfolding orElse valueAt
+kept-there : (line : List ℕ) (p : ℕ) (x y : Option Value) → (p ≡ 0 → ⊥) → orElse (valueGivenAt line p) x ≡ orElse (valueGivenAt line p) y
+unfolding orElse valueGivenAt
 kept-there line zero x y h = absurd (h refl)
 kept-there line (suc p) x y h = refl
 
 -- one that is not is the next one given
-new-there : (line : List ℕ) (p v : ℕ) (x : Option Value) → p ≡ 0 → orElse (valueAt line (v + 1)) x ≡ orElse (valueAt line p) (some (wordAt line v))
-unfolding orElse valueAt
-new-there line p v x e = ap (λ q. orElse (valueAt line q) x) one ∙ both ∙ ap (λ q. orElse (valueAt line q) (some (wordAt line v))) (sym e)
+new-there : (line : List ℕ) (p v : ℕ) (x : Option Value) → p ≡ 0 → orElse (valueGivenAt line (v + 1)) x ≡ orElse (valueGivenAt line p) (some (wordAt line v))
+unfolding orElse valueGivenAt
+new-there line p v x e = ap (λ q. orElse (valueGivenAt line q) x) one ∙ both ∙ ap (λ q. orElse (valueGivenAt line q) (some (wordAt line v))) (sym e)
   where
     one : v + 1 ≡ suc v
     one = omega arith
 
-    both : orElse (valueAt line (suc v)) x ≡ orElse (valueAt line 0) (some (wordAt line v))
+    both : orElse (valueGivenAt line (suc v)) x ≡ orElse (valueGivenAt line 0) (some (wordAt line v))
     both = refl
 
 pub kept-set : (places : List ℕ) (n v : ℕ) → getD places n 0 ≡ 0 → firstKept places n v ≡ set places n (v + 1)
@@ -105,17 +105,17 @@ stored-next line places i g gs v l e = ⊎-elim (λ t. this (eqb-true _ _ t)) (�
     n = g .attribute
 
     other : (i ≡ n → ⊥) → stored line (firstKept places n v) i gs ≡ stored line places i (g ∷ gs)
-    other apart = ap (λ p. orElse (valueAt line p) (valueFor i gs)) (kept-else places n v i apart) ∙ ap (orElse (valueAt line (getD places i 0))) (sym (for-other i g gs (λ t. apart (sym t))))
+    other apart = ap (λ p. orElse (valueGivenAt line p) (valueFor i gs)) (kept-else places n v i apart) ∙ ap (orElse (valueGivenAt line (getD places i 0))) (sym (for-other i g gs (λ t. apart (sym t))))
 
     first : i ≡ n → getD places n 0 ≡ 0 → stored line (firstKept places n v) i gs ≡ stored line places i (g ∷ gs)
     first same none-yet =
-        ap (λ p. orElse (valueAt line p) (valueFor i gs)) (ap (λ l. getD l i 0) (kept-set places n v none-yet) ∙ ap (λ m. getD (set places n (v + 1)) m 0) same ∙ getD-set-same places n (v + 1) 0 (omega (arith, same, l)))
+        ap (λ p. orElse (valueGivenAt line p) (valueFor i gs)) (ap (λ l. getD l i 0) (kept-set places n v none-yet) ∙ ap (λ m. getD (set places n (v + 1)) m 0) same ∙ getD-set-same places n (v + 1) 0 (omega (arith, same, l)))
         ∙ new-there line (getD places i 0) v (valueFor i gs) (ap (λ m. getD places m 0) same ∙ none-yet)
-        ∙ ap (orElse (valueAt line (getD places i 0))) (ap some (sym e) ∙ sym (for-this i g gs (sym same)))
+        ∙ ap (orElse (valueGivenAt line (getD places i 0))) (ap some (sym e) ∙ sym (for-this i g gs (sym same)))
 
     later : i ≡ n → (getD places n 0 ≡ 0 → ⊥) → stored line (firstKept places n v) i gs ≡ stored line places i (g ∷ gs)
     later same there =
-        ap (λ l. orElse (valueAt line (getD l i 0)) (valueFor i gs)) (kept-old places n v there)
+        ap (λ l. orElse (valueGivenAt line (getD l i 0)) (valueFor i gs)) (kept-old places n v there)
         ∙ kept-there line (getD places i 0) (valueFor i gs) (valueFor i (g ∷ gs)) (λ z. there (ap (λ m. getD places m 0) (sym same) ∙ z))
 
     this : i ≡ n → stored line (firstKept places n v) i gs ≡ stored line places i (g ∷ gs)
@@ -129,10 +129,10 @@ Walked text attributes k line place places j =
     (d : Policy) → Attributes text attributes k (d .attributes) → (i : ℕ) → i < 35 → stored line places i (map (givenOf d) (givensAt line j)) ≡ valueFor i (map (givenOf d) (givensAt line place))
 
 stored-nothing : (line : List ℕ) (n i : ℕ) (gs : List Given) → i < n → stored line (replicate n 0) i gs ≡ valueFor i gs
-unfolding orElse valueAt
-stored-nothing line n i gs l = ap (λ p. orElse (valueAt line p) (valueFor i gs)) (getD-replicate n i 0 0 l) ∙ none-first
+unfolding orElse valueGivenAt
+stored-nothing line n i gs l = ap (λ p. orElse (valueGivenAt line p) (valueFor i gs)) (getD-replicate n i 0 0 l) ∙ none-first
   where
-    none-first : orElse (valueAt line 0) (valueFor i gs) ≡ valueFor i gs
+    none-first : orElse (valueGivenAt line 0) (valueFor i gs) ≡ valueFor i gs
     none-first = refl
 
 pub walk-start : (text attributes : List ℕ) (k : ℕ) (line : List ℕ) (place : ℕ) (places : List ℕ) → length places ≡ 35 → places ≡ replicate (length places) 0 → Walked text attributes k line place places place
@@ -141,12 +141,12 @@ walk-start text attributes k line place places long e d h i l =
 
 pub walk-on : (text attributes : List ℕ) (k : ℕ) (line : List ℕ) (place : ℕ) (places : List ℕ) (j a v n e : ℕ) → length places ≡ 35 → getD line j 0 ≡ 32
     → a ≡ firstIn line (j + 1) → v ≡ secondIn line (j + 1) → e ≡ pairEndAt line (j + 1)
-    → ((d : Policy) → Attributes text attributes k (d .attributes) → n ≡ known (attributeOf d (wordOf line a)))
+    → ((d : Policy) → Attributes text attributes k (d .attributes) → n ≡ orZero (attributeOf d (wordOf line a)))
     → Walked text attributes k line place places j → Walked text attributes k line place (firstKept places n v) e
 unfolding givenOf givenAt
 walk-on text attributes k line place places j a v n e long sp pa pv pe num walked d h i l =
     ap (λ x. stored line (firstKept places n v) i (map (givenOf d) (givensAt line x))) pe
-    ∙ ap (λ x. stored line (firstKept places x v) i rest) (num d h ∙ ap (λ x. known (attributeOf d (wordOf line x))) pa ∙ sym is-attribute)
+    ∙ ap (λ x. stored line (firstKept places x v) i rest) (num d h ∙ ap (λ x. orZero (attributeOf d (wordOf line x))) pa ∙ sym is-attribute)
     ∙ stored-next line places i g rest v (omega (arith, l, long)) (is-value ∙ ap (wordAt line) (sym pv))
     ∙ ap (λ gs. stored line places i (map (givenOf d) gs)) (sym (givens-more line j sp))
     ∙ walked d h i l
@@ -157,7 +157,7 @@ walk-on text attributes k line place places j a v n e long sp pa pv pe num walke
     g : Given
     g = givenOf d (givenAt line (j + 1))
 
-    is-attribute : g .attribute ≡ known (attributeOf d (wordOf line (firstIn line (j + 1))))
+    is-attribute : g .attribute ≡ orZero (attributeOf d (wordOf line (firstIn line (j + 1))))
     is-attribute = refl
 
     is-value : g .value ≡ wordAt line (secondIn line (j + 1))
@@ -173,5 +173,5 @@ pub walk-over : (text attributes : List ℕ) (k : ℕ) (line : List ℕ) (place 
 unfolding find
 walk-over text attributes k line place places j stop walked d h = record { are = λ i l. or-none _ ∙ nothing i ∙ walked d h i l }
   where
-    nothing : (i : ℕ) → orElse (valueAt line (getD places i 0)) none ≡ stored line places i (map (givenOf d) (givensAt line j))
+    nothing : (i : ℕ) → orElse (valueGivenAt line (getD places i 0)) none ≡ stored line places i (map (givenOf d) (givensAt line j))
     nothing i = ap (λ gs. stored line places i (map (givenOf d) gs)) (sym (givens-stop line j stop))

@@ -12,7 +12,7 @@ use Rattle.condition.specs.Kinds.{Op}
 use Rattle.document.specs.Lookup.{attributeKind, attributeOf}
 use Rattle.document.specs.Policy.{CondRole, Policy, User}
 use Rattle.principals.specs.Attributes.{Attributes}
-use Rattle.lists.specs.Lists.{known}
+use Rattle.lists.specs.Lists.{orZero}
 use Rattle.query.specs.Authority.{Clock, attributeMeets, clockNumber, inRange}
 use Rattle.text.specs.Numbers.{Value}
 use Rattle.text.specs.Words.{Word}
@@ -35,7 +35,7 @@ pub record Told (text attributes : List ℕ) (k : ℕ) (c : Clock) (line places 
 
 -- the attribute of a name and a value stand as the operator says, for the clock and the user's values
 unfoldable pub wordsMeet : Policy → Clock → User → Op → Word → Value → Bool
-wordsMeet d c u op w v = attributeMeets u (record { of = known (attributeOf d w); kind = attributeKind d w; op = op; value = v }) (clockNumber c (known (attributeOf d w)))
+wordsMeet d c u op w v = attributeMeets u (record { of = orZero (attributeOf d w); kind = attributeKind d w; op = op; value = v }) (clockNumber c (orZero (attributeOf d w)))
 
 -- the comparison, as read, holds
 unfoldable pub comparisonHolds : Policy → Clock → User → Compared → Bool

@@ -12,13 +12,13 @@ use Rattle.text.specs.Numbers.{Value}
 use Rattle.text.specs.Words.{wordAt}
 
 -- a place of the line, by a number that is one more: 0 says that there is no value
-unfoldable pub valueAt : List ℕ → ℕ → Option Value
-valueAt line zero = none
-valueAt line (suc p) = some (wordAt line p)
+unfoldable pub valueGivenAt : List ℕ → ℕ → Option Value
+valueGivenAt line zero = none
+valueGivenAt line (suc p) = some (wordAt line p)
 
 -- the places are those of the values: for each attribute that of the first value given for it
 pub record Values (line : List ℕ) (gs : List Given) (places : List ℕ) : Type 0 where
-  pub are : (i : ℕ) → i < 35 → valueAt line (getD places i 0) ≡ Option·map (λ g. g .value) (find (λ g. eqb (g .attribute) i) gs)
+  pub are : (i : ℕ) → i < 35 → valueGivenAt line (getD places i 0) ≡ Option·map (λ g. g .value) (find (λ g. eqb (g .attribute) i) gs)
 
 -- the places with v as that of attribute n, unless it has one
 unfoldable pub firstKept : List ℕ → ℕ → ℕ → List ℕ

@@ -12,14 +12,14 @@ ghost use Rattle.authority.specs.Purposes.{parentIn};
 ghost use Rattle.document.specs.Policy.{Node};
 ghost use Rattle.document.specs.Policy as policy;
 ghost use Rattle.principals.specs.Nodes.{Nodes};
-ghost use Rattle.workspace.specs.Listed.{listed};
+ghost use Rattle.workspace.specs.Tabulated.{tabulated};
 ghost use Rattle.purpose.specs.Compliance.{Grown};
-ghost use Rattle.purpose.specs.Meaning.{ClosureOf, treeOf};
+ghost use Rattle.purpose.specs.Meaning.{ClosureOf, treeHeld};
 ghost use Rattle.purpose.specs.Members.{limit};
 
 // The tree of the first k purposes: their parents stand behind their names.
 fn purpose_tree(ws: &[usize; PURPOSE_CELLS], k: usize) -> Tree
-    ensures { λ r. ⌜ ((text : List ℕ) (ns : List Node) → Nodes limit text (now (ws .entry)) k ns → Grown (policy.treeOf ns) → treeOf r ≡ listed (parentIn (now (ws .entry))) k) ⌝ }
+    ensures { λ r. ⌜ ((text : List ℕ) (ns : List Node) → Nodes limit text (now (ws .entry)) k ns → Grown (policy.treeOf ns) → treeHeld r ≡ tabulated (parentIn (now (ws .entry))) k) ⌝ }
 {
     let cells = &ws[..];
     tree_of(&cells[PURPOSES..], k)

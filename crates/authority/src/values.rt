@@ -16,7 +16,7 @@ ghost use Rattle.document.specs.Meaning.{givenOf};
 ghost use Rattle.document.specs.Policy.{Policy};
 ghost use Rattle.form.specs.Walks.{givensAt};
 ghost use Rattle.principals.specs.Attributes.{Attributes};
-ghost use Rattle.lists.specs.Lists.{known};
+ghost use Rattle.lists.specs.Lists.{orZero};
 ghost use Rattle.text.specs.Words.{wordOf};
 
 // How many attributes there can be, the clock's three included.
@@ -30,7 +30,7 @@ pub(crate) fn attribute_number(
     line: &[u8],
     at: usize,
 ) -> usize
-    ensures { λ n. ⌜ ((d : Policy) → Attributes (now (text .entry)) (now (attributes .entry)) k (d .attributes) → n ≡ known (attributeOf d (wordOf (now (line .entry)) at))) ⌝ }
+    ensures { λ n. ⌜ ((d : Policy) → Attributes (now (text .entry)) (now (attributes .entry)) k (d .attributes) → n ≡ orZero (attributeOf d (wordOf (now (line .entry)) at))) ⌝ }
 {
     let found = find_attribute(text, attributes, k, line, at);
     match found {

@@ -9,7 +9,7 @@ use mathlib.Core.Option.{Option·none-ne-some}
 use mathlib.Core.Path.{_∙_, _≡_, ap, ap₂, refl, subst, sym}
 use native.Mathlib.Nat.{add-zero}
 use native.Mathlib.Omega.{arith}
-use Rattle.checker.specs.Loading.{Holds, Loads}
+use Rattle.checker.specs.Loading.{HoldsDocument, Loads}
 use Rattle.index.specs.Workspace.{Indexed}
 use Rattle.stepping.specs.Follows.{Grows}
 use Rattle.document.proofs.UniqueNames.{unique-empty, unique-line}
@@ -18,7 +18,7 @@ use Rattle.document.specs.Invariants.{UniqueNames}
 use Rattle.document.specs.Policy.{Doc, emptyDoc, emptyPolicy}
 use Rattle.principals.proofs.IndexLaws.{attributes-start, conds-start, nodes-start, users-start}
 use Rattle.workspace.specs.Cells.{lineIn}
-use Rattle.workspace.specs.Listed.{listed}
+use Rattle.workspace.specs.Tabulated.{tabulated}
 use Rattle.purpose.specs.Members.{limit}
 use Rattle.stepping.specs.Stored.{LineAt}
 use Rattle.text.proofs.Lefts.{drop-here}
@@ -43,7 +43,7 @@ pub record Going (text ps rs bs us cs gs ls ms ts ws : List ℕ) (c : Counts) (a
 -- before any line
 pub begins : (text ps rs bs us cs gs ls ms ts ws : List ℕ)
     → Going text ps rs bs us cs gs ls ms ts ws (record { purposes = 0; roles = 0; attributes = 0; users = 0; conds = 0; grants = 0; labels = 0; tables = 0; rows = 0 }) 0 0
-unfolding listed emptyDoc emptyPolicy
+unfolding tabulated emptyDoc emptyPolicy
 begins text ps rs bs us cs gs ls ms ts ws = record {
   doc = emptyDoc;
   held = record {
@@ -155,12 +155,12 @@ module _ {text ps rs bs us cs gs ls ms ts ws : List ℕ} where
     accepts = λ c n e. absurd (let z : _≡_ {A = ℕ} 0 1 = cc in omega arith);
   }
 
-  pub loads-accepted : {c : Counts} {n : ℕ} → Holds text ps rs bs us cs gs ls ms ts ws c n → Loads text ps rs bs us cs gs ls ms ts ws (loaded.Accepted c n)
+  pub loads-accepted : {c : Counts} {n : ℕ} → HoldsDocument text ps rs bs us cs gs ls ms ts ws c n → Loads text ps rs bs us cs gs ls ms ts ws (loaded.Accepted c n)
   loads-accepted {c} {n} h = record {
     refuses = λ y e. absurd (let z : _≡_ {A = ℕ} 0 1 = cc in omega arith);
     accepts = λ k m e.
-        subst (λ (a : Counts). Holds text ps rs bs us cs gs ls ms ts ws a m) (let q : c ≡ k = cc in q)
-        (subst (Holds text ps rs bs us cs gs ls ms ts ws c) (let q : n ≡ m = cc in q) h);
+        subst (λ (a : Counts). HoldsDocument text ps rs bs us cs gs ls ms ts ws a m) (let q : c ≡ k = cc in q)
+        (subst (HoldsDocument text ps rs bs us cs gs ls ms ts ws c) (let q : n ≡ m = cc in q) h);
   }
 
 -- ---- the text

@@ -14,7 +14,7 @@ use Rattle.checker.specs.declared.loading.Loaded.the-variants as loaded
 use Rattle.text.specs.declared.refusals.Refusal as code
 
 -- the text is an accepted document of n lines, and the arrays hold it, as many of each kind as c says
-pub record Holds (doc ps rs bs us cs gs ls ms ts ws : List ℕ) (c : Counts) (n : ℕ) : Type 0 where
+pub record HoldsDocument (doc ps rs bs us cs gs ls ms ts ws : List ℕ) (c : Counts) (n : ℕ) : Type 0 where
   pub what : Doc
   pub is : check doc ≡ accepted (record { lines = n; doc = what })
   pub held : Indexed doc ps rs bs us cs gs ls ms ts ws c what
@@ -23,4 +23,4 @@ pub record Holds (doc ps rs bs us cs gs ls ms ts ws : List ℕ) (c : Counts) (n 
 -- THE CHECK INTO ARRAYS: the answer r stands for the outcome of the check of the document, and the arrays hold what was accepted
 pub record Loads (doc ps rs bs us cs gs ls ms ts ws : List ℕ) (r : Loaded) : Type 0 where
   pub refuses : (x : code.Refusal) → r ≡ loaded.Refused x → check doc ≡ refused (refusalOf x)
-  pub accepts : (c : Counts) (n : ℕ) → r ≡ loaded.Accepted c n → Holds doc ps rs bs us cs gs ls ms ts ws c n
+  pub accepts : (c : Counts) (n : ℕ) → r ≡ loaded.Accepted c n → HoldsDocument doc ps rs bs us cs gs ls ms ts ws c n

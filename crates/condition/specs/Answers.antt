@@ -67,8 +67,8 @@ unfoldable pub comparedAt : List ℕ → ℕ → Compared
 comparedAt s at = record { op = operatorOf (wordAt s at); operator = wordOf s at; of = wordOf s (nextWord s at); value = wordOf s (nextWord s (nextWord s at)) }
 
 -- where a condition ends, and how many comparisons it has
-abbrev pub counted : Option (Cond Compared × Left) → Read
-counted o = answer read.At read.Refused (λ c. length (comparisons c)) o
+abbrev pub readTo : Option (Cond Compared × Left) → Read
+readTo o = answer read.At read.Refused (λ c. length (comparisons c)) o
 
 -- the comparisons of the condition that was read, from left to right
 abbrev pub comparedIn : Option (Cond Compared × Left) → List Compared
@@ -87,7 +87,7 @@ heldRead f (some r) = holds f (r .0)
 -- what the code's answer r and the positions that it stored say of the condition at a position of the text s: where it ends
 -- and how many comparisons it has, and the first 64 comparisons by the positions of their operators
 pub record Placed (s : List ℕ) (at : ℕ) (r : Read) (ops : List ℕ) : Type 0 where
-  pub reads : r ≡ counted (conditionInForm (from s at))
+  pub reads : r ≡ readTo (conditionInForm (from s at))
   pub places : map (comparedAt s) (take (length (comparisonsAt s at)) ops) ≡ take 64 (comparisonsAt s at)
 
 -- ---- for the functions that are not called from outside

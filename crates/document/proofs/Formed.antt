@@ -25,7 +25,7 @@ use Rattle.document.specs.Policy.{CondRole, Doc, Node, Policy, emptyDoc,
 use Rattle.form.specs.Form.{Form, attr, condRole, grant, label, purpose, role, row, table, user}
 use Rattle.lists.proofs.ListLaws.{all-here, findIndex-found, getElem?-grown, map-append, there-some}
 use Rattle.lists.proofs.Tests.{neither-right}
-use Rattle.lists.specs.Lists.{known, listed, there}
+use Rattle.lists.specs.Lists.{listed, orZero, there}
 use Rattle.purpose.proofs.Growing.{grown-child}
 use Rattle.purpose.specs.Compliance.{Grown}
 use Rattle.text.proofs.OffendingLaws.{missing-none}
@@ -39,7 +39,7 @@ abbrev Hung : List Node → Node → Type 0
 Hung ns x = ((length ns ≡ 0) × (x .parent ≡ 0)) ⊎ (x .parent < length ns)
 
 -- a parent that is known
-parent-known : (d : Policy) (n w : Word) → unknown d (purpose n (some w)) ≡ none → purposeOf d w ≡ some (known (purposeOf d w))
+parent-known : (d : Policy) (n w : Word) → unknown d (purpose n (some w)) ≡ none → purposeOf d w ≡ some (orZero (purposeOf d w))
 unfolding unknown listed
 parent-known d n w k =
     there-some (purposeOf d w) (all-here (λ v. there (purposeOf d v)) (w ∷ []) (missing-none (λ v. there (purposeOf d v)) (w ∷ []) k) 0 w refl)
@@ -54,7 +54,7 @@ unfolding secondRoot there nodeOf bind
 hung d n none k s = let l : length (d .purposes) ≤ 0 = ltb-false 0 (length (d .purposes)) s in inl (omega arith, omega arith)
 hung d n (some w) k s =
     let e = parent-known d n w k in
-    inr (subst (λ (o : Option ℕ). Option·getD o (length (d .purposes)) < length (d .purposes)) (sym e) (purpose-before d w (known (purposeOf d w)) e))
+    inr (subst (λ (o : Option ℕ). Option·getD o (length (d .purposes)) < length (d .purposes)) (sym e) (purpose-before d w (orZero (purposeOf d w)) e))
 
 grown-more : (ns : List Node) (x : Node) → Grown (treeOf ns) → Hung ns x → Grown (treeOf (ns ++ (x ∷ [])))
 unfolding treeOf

@@ -13,7 +13,7 @@ use Rattle.document.specs.Policy.{Doc, Policy, Table}
 use Rattle.form.specs.Form.{Form, attr, condRole, grant, label, purpose, role, row, table, unlabelled, user}
 use Rattle.lists.proofs.ListLaws.{findIndex-found, findIndexFrom-append, getElem?-append, there-some}
 use Rattle.lists.proofs.Tests.{true-not-false}
-use Rattle.lists.specs.Lists.{findIndex, holdsOf, known, there}
+use Rattle.lists.specs.Lists.{findIndex, holdsOf, orZero, there}
 use Rattle.text.specs.Refusal.{accepted}
 use Rattle.text.specs.Words.{Word, isCalled}
 
@@ -62,26 +62,26 @@ kept-from (p′ ∷ ps) d n at p A h =
 -- ---- a name that is known is found in the table or label list
 
 -- the table of a known name is there
-pub table-there : (d : Policy) (w : Word) → there (tableOf d w) ≡ true → known (tableOf d w) < length (d .tables)
+pub table-there : (d : Policy) (w : Word) → there (tableOf d w) ≡ true → orZero (tableOf d w) < length (d .tables)
 unfolding tableOf
-table-there d w h = findIndex-found _ (d .tables) (known (tableOf d w)) (there-some (tableOf d w) h) .1
+table-there d w h = findIndex-found _ (d .tables) (orZero (tableOf d w)) (there-some (tableOf d w) h) .1
 
-pub kept-number : (o p : Option ℕ) → there o ≡ true → ((n : ℕ) → o ≡ some n → p ≡ some n) → known o ≡ known p
-kept-number o p h k = ap known (there-some o h ∙ sym (k (known o) (there-some o h)))
+pub kept-number : (o p : Option ℕ) → there o ≡ true → ((n : ℕ) → o ≡ some n → p ≡ some n) → orZero o ≡ orZero p
+kept-number o p h k = ap orZero (there-some o h ∙ sym (k (orZero o) (there-some o h)))
 
 -- a known table keeps its scheme
 pub kept-scheme : (d e : Policy) → Kept d e → (w : Word) → there (tableOf d w) ≡ true → schemeOf e w ≡ schemeOf d w
 unfolding schemeOf schemeAt
-kept-scheme d e k w h = go (getElem? (d .tables) (known (tableOf d w))) refl
+kept-scheme d e k w h = go (getElem? (d .tables) (orZero (tableOf d w))) refl
   where
-    same : known (tableOf e w) ≡ known (tableOf d w)
+    same : orZero (tableOf e w) ≡ orZero (tableOf d w)
     same = sym (kept-number (tableOf d w) (tableOf e w) h (k .tables w))
 
-    isThere : holdsOf (λ (x : Table). isCalled w (x .name)) (getElem? (d .tables) (known (tableOf d w))) ≡ true
-    isThere = unfold tableOf in findIndex-found _ (d .tables) (known (tableOf d w)) (there-some (tableOf d w) h) .0
+    isThere : holdsOf (λ (x : Table). isCalled w (x .name)) (getElem? (d .tables) (orZero (tableOf d w))) ≡ true
+    isThere = unfold tableOf in findIndex-found _ (d .tables) (orZero (tableOf d w)) (there-some (tableOf d w) h) .0
 
-    go : (o : Option Table) → getElem? (d .tables) (known (tableOf d w)) ≡ o
-        → Option·getD (Option·map (λ (x : Table). x .scheme) (getElem? (e .tables) (known (tableOf e w)))) unlabelled
-        ≡ Option·getD (Option·map (λ (x : Table). x .scheme) (getElem? (d .tables) (known (tableOf d w)))) unlabelled
+    go : (o : Option Table) → getElem? (d .tables) (orZero (tableOf d w)) ≡ o
+        → Option·getD (Option·map (λ (x : Table). x .scheme) (getElem? (e .tables) (orZero (tableOf e w)))) unlabelled
+        ≡ Option·getD (Option·map (λ (x : Table). x .scheme) (getElem? (d .tables) (orZero (tableOf d w)))) unlabelled
     go none p = unfold holdsOf in true-not-false isThere (ap (holdsOf (λ (x : Table). isCalled w (x .name))) p)
     go (some t) p = rw (same, p, k .table _ t p)

@@ -19,7 +19,7 @@ use Rattle.lists.proofs.ListLaws.{all-map, map-map}
 use Rattle.text.proofs.OffendingLaws.{leftmost-head, leftmost-tail, missing-none, unless-none}
 use Rattle.text.proofs.ReadBack.{placeless}
 use Rattle.lists.proofs.Tests.{and-left}
-use Rattle.lists.specs.Lists.{allOf, known, there}
+use Rattle.lists.specs.Lists.{allOf, orZero, there}
 use Rattle.text.specs.Names.{Name, isName}
 use Rattle.text.specs.Numbers.{Value}
 use Rattle.text.specs.Words.{Word, isCalled, plainWord}
@@ -100,7 +100,7 @@ rowMeant-placeless d t is =
       rowValues-placeless (schemeOf d t) is,
       bytes-placeless (rowValues (schemeOf d t) is),
       rowLabels-placeless (schemeOf d t) is,
-      map-map (λ w. known (labelOf d w)) placeless (rowLabels (schemeOf d t) is),
+      map-map (λ w. orZero (labelOf d w)) placeless (rowLabels (schemeOf d t) is),
     )
 
 -- a form whose parts are those of a row form is a row form

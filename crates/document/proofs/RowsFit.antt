@@ -25,7 +25,7 @@ use Rattle.lists.proofs.ListLaws.{getElem?-inside-append, map-inv}
 use Rattle.text.proofs.OffendingLaws.{leftmost-head, unless-none}
 use Rattle.text.proofs.ReaderLaws.{listCost}
 use Rattle.text.specs.Lines.{Pieces, cut, inFront}
-use Rattle.lists.specs.Lists.{holdsOf, known}
+use Rattle.lists.specs.Lists.{holdsOf, orZero}
 use Rattle.text.specs.Names.{isName}
 use Rattle.text.specs.Numbers.{Value}
 use Rattle.text.specs.Refusal.{accepted}
@@ -164,7 +164,7 @@ row-added d k line t is h f u m =
           (omega (arith, h .short, row-line line t is f, values-cost (schemeOf (d .policy) t) is ws (v .1), bytes-cost ws)));
       fit = allFit-append (d .policy .tables) (d .rows) (rowMeant (d .policy) t is) (h .fit) (record {
         inside = table-there (d .policy) t (unless-none _ t (leftmost-head _ _ u));
-        wide = ap length values≡ ∙ bytes-length ws ∙ v .2 ∙ columns-count (d .policy) (known (tableOf (d .policy) t));
+        wide = ap length values≡ ∙ bytes-length ws ∙ v .2 ∙ columns-count (d .policy) (orZero (tableOf (d .policy) t));
       });
     }
 

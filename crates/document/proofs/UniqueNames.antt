@@ -22,7 +22,7 @@ use Rattle.lists.proofs.Distinct.{no-two-grown, no-two-images, no-two-nil, no-t
 use Rattle.lists.proofs.ListLaws.{all-here, all-parts, findIndex-none, getElem?-grown, there-some}
 use Rattle.lists.proofs.Tests.{and-both, and-left, and-right, never, true-not-false}
 use Rattle.lists.specs.Distinct.{NoTwoSame}
-use Rattle.lists.specs.Lists.{allOf, findIndex, holdsOf, known, there}
+use Rattle.lists.specs.Lists.{allOf, findIndex, holdsOf, orZero, there}
 use Rattle.text.proofs.NameLaws.{found-same, sameName-sym}
 use Rattle.text.proofs.OffendingLaws.{leftmost-head, leftmost-tail, missing-none, offendingIf-none, repeated-none, sameWord, unless-none}
 use Rattle.text.specs.Names.{Name, sameName}
@@ -43,14 +43,14 @@ named-grown nameOf w xs x n u t =
 -- a user and a role that is known may be added if no form has both
 user-grown : (d : Policy) (u r : Word) (vs : List Given) → NoTwoSame (λ x y. sameName (x .name) (y .name) && eqb (x .role) (y .role)) (d .users)
     → there (userOf d u r) ≡ false → there (roleOf d r) ≡ true
-    → NoTwoSame (λ x y. sameName (x .name) (y .name) && eqb (x .role) (y .role)) (d .users ++ (record { name = u .bytes; role = known (roleOf d r); values = vs } ∷ []))
+    → NoTwoSame (λ x y. sameName (x .name) (y .name) && eqb (x .role) (y .role)) (d .users ++ (record { name = u .bytes; role = orZero (roleOf d r); values = vs } ∷ []))
 user-grown d u r vs h t k = no-two-grown sameUser turn (d .users) new h (λ i x e. never (sameUser new x) (λ s. true-not-false (taken-by x s) (unfold userOf in findIndex-none _ (d .users) t i x e)))
   where
     sameUser : User → User → Bool
     sameUser x y = sameName (x .name) (y .name) && eqb (x .role) (y .role)
 
     new : User
-    new = record { name = u .bytes; role = known (roleOf d r); values = vs }
+    new = record { name = u .bytes; role = orZero (roleOf d r); values = vs }
 
     turn : (x y : User) → sameUser x y ≡ true → sameUser y x ≡ true
     turn x y e =
@@ -61,7 +61,7 @@ user-grown d u r vs h t k = no-two-grown sameUser turn (d .users) new h (λ i x 
     taken-by x s =
         and-both (isCalled u (x .name)) _ (unfold isCalled in and-left (sameName (u .bytes) (x .name)) _ s)
         (subst (λ (o : Option ℕ). holdsOf (eqb (x .role)) o ≡ true) (sym (there-some (roleOf d r) k))
-        (unfold holdsOf in eq-eqb (x .role) (known (roleOf d r)) (sym (eqb-true (known (roleOf d r)) (x .role) (and-right (sameName (u .bytes) (x .name)) _ s)))))
+        (unfold holdsOf in eq-eqb (x .role) (orZero (roleOf d r)) (sym (eqb-true (orZero (roleOf d r)) (x .role) (and-right (sameName (u .bytes) (x .name)) _ s)))))
 
 -- the columns of a table form without repeats
 columns-differ : (cs : List ColumnForm) → repeated (map (λ c. c .name) cs) ≡ none → NoTwoSame (λ x y. sameName (x .name) (y .name)) (map columnMeant cs)
@@ -76,12 +76,12 @@ columns-grown ts t h n i x e =
     ⊎-elim (λ k. h i x k) (λ k. subst (λ (y : Table). NoTwoSame (λ x y. sameName (x .name) (y .name)) (y .columns)) (k .1) n) (getElem?-grown ts t i x e)
 
 -- words without repeats, all known, name purposes without repeats
-set-differs : (d : Policy) (ps : List Word) → repeated ps ≡ none → allOf (λ w. there (purposeOf d w)) ps ≡ true → NoTwoSame eqb (map (λ w. known (purposeOf d w)) ps)
-set-differs d ps h k = no-two-images eqb (λ w. known (purposeOf d w)) ps (record { alone = λ i j v w a b s. repeated-none ps h .alone i j v w a b (same i j v w a b (eqb-true _ _ s)) })
+set-differs : (d : Policy) (ps : List Word) → repeated ps ≡ none → allOf (λ w. there (purposeOf d w)) ps ≡ true → NoTwoSame eqb (map (λ w. orZero (purposeOf d w)) ps)
+set-differs d ps h k = no-two-images eqb (λ w. orZero (purposeOf d w)) ps (record { alone = λ i j v w a b s. repeated-none ps h .alone i j v w a b (same i j v w a b (eqb-true _ _ s)) })
   where
-    same : (i j : ℕ) (v w : Word) → getElem? ps i ≡ some v → getElem? ps j ≡ some w → known (purposeOf d v) ≡ known (purposeOf d w) → sameWord v w ≡ true
+    same : (i j : ℕ) (v w : Word) → getElem? ps i ≡ some v → getElem? ps j ≡ some w → orZero (purposeOf d v) ≡ orZero (purposeOf d w) → sameWord v w ≡ true
     same i j v w a b s = unfold purposeOf in
-        found-same (λ x. x .name) (d .purposes) v w (known (purposeOf d v)) (there-some _ (all-here (λ w. there (purposeOf d w)) ps k i v a))
+        found-same (λ x. x .name) (d .purposes) v w (orZero (purposeOf d v)) (there-some _ (all-here (λ w. there (purposeOf d w)) ps k i v a))
         (there-some _ (all-here (λ w. there (purposeOf d w)) ps k j w b) ∙ ap some (sym s))
 
 -- the sets of a label form

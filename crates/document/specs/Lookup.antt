@@ -9,7 +9,7 @@ use Rattle.condition.specs.Kinds.{Kind, numbers}
 use Rattle.document.specs.Policy.{Attribute, Column, Policy, treeOf}
 use Rattle.form.specs.Form.{Scheme, unlabelled}
 use Rattle.purpose.specs.Compliance.{descends}
-use Rattle.lists.specs.Lists.{findIndex, holdsOf, known, there}
+use Rattle.lists.specs.Lists.{findIndex, holdsOf, orZero, there}
 use Rattle.text.specs.Words.{Word, isCalled}
 
 -- the purpose of this name
@@ -66,11 +66,11 @@ columnsAt d t = Option·getD (Option·map (λ x. x .columns) (getElem? (d .table
 
 -- the scheme of the table of this name, which is known
 unfoldable pub schemeOf : Policy → Word → Scheme ℕ
-schemeOf d w = schemeAt d (known (tableOf d w))
+schemeOf d w = schemeAt d (orZero (tableOf d w))
 
 -- the columns of the table of this name, which is known
 unfoldable pub columnsOf : Policy → Word → List Column
-columnsOf d w = columnsAt d (known (tableOf d w))
+columnsOf d w = columnsAt d (orZero (tableOf d w))
 
 -- the attribute is one of the clock's
 unfoldable pub isClock : Attribute → Bool

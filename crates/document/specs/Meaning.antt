@@ -12,7 +12,7 @@ use Rattle.document.specs.Policy.{Column, Doc, Given, Node, Policy, Row}
 use Rattle.document.specs.ValueFaults.{rowValues}
 use Rattle.form.specs.Form.{ColumnForm, Form, GivenForm, Item, attr, condRole, grant, label, mapScheme, purpose, role, row, table, user}
 use Rattle.purpose.specs.Compliance.{Marks}
-use Rattle.lists.specs.Lists.{known}
+use Rattle.lists.specs.Lists.{orZero}
 use Rattle.text.specs.Words.{Word}
 
 -- the purpose or role that a line defines, behind those that there are: a root's parent is its own number
@@ -21,16 +21,16 @@ nodeOf numberOf nodes n p = record { name = n .bytes; parent = Option·getD (bin
 
 -- the value that a user form gives for an attribute
 unfoldable pub givenOf : Policy → GivenForm → Given
-givenOf d g = record { attribute = known (attributeOf d (g .attribute)); value = g .value .bytes }
+givenOf d g = record { attribute = orZero (attributeOf d (g .attribute)); value = g .value .bytes }
 
 -- a comparison of an attribute
 unfoldable pub attributeComparison : Policy → Compared → Comparison
 attributeComparison d x =
-    record { of = known (attributeOf d (x .of)); kind = attributeKind d (x .of); op = x .op; value = x .value .bytes }
+    record { of = orZero (attributeOf d (x .of)); kind = attributeKind d (x .of); op = x .op; value = x .value .bytes }
 
 -- the purposes that a label form allows and denies
 unfoldable pub marksOf : Policy → List Word → List Word → Marks
-marksOf d ps qs = record { allowed = map (λ w. known (purposeOf d w)) ps; denied = map (λ w. known (purposeOf d w)) qs }
+marksOf d ps qs = record { allowed = map (λ w. orZero (purposeOf d w)) ps; denied = map (λ w. orZero (purposeOf d w)) qs }
 
 -- a column that a table form gives
 unfoldable pub columnMeant : ColumnForm → Column
@@ -39,9 +39,9 @@ columnMeant c = record { name = c .name .bytes; kind = c .kind }
 -- the row that a row form gives
 unfoldable pub rowMeant : Policy → Word → List Item → Row
 rowMeant d t is = record {
-  table = known (tableOf d t);
+  table = orZero (tableOf d t);
   values = map (λ w. w .bytes) (Option·getD (rowValues (schemeOf d t) is) []);
-  labels = map (λ w. known (labelOf d w)) (rowLabels (schemeOf d t) is);
+  labels = map (λ w. orZero (labelOf d w)) (rowLabels (schemeOf d t) is);
 }
 
 -- the policy with what the line defines at the end of its kind
@@ -80,7 +80,7 @@ define d (user u r gs) = record {
   purposes = d .purposes;
   roles = d .roles;
   attributes = d .attributes;
-  users = d .users ++ (record { name = u .bytes; role = known (roleOf d r); values = map (givenOf d) gs } ∷ []);
+  users = d .users ++ (record { name = u .bytes; role = orZero (roleOf d r); values = map (givenOf d) gs } ∷ []);
   condRoles = d .condRoles;
   grants = d .grants;
   labels = d .labels;
@@ -91,7 +91,7 @@ define d (condRole c r t) = record {
   roles = d .roles;
   attributes = d .attributes;
   users = d .users;
-  condRoles = d .condRoles ++ (record { name = c .bytes; role = known (roleOf d r); condition = mapCond (attributeComparison d) t } ∷ []);
+  condRoles = d .condRoles ++ (record { name = c .bytes; role = orZero (roleOf d r); condition = mapCond (attributeComparison d) t } ∷ []);
   grants = d .grants;
   labels = d .labels;
   tables = d .tables;
@@ -102,7 +102,7 @@ define d (grant p c) = record {
   attributes = d .attributes;
   users = d .users;
   condRoles = d .condRoles;
-  grants = d .grants ++ (record { purpose = known (purposeOf d p); condRole = known (condRoleOf d c) } ∷ []);
+  grants = d .grants ++ (record { purpose = orZero (purposeOf d p); condRole = orZero (condRoleOf d c) } ∷ []);
   labels = d .labels;
   tables = d .tables;
 }
@@ -124,7 +124,7 @@ define d (table t s cs) = record {
   condRoles = d .condRoles;
   grants = d .grants;
   labels = d .labels;
-  tables = d .tables ++ (record { name = t .bytes; scheme = mapScheme (λ l. known (labelOf d l)) s; columns = map columnMeant cs } ∷ []);
+  tables = d .tables ++ (record { name = t .bytes; scheme = mapScheme (λ l. orZero (labelOf d l)) s; columns = map columnMeant cs } ∷ []);
 }
 define d (row t is) = d
 

@@ -7,7 +7,7 @@ use Rattle.condition.specs.Cond.{comparisons}
 use Rattle.document.specs.Lookup.{attributeNamed, attributeOf, condRoleOf, hasAttribute, isClock, labelOf, purposeOf, roleOf, schemeOf, tableOf, userOf}
 use Rattle.document.specs.Policy.{Policy}
 use Rattle.form.specs.Form.{Form, Item, Scheme, attr, byCell, byColumn, byRow, byTable, condRole, grant, label, labelled, plain, purpose, role, row, schemeLabels, table, unlabelled, user}
-use Rattle.lists.specs.Lists.{holdsOf, known, listed, there}
+use Rattle.lists.specs.Lists.{holdsOf, listed, orZero, there}
 use Rattle.text.specs.Names.{isName}
 use Rattle.text.specs.Offending.{leftmost, missing, offendingIf, repeated, unless}
 use Rattle.text.specs.Words.{Word}
@@ -56,7 +56,7 @@ unknown d (attr r a k) = unless (there (roleOf d r)) r
 unknown d (user u r gs) =
     leftmost (unless (there (roleOf d r)) r ∷ missing (λ w. there (attributeOf d w)) (map (λ g. g .attribute) gs) ∷ [])
 unknown d (condRole c r t) =
-    leftmost (unless (there (roleOf d r)) r ∷ missing (usableFor d (known (roleOf d r))) (map (λ x. x .of) (comparisons t)) ∷ [])
+    leftmost (unless (there (roleOf d r)) r ∷ missing (usableFor d (orZero (roleOf d r))) (map (λ x. x .of) (comparisons t)) ∷ [])
 unknown d (grant p c) = leftmost (unless (there (purposeOf d p)) p ∷ unless (there (condRoleOf d c)) c ∷ [])
 unknown d (label l ps qs) = missing (λ w. there (purposeOf d w)) (ps ++ qs)
 unknown d (table t s cs) = missing (λ w. there (labelOf d w)) (schemeLabels s)

@@ -9,7 +9,7 @@ use mathlib.Core.Option.{Option, Option·map, none, some}
 use Rattle.document.specs.Lookup.{attributeNamed, columnsOf, hasAttribute, roleOf, schemeOf}
 use Rattle.document.specs.Policy.{Attribute, Policy}
 use Rattle.form.specs.Form.{Form, Item, Scheme, attr, byCell, byColumn, byRow, byTable, condRole, grant, label, labelled, plain, purpose, role, row, table, unlabelled, user}
-use Rattle.lists.specs.Lists.{allOf, countOf, holdsOf, keep, known}
+use Rattle.lists.specs.Lists.{allOf, countOf, holdsOf, keep, orZero}
 use Rattle.text.specs.Names.{isName}
 use Rattle.text.specs.Words.{Word, isCalled}
 
@@ -57,7 +57,7 @@ unfoldable pub misfit : Policy → Form → Bool
 misfit d (purpose n p) = false
 misfit d (role n p) = false
 misfit d (attr r a k) = false
-misfit d (user u r gs) = not (givesAll d (known (roleOf d r)) (map (λ g. g .attribute) gs))
+misfit d (user u r gs) = not (givesAll d (orZero (roleOf d r)) (map (λ g. g .attribute) gs))
 misfit d (condRole c r t) = false
 misfit d (grant p c) = false
 misfit d (label l ps qs) = false

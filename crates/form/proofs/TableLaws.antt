@@ -16,7 +16,7 @@ use Rattle.form.specs.BodyPlaces.{ColumnsWithin, ReadsColumns, columnsTo
 use Rattle.form.specs.Form.{ColumnForm, Form, byColumn, table}
 use Rattle.form.specs.FormReader.{column, labelledColumn, labelledColumns, plainColumns, schemes}
 use Rattle.form.specs.TableWords.{columnWords, schemeWords}
-use Rattle.form.specs.Walks.{columnsAt}
+use Rattle.form.specs.Walks.{columnFormsAt}
 use Rattle.text.proofs.EndLaws.{end-none, end-read}
 use Rattle.text.proofs.Forward.{Forward, forward-many}
 use Rattle.text.proofs.Lefts.{first-drop}
@@ -86,7 +86,7 @@ module _ (s : List ℕ) (at e : ℕ) (k : coded.Scheme) (l : ℕ) {A : Type 0} (
 module _ (s : List ℕ) (at e : ℕ) where
   -- plain columns, for every scheme but by column
   pub plain-table : (k : coded.Scheme) (l : ℕ) (r : End) {q : Columns} → q ≡ underScheme s k l e r → r ≡ wordEnd (many column (from s e))
-      → columnWords s k e ≡ columnsAt s e → l ≤ length s
+      → columnWords s k e ≡ columnFormsAt s e → l ≤ length s
       → ((t : Word) → keyword (schemes t) (from s at) ≡ plainColumns t (schemeWords s k l e) (from s e))
       → ReadsColumns s at q
   unfolding plainColumns

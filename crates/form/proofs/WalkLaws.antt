@@ -12,7 +12,7 @@ use native.Mathlib.Omega.{arith}
 use Rattle.condition.specs.Kinds.{Kind, names, numbers}
 use Rattle.form.specs.Form.{ColumnForm, GivenForm, Item, labelled, plain}
 use Rattle.form.specs.FormReader.{cellValue, column, columnBody, givenForm, item, kinds, labelledColumn, labelledItem, plainItem}
-use Rattle.form.specs.Walks.{cellEndAt, cellLabelIn, columnAt, columnLabelAt, columnLabelsAt, columnsAt, firstIn, givenAt, givensAt, itemAt, itemEndAt, itemsAt, kindAt, labelledColumnsAt, listAt, listUpTo, namesAt, pairEndAt, secondIn, thirdIn, tripleEndAt}
+use Rattle.form.specs.Walks.{cellEndAt, cellLabelIn, columnAt, columnFormsAt, columnLabelAt, columnLabelsAt, firstIn, givenAt, givensAt, itemAt, itemEndAt, itemsAt, kindAt, labelledColumnsAt, listAt, listUpTo, namesAt, pairEndAt, secondIn, thirdIn, tripleEndAt}
 use Rattle.text.proofs.ReaderLaws.{not-read}
 use Rattle.text.proofs.WalkingLaws.{Finds, finds-bind, finds-bracketed, finds-give, finds-if, finds-next, finds-run, finds-word, next-forward, next-within, past-forward, past-here, past-within, word-forward, word-within, written-end}
 use Rattle.text.specs.Brackets.{among, keyword, many, upTo}
@@ -236,8 +236,8 @@ module _ (s : List ℕ) (at : ℕ) where
   unfolding givensAt
   givens-walk gs l h = walk-many givenAt pairEndAt s givenForm (finds-given s) (pair-onward s) at gs l h .0
 
-  pub columns-walk : (cs : List ColumnForm) (l : Left) → many column (from s at) ≡ some (cs, l) → cs ≡ columnsAt s at
-  unfolding columnsAt
+  pub columns-walk : (cs : List ColumnForm) (l : Left) → many column (from s at) ≡ some (cs, l) → cs ≡ columnFormsAt s at
+  unfolding columnFormsAt
   columns-walk cs l h = walk-many columnAt pairEndAt s column (finds-column s) (pair-onward s) at cs l h .0
 
   pub labelled-columns-walk : (cs : List (ColumnForm × Word)) (l : Left) → many labelledColumn (from s at) ≡ some (cs, l) → (map (λ x. x .0) cs ≡ labelledColumnsAt s at) × (map (λ x. x .1) cs ≡ columnLabelsAt s at)

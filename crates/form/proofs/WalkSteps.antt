@@ -9,7 +9,7 @@ use mathlib.Core.Path.{_≡_}
 use native.Mathlib.Omega.{arith}
 use Rattle.form.proofs.WalkLaws.{cell-onward, item-onward, item-within, pair-onward, pair-within, triple-onward, triple-within, value-onward, walk-more, walk-stop}
 use Rattle.form.specs.Form.{labelled, plain}
-use Rattle.form.specs.Walks.{cellAt, cellEndAt, cellLabelIn, cellsAt, columnAt, columnLabelAt, columnLabelsAt, columnsAt, firstIn, givenAt, givensAt, itemAt, itemEndAt, itemsAt, labelledColumnsAt, namesAt, pairEndAt, plainAt, tripleEndAt}
+use Rattle.form.specs.Walks.{cellAt, cellEndAt, cellLabelIn, cellsAt, columnAt, columnFormsAt, columnLabelAt, columnLabelsAt, firstIn, givenAt, givensAt, itemAt, itemEndAt, itemsAt, labelledColumnsAt, namesAt, pairEndAt, plainAt, tripleEndAt}
 use Rattle.text.proofs.WalkingLaws.{word-forward, word-within}
 use Rattle.text.specs.Walking.{wordEndAt, writtenEndAt}
 use Rattle.text.specs.Words.{wordOf, writtenOf}
@@ -85,12 +85,12 @@ module _ (s : List ℕ) (at : ℕ) where
   unfolding givensAt
   givens-stop h = walk-stop givenAt pairEndAt s (pair-onward s) at h
 
-  pub columns-more : getD s at 0 ≡ 32 → columnsAt s at ≡ columnAt s (at + 1) ∷ columnsAt s (pairEndAt s (at + 1))
-  unfolding columnsAt
+  pub columns-more : getD s at 0 ≡ 32 → columnFormsAt s at ≡ columnAt s (at + 1) ∷ columnFormsAt s (pairEndAt s (at + 1))
+  unfolding columnFormsAt
   columns-more h = walk-more columnAt pairEndAt s (pair-onward s) at h
 
-  pub columns-stop : (getD s at 0 ≡ 32 → ⊥) → columnsAt s at ≡ []
-  unfolding columnsAt
+  pub columns-stop : (getD s at 0 ≡ 32 → ⊥) → columnFormsAt s at ≡ []
+  unfolding columnFormsAt
   columns-stop h = walk-stop columnAt pairEndAt s (pair-onward s) at h
 
   pub labelled-columns-more : getD s at 0 ≡ 32 → labelledColumnsAt s at ≡ columnAt s (at + 1) ∷ labelledColumnsAt s (tripleEndAt s (at + 1))

@@ -3,7 +3,7 @@ use Prim.Native.Nat.{ℕ}
 use mathlib.Core.Bool.{Bool, false, true}
 use mathlib.Core.List.{List}
 use Rattle.form.specs.Form.{ColumnForm, Form, Scheme, byCell, byColumn, byRow, byTable, table, unlabelled}
-use Rattle.form.specs.Walks.{columnLabelsAt, columnsAt, labelledColumnsAt}
+use Rattle.form.specs.Walks.{columnFormsAt, columnLabelsAt, labelledColumnsAt}
 use Rattle.text.specs.Words.{Word, wordOf}
 use Rattle.form.specs.declared.lines.Scheme as coded
 use Rattle.form.specs.declared.lines.Scheme.the-variants as scheme
@@ -26,11 +26,11 @@ schemeWords line scheme.ByCell l cs = byCell
 
 -- the columns that begin at cs
 unfoldable pub columnWords : List ℕ → coded.Scheme → ℕ → List ColumnForm
-columnWords line scheme.Unlabelled cs = columnsAt line cs
-columnWords line scheme.ByTable cs = columnsAt line cs
+columnWords line scheme.Unlabelled cs = columnFormsAt line cs
+columnWords line scheme.ByTable cs = columnFormsAt line cs
 columnWords line scheme.ByColumn cs = labelledColumnsAt line cs
-columnWords line scheme.ByRow cs = columnsAt line cs
-columnWords line scheme.ByCell cs = columnsAt line cs
+columnWords line scheme.ByRow cs = columnFormsAt line cs
+columnWords line scheme.ByCell cs = columnFormsAt line cs
 
 -- the table line whose name stands at t
 abbrev pub tableLine : List ℕ → ℕ → coded.Scheme → ℕ → ℕ → Form

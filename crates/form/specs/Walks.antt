@@ -62,8 +62,8 @@ unfoldable pub columnAt : List ℕ → ℕ → ColumnForm
 columnAt s at = record { name = wordOf s (firstIn s at); kind = kindAt s (secondIn s at) }
 
 -- the columns of a table from a position on
-unfoldable pub columnsAt : List ℕ → ℕ → List ColumnForm
-columnsAt s at = listAt columnAt pairEndAt s at
+unfoldable pub columnFormsAt : List ℕ → ℕ → List ColumnForm
+columnFormsAt s at = listAt columnAt pairEndAt s at
 
 -- the columns of a table with a label at each, from a position on
 unfoldable pub labelledColumnsAt : List ℕ → ℕ → List ColumnForm

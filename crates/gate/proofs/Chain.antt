@@ -8,7 +8,7 @@ use mathlib.Core.List.{List}
 use mathlib.Core.Path.{_∙_, _≡_, ap, refl, sym}
 use Rattle.answer.specs.Ask.{Outcome, after, ask, askUnbounded, ifFits, measure}
 use Rattle.answering.specs.Answering.{bufferAfter}
-use Rattle.checker.specs.Loading.{Holds}
+use Rattle.checker.specs.Loading.{HoldsDocument}
 use Rattle.document.specs.Check.{Accepted, check}
 use Rattle.document.specs.Invariants.{Formed}
 use Rattle.gate.specs.Outside.{Asks, Measures, figuresFit, measuredAs}
@@ -29,7 +29,7 @@ use Rattle.stages.specs.declared.answered.Figures as figures
 use Rattle.text.specs.declared.refusals.Refusal as refusals
 
 -- the arrays of an accepted document, which is well formed
-pub standing : {doc ps rs bs us cs gs ls ms ts ws : List ℕ} {c : Counts} {n : ℕ} (h : Holds doc ps rs bs us cs gs ls ms ts ws c n) → Formed (h .what .policy) → Standing doc ps rs bs us cs gs ms ts ws c (h .what)
+pub standing : {doc ps rs bs us cs gs ls ms ts ws : List ℕ} {c : Counts} {n : ℕ} (h : HoldsDocument doc ps rs bs us cs gs ls ms ts ws c n) → Formed (h .what .policy) → Standing doc ps rs bs us cs gs ms ts ws c (h .what)
 standing {ls} h f = record { names = ls; indexed = h .held; formed = f; small = h .small }
 
 module _ (doc text : List ℕ) (c : Clock) where

@@ -11,7 +11,7 @@ use Rattle.gate.specs.Outcome.{Reserved, checkedAs, linesOnly}
 use Rattle.gate.specs.declared.documents.Checked.{Checked}
 use Rattle.gate.specs.declared.documents.Checked.the-variants as checked
 use Rattle.document.specs.Check.{Accepted, check}
-use Rattle.gate.specs.Exports.{ExportsAsk, ExportsCheck, ExportsImport, ExportsMeasure, ExportsMeasureImport, Refuses, StoresLength, askFigures, checkFigures, codeOf, measureFigures}
+use Rattle.gate.specs.Exports.{ExportsAsk, ExportsCheck, ExportsImport, ExportsMeasure, ExportsMeasureImport, ExportsRefusal, StoresLength, askFigures, checkFigures, codeOf, measureFigures}
 use Rattle.gate.specs.Outside.{Asks, Measures, measuredAs}
 use Rattle.stages.specs.Figures.{Figures, answeredAs, figuresOf, inFigures}
 use Rattle.gate.specs.Reserved.{ChecksDocument, HasReserve}
@@ -27,14 +27,14 @@ use Rattle.import.specs.declared.importing.Imported.the-variants as imported
 use Rattle.query.specs.Authority.{Clock}
 use Rattle.text.specs.Names.{Name}
 use Rattle.text.proofs.RefusalLaws.{not-refused}
-use Rattle.text.specs.Reasons.{numberOf, refusalOf}
+use Rattle.text.specs.Reasons.{reasonNumber, refusalOf}
 use Rattle.text.specs.Refusal.{Result, accepted, refused}
 use Rattle.text.specs.declared.refusals.Reason.{Reason}
 use Rattle.text.specs.declared.refusals.Reason.the-variants.{BufferTooShort, ClockOutOfRange, Closed, ImportTooShort, LateAttribute, MalformedRecord, MistypedQuery, NameTaken, NameUnknown, NotAQuery, NotAuthorised, OverBound, RoleNotGiven, SecondRoot, TooLong, UnfitField, UnknownColumn, UnknownParty, WrongForm, WrongType, WrongValues}
 use Rattle.text.specs.declared.refusals.Refusal.{Refusal}
 
 -- no refusal has the code 0
-numbered : (r : Reason) → numberOf r ≡ 0 → ⊥
+numbered : (r : Reason) → reasonNumber r ≡ 0 → ⊥
 numbered TooLong e = omega (arith, e)
 numbered WrongForm e = omega (arith, e)
 numbered OverBound e = omega (arith, e)
@@ -80,7 +80,7 @@ figures-accepted (refused r) x e = not-refused e
 figures-accepted (accepted a) x e = (a, refl)
 
 -- a document that is refused
-pub refused-check : (doc figures : List ℕ) (n : ℕ) (x : Checked) (r : Refusal) → ChecksDocument doc x → x ≡ checked.Refused r → Refuses (refusalOf r) figures n → ExportsCheck doc figures n
+pub refused-check : (doc figures : List ℕ) (n : ℕ) (x : Checked) (r : Refusal) → ChecksDocument doc x → x ≡ checked.Refused r → ExportsRefusal (refusalOf r) figures n → ExportsCheck doc figures n
 unfolding checkedAs codeOf checkFigures
 refused-check doc figures n x r h told f =
     let e : refused (refusalOf r) ≡ linesOnly (check doc) = sym (ap checkedAs told) ∙ h .is .is in
@@ -106,7 +106,7 @@ accepted-check doc figures x n m h told f =
 
 module _ (doc text : List ℕ) (c : Clock) (before after′ figures : List ℕ) (x : Answered) (h : Asks doc text c before after′ x) where
   -- a query that is refused
-  pub refused-ask : (n : ℕ) (r : Refusal) → x ≡ answered.Refused r → Refuses (refusalOf r) figures n → ExportsAsk doc text c before after′ figures n
+  pub refused-ask : (n : ℕ) (r : Refusal) → x ≡ answered.Refused r → ExportsRefusal (refusalOf r) figures n → ExportsAsk doc text c before after′ figures n
   unfolding answeredAs codeOf askFigures
   refused-ask n r told f =
       let e : refused (refusalOf r) ≡ inFigures (ask doc text c (length before)) = sym (ap answeredAs told) ∙ h .is in
@@ -131,7 +131,7 @@ module _ (doc text : List ℕ) (c : Clock) (before after′ figures : List ℕ) 
 
 module _ (doc text : List ℕ) (c : Clock) (figures : List ℕ) (x : Measured) (h : Measures doc text c x) where
   -- a query that has no answer
-  pub refused-measure : (n : ℕ) (r : Refusal) → x ≡ measured.Refused r → Refuses (refusalOf r) figures n → ExportsMeasure doc text c figures n
+  pub refused-measure : (n : ℕ) (r : Refusal) → x ≡ measured.Refused r → ExportsRefusal (refusalOf r) figures n → ExportsMeasure doc text c figures n
   unfolding measuredAs codeOf measureFigures
   refused-measure n r told f =
       let e : refused (refusalOf r) ≡ measure doc text c = sym (ap measuredAs told) ∙ h .is in
@@ -146,7 +146,7 @@ module _ (doc text : List ℕ) (c : Clock) (figures : List ℕ) (x : Measured) (
 
 module _ (figures : List ℕ) (x : Imported) where
   -- a file that is refused
-  pub refused-import : (n : ℕ) (r : Refusal) → x ≡ imported.Refused r → Refuses (refusalOf r) figures n → StoresLength (importedAs x) figures n
+  pub refused-import : (n : ℕ) (r : Refusal) → x ≡ imported.Refused r → ExportsRefusal (refusalOf r) figures n → StoresLength (importedAs x) figures n
   unfolding codeOf measureFigures
   refused-import n r told f =
       let e : refused (refusalOf r) ≡ importedAs x = sym (ap importedAs told) in

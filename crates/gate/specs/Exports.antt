@@ -7,7 +7,7 @@ use Rattle.answer.specs.Ask.{Answered, after, ask, measure}
 use Rattle.answer.specs.Reserve.{IsReserve}
 use Rattle.gate.specs.Outcome.{linesOnly}
 use Rattle.document.specs.Check.{Accepted, check}
-use Rattle.import.specs.Importing.{bufferAfter, importing, lengthOnly, measureImport}
+use Rattle.import.specs.Importing.{afterImport, importing, lengthOnly, measureImport}
 use Rattle.query.specs.Authority.{Clock}
 use Rattle.text.specs.Names.{Name}
 use Rattle.text.specs.Refusal.{Refusal, Result, Source, accepted, document, file, query, refused}
@@ -48,7 +48,7 @@ unfoldable pub clockAt : (year day hour : ℕ) → Clock
 clockAt y d h = record { year = y; day = d; hour = h }
 
 -- the code n and the figures are those of the refusal
-pub record Refuses (r : Refusal) (figures : List ℕ) (n : ℕ) : Type 0 where
+pub record ExportsRefusal (r : Refusal) (figures : List ℕ) (n : ℕ) : Type 0 where
   pub code : n ≡ r .number
   pub filled : figures ≡ refusalFigures r
 
@@ -84,7 +84,7 @@ pub record StoresLength (o : Result ℕ) (figures : List ℕ) (n : ℕ) : Type 0
 -- 0, the file is accepted (02, Q-1)
 pub record ExportsImport (bytes : List ℕ) (t l : Name) (before after′ figures : List ℕ) (n : ℕ) : Type 0 where
   pub stores : StoresLength (lengthOnly (importing bytes t l (length before))) figures n
-  pub buffer : after′ ≡ bufferAfter (importing bytes t l (length before)) before
+  pub buffer : after′ ≡ afterImport (importing bytes t l (length before)) before
 
 -- the code n and the figures are those of measuring the lines of the file
 abbrev pub ExportsMeasureImport : (bytes : List ℕ) (table label : Name) (figures : List ℕ) (n : ℕ) → Type 0

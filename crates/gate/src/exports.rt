@@ -14,7 +14,7 @@ use text::refusals::Source;
 use text::refusals::number;
 ghost use mathlib.Core.List.{[], _∷_};
 ghost use mathlib.Core.Path.{_≡_};
-ghost use Rattle.gate.specs.Exports.{ExportsAsk, ExportsCheck, ExportsImport, ExportsMeasure, ExportsMeasureImport, Refuses, StoresLength, clockAt, sourceCode};
+ghost use Rattle.gate.specs.Exports.{ExportsAsk, ExportsCheck, ExportsImport, ExportsMeasure, ExportsMeasureImport, ExportsRefusal, StoresLength, clockAt, sourceCode};
 ghost use Rattle.import.specs.Outside.{importedAs};
 ghost use Rattle.text.specs.Reasons.{refusalOf, sourceOf};
 
@@ -38,7 +38,7 @@ fn source_code(s: Source) -> u64
 
 // Stores the figures of a refusal. Gives its number.
 fn store_refusal(figures: &mut [u64; 5], r: Refusal) -> u64
-    ensures { λ n. ⌜ Refuses (refusalOf r) (now (figures .exit)) n ⌝ }
+    ensures { λ n. ⌜ ExportsRefusal (refusalOf r) (now (figures .exit)) n ⌝ }
 {
     let start = r.start;
     let len = r.len;

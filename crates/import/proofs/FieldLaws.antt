@@ -12,7 +12,7 @@ use native.Mathlib.Omega.{arith}
 use Rattle.import.specs.declared.fields.FieldRead.the-variants as fieldRead
 use Rattle.text.specs.CodeEnds.{wordEnd}
 use Rattle.import.specs.Scanned.{fieldOf, fieldSize, fieldUnfit, quotedEnd}
-use Rattle.import.specs.Fields.{Field, bare, field, inQuotes, isPlain, plainBytes, quoted, taken, wrap}
+use Rattle.import.specs.Fields.{Field, bare, field, inQuotes, isPlain, plainBytes, quoted, withLeft, wrap}
 use Rattle.lists.proofs.ListLaws.{all-parts}
 use Rattle.lists.proofs.Tests.{and-left, never, true-not-false}
 use Rattle.lists.specs.Lists.{allOf}
@@ -246,13 +246,13 @@ module _ (s : List ℕ) where
 
 -- ---- fields at a position
 
-pub taken-some : (l : Left) (o : Option (Field × ℕ)) (v : Field) (l′ : Left) → taken l o ≡ some (v, l′) → (q : Field × ℕ) × (o ≡ some q) × (v ≡ q .0) × (l′ ≡ skip (q .1) l)
-unfolding taken
+pub taken-some : (l : Left) (o : Option (Field × ℕ)) (v : Field) (l′ : Left) → withLeft l o ≡ some (v, l′) → (q : Field × ℕ) × (o ≡ some q) × (v ≡ q .0) × (l′ ≡ skip (q .1) l)
+unfolding withLeft
 taken-some l none v l′ h = not-read (v, l′) h
 taken-some l (some q) v l′ h = let g = got (q .0, skip (q .1) l) v l′ h in (q, refl, sym (g .0), sym (g .1))
 
 module _ (s : List ℕ) (at : ℕ) where
-  pub field-quoted : getD s at 0 ≡ 34 → field (from s at) ≡ taken (from s (at + 1)) (quoted false (drop (at + 1) s))
+  pub field-quoted : getD s at 0 ≡ 34 → field (from s at) ≡ withLeft (from s (at + 1)) (quoted false (drop (at + 1) s))
   unfolding field ifNext inQuotes
   field-quoted e = rw (first-drop s at, eq-eqb _ _ e, byte-at-read s at 34 e)
 
@@ -395,8 +395,8 @@ field-plain s at v l f h = go (eqb (getD s at 0) 34) refl (field-fit s at (field
 
 -- ---- what the code's answers say
 
-taken-end : (s : List ℕ) (a : ℕ) (o : Option (Field × ℕ)) → quotedEnd a o ≡ wordEnd (taken (from s a) o)
-unfolding taken
+taken-end : (s : List ℕ) (a : ℕ) (o : Option (Field × ℕ)) → quotedEnd a o ≡ wordEnd (withLeft (from s a) o)
+unfolding withLeft
 taken-end s a none = refl
 taken-end s a (some q) = refl
 

@@ -12,8 +12,8 @@ use native.Mathlib.Omega.{arith}
 use Rattle.form.specs.RowText.{spaced}
 use Rattle.import.proofs.RowLaws.{line-bytes, lines-one, spaced-one, unfit-first}
 use Rattle.import.specs.Fields.{Field}
-use Rattle.import.specs.Importing.{admitted, bufferAfter, firstUnfit, importable, importing, lengthOnly, lineOf, linesOf, longestBuffer, measureImport, refusalAt, refuseUnfit, wellFormed}
-use Rattle.import.specs.Outside.{Imports, importedAs, inBrief, within}
+use Rattle.import.specs.Importing.{afterImport, firstUnfit, ifWritable, importable, importing, lengthOnly, longestBuffer, measureImport, recordLine, recordLines, refusalAt, refuseUnfit, wellFormed}
+use Rattle.import.specs.Outside.{Imports, importedAs, inBrief, lengthWithin}
 use Rattle.import.specs.Placement.{RowsPlaced}
 use Rattle.import.specs.Records.{Entry, Split, malformed, records, split}
 use Rattle.import.specs.Scanned.{fieldSize, placeOf, scanOf, sizeOf, totalSize}
@@ -41,12 +41,12 @@ spaced-size (v ∷ vs) h =
     let i : length (spaced vs) ≡ sizeOf vs = spaced-size vs (and-right (isValue v) (allOf isValue vs) h) in
     rw (and-left (isValue v) (allOf isValue vs) h) (omega (arith, i, ap length (spaced-one v vs), length-append (32 ∷ v) (spaced vs)))
 
-line-length : (t l : Name) (vs : List Field) → allOf isValue vs ≡ true → length (lineOf t l vs) ≡ length t + length l + 8 + sizeOf vs
+line-length : (t l : Name) (vs : List Field) → allOf isValue vs ≡ true → length (recordLine t l vs) ≡ length t + length l + 8 + sizeOf vs
 line-length t l vs h = omega (arith, simp length-append at (ap length (line-bytes t l vs)), spaced-size vs h)
 
-lines-length : (t l : Name) (es : List Entry) → firstUnfit es ≡ none → length (linesOf t l es) ≡ length es * (length t + length l + 8) + totalSize es
+lines-length : (t l : Name) (es : List Entry) → firstUnfit es ≡ none → length (recordLines t l es) ≡ length es * (length t + length l + 8) + totalSize es
 unfolding totalSize
-lines-length t l [] h = unfold linesOf flatten in omega arith
+lines-length t l [] h = unfold recordLines flatten in omega arith
 lines-length t l (e ∷ es) h =
     let u = unfit-first e es h in
     let i = lines-length t l es (u .1) in
@@ -68,16 +68,16 @@ place-at none h = let x : _≡_ {A = ℕ} 0 1 = cc in absurd (omega arith)
 place-at (some q) {p} h = let e : q ≡ p = cc in ap some e
 
 -- a length that is within the room, or not
-within-at : (room m n : ℕ) → within room m ≡ At n → (m ≤ room) × (m ≡ n)
-unfolding within
+within-at : (room m n : ℕ) → lengthWithin room m ≡ At n → (m ≤ room) × (m ≡ n)
+unfolding lengthWithin
 within-at room m n h = go (leb m room) refl h
   where
     go : (b : Bool) → leb m room ≡ b → cond b (At m) Nothing ≡ At n → (m ≤ room) × (m ≡ n)
     go true e k = (leb-true m room e, cc)
     go false e k = let x : _≡_ {A = ℕ} 0 1 = cc in absurd (omega arith)
 
-within-no : (room m : ℕ) → within room m ≡ Nothing → room < m
-unfolding within
+within-no : (room m : ℕ) → lengthWithin room m ≡ Nothing → room < m
+unfolding lengthWithin
 within-no room m h = go (leb m room) refl h
   where
     go : (b : Bool) → leb m room ≡ b → cond b (At m) Nothing ≡ Nothing → room < m
@@ -85,26 +85,26 @@ within-no room m h = go (leb m room) refl h
     go false e k = leb-false m room e
 
 module _ (t l : Name) (room : ℕ) (es : List Entry) where
-  admits-names : (isName t && isName l) ≡ false → admitted t l room es ≡ refused (refusalAt 20 0)
-  unfolding admitted refuseIf _>>_
+  admits-names : (isName t && isName l) ≡ false → ifWritable t l room es ≡ refused (refusalAt 20 0)
+  unfolding ifWritable refuseIf _>>_
   admits-names n = rw n
 
   module _ (named : (isName t && isName l) ≡ true) where
-    admits-fields : {p : ℕ} → firstUnfit es ≡ some p → admitted t l room es ≡ refused (refusalAt 20 p)
-    unfolding admitted refuseIf refuseUnfit _>>_
+    admits-fields : {p : ℕ} → firstUnfit es ≡ some p → ifWritable t l room es ≡ refused (refusalAt 20 p)
+    unfolding ifWritable refuseIf refuseUnfit _>>_
     admits-fields u = rw (named, u)
 
     module _ (fit : firstUnfit es ≡ none) where
-      pub admits-room : room < length (linesOf t l es) → admitted t l room es ≡ refused (refusalAt 21 0)
-      unfolding admitted refuseIf refuseUnfit _>>_
-      admits-room h = rw (named, fit, lt-ltb room (length (linesOf t l es)) h)
+      pub admits-room : room < length (recordLines t l es) → ifWritable t l room es ≡ refused (refusalAt 21 0)
+      unfolding ifWritable refuseIf refuseUnfit _>>_
+      admits-room h = rw (named, fit, lt-ltb room (length (recordLines t l es)) h)
 
-      pub admits-all : length (linesOf t l es) ≤ room → admitted t l room es ≡ accepted es
-      unfolding admitted refuseIf refuseUnfit _>>_
-      admits-all h = rw (named, fit, le-ltb room (length (linesOf t l es)) h)
+      pub admits-all : length (recordLines t l es) ≤ room → ifWritable t l room es ≡ accepted es
+      unfolding ifWritable refuseIf refuseUnfit _>>_
+      admits-all h = rw (named, fit, le-ltb room (length (recordLines t l es)) h)
 
   -- a refusal, and records that are taken
-  brief-refusal : {x : Refusal} (r : code.Refusal) → admitted t l room es ≡ refused x → refusalOf r ≡ x → refused (refusalOf r) ≡ inBrief t l (admitted t l room es)
+  brief-refusal : {x : Refusal} (r : code.Refusal) → ifWritable t l room es ≡ refused x → refusalOf r ≡ x → refused (refusalOf r) ≡ inBrief t l (ifWritable t l room es)
   unfolding inBrief _>>=_
   brief-refusal r a e = ap refused e ∙ sym (ap (inBrief t l) a)
 
@@ -112,16 +112,16 @@ module _ (t l : Name) (room : ℕ) (es : List Entry) where
     counted : (count ≡ length es) × (size ≡ totalSize es) × (f ≡ placeOf (firstUnfit es))
     counted = (cc, cc, cc)
 
-    measured : firstUnfit es ≡ none → length (linesOf t l es) ≡ count * (length t + length l + 8) + size
+    measured : firstUnfit es ≡ none → length (recordLines t l es) ≡ count * (length t + length l + 8) + size
     measured k = lines-length t l es k ∙ sym (ap (λ (n : ℕ). n * (length t + length l + 8) + size) (counted .0) ∙ ap (λ (n : ℕ). length es * (length t + length l + 8) + n) (counted .1))
 
     -- the table or the label is no name
-    pub judged-nameless : (r : code.Refusal) → (isName t && isName l) ≡ false → refusalOf r ≡ refusalAt 20 0 → refused (refusalOf r) ≡ inBrief t l (admitted t l room es)
+    pub judged-nameless : (r : code.Refusal) → (isName t && isName l) ≡ false → refusalOf r ≡ refusalAt 20 0 → refused (refusalOf r) ≡ inBrief t l (ifWritable t l room es)
     judged-nameless r n e = brief-refusal r (admits-names n) e
 
     module _ (named : (isName t && isName l) ≡ true) where
       -- a field is unfit
-      pub judged-unfit : (r : code.Refusal) {p : ℕ} → f ≡ At p → refusalOf r ≡ refusalAt 20 p → refused (refusalOf r) ≡ inBrief t l (admitted t l room es)
+      pub judged-unfit : (r : code.Refusal) {p : ℕ} → f ≡ At p → refusalOf r ≡ refusalAt 20 p → refused (refusalOf r) ≡ inBrief t l (ifWritable t l room es)
       judged-unfit r k e = brief-refusal r (admits-fields named (place-at (firstUnfit es) (sym k ∙ counted .2))) e
 
       module _ (fit : f ≡ Nothing) where
@@ -129,18 +129,18 @@ module _ (t l : Name) (room : ℕ) (es : List Entry) where
         fits = place-nothing (firstUnfit es) (sym fit ∙ counted .2)
 
         -- there is no room for the lines
-        pub judged-short : (r : code.Refusal) → within room (count * (length t + length l + 8) + size) ≡ Nothing → refusalOf r ≡ refusalAt 21 0 → refused (refusalOf r) ≡ inBrief t l (admitted t l room es)
+        pub judged-short : (r : code.Refusal) → lengthWithin room (count * (length t + length l + 8) + size) ≡ Nothing → refusalOf r ≡ refusalAt 21 0 → refused (refusalOf r) ≡ inBrief t l (ifWritable t l room es)
         judged-short r w e =
-            let o : room < length (linesOf t l es) = omega (arith, within-no room (count * (length t + length l + 8) + size) w, measured fits) in
+            let o : room < length (recordLines t l es) = omega (arith, within-no room (count * (length t + length l + 8) + size) w, measured fits) in
             brief-refusal r (admits-room named fits o) e
 
         -- there is
-        pub judged-fit : {n : ℕ} → within room (count * (length t + length l + 8) + size) ≡ At n → accepted (count, n) ≡ inBrief t l (admitted t l room es)
+        pub judged-fit : {n : ℕ} → lengthWithin room (count * (length t + length l + 8) + size) ≡ At n → accepted (count, n) ≡ inBrief t l (ifWritable t l room es)
         unfolding inBrief _>>=_
         judged-fit {n} w =
             let a = within-at room (count * (length t + length l + 8) + size) n w in
-            let o : length (linesOf t l es) ≤ room = omega (arith, a .0, measured fits) in
-            let e : n ≡ length (linesOf t l es) = omega (arith, a .1, measured fits) in
+            let o : length (recordLines t l es) ≤ room = omega (arith, a .0, measured fits) in
+            let e : n ≡ length (recordLines t l es) = omega (arith, a .1, measured fits) in
             ap (λ (k : ℕ). accepted (k, n)) (counted .0) ∙ ap (λ (k : ℕ). accepted (length es, k)) e ∙ sym (ap (inBrief t l) (admits-all named fits o))
 
 -- ---- a file that was scanned: 19
@@ -156,14 +156,14 @@ split-of (split es) h = (es, refl)
 module _ (bytes : List ℕ) (t l : Name) (room : ℕ) where
   pub judge-malformed : {p : ℕ} (r : code.Refusal) → scanOf (records bytes) ≡ scan.Malformed p → refusalOf r ≡ refusalAt 19 p → refused (refusalOf r) ≡ inBrief t l (importable bytes t l room)
   unfolding importable wellFormed inBrief _>>=_
-  judge-malformed r h e = ap refused e ∙ sym (ap (λ (x : Split). inBrief t l (wellFormed x >>= admitted t l room)) (malformed-of (records bytes) h))
+  judge-malformed r h e = ap refused e ∙ sym (ap (λ (x : Split). inBrief t l (wellFormed x >>= ifWritable t l room)) (malformed-of (records bytes) h))
 
   pub judge-counted : {n z : ℕ} {f : End} {x : Result (ℕ × ℕ)} → scanOf (records bytes) ≡ scan.Counted n z f
-      → ((es : List Entry) → scanOf (split es) ≡ scan.Counted n z f → x ≡ inBrief t l (admitted t l room es)) → x ≡ inBrief t l (importable bytes t l room)
+      → ((es : List Entry) → scanOf (split es) ≡ scan.Counted n z f → x ≡ inBrief t l (ifWritable t l room es)) → x ≡ inBrief t l (importable bytes t l room)
   unfolding importable wellFormed _>>=_
   judge-counted h k =
       let s = split-of (records bytes) h in
-      k (s .0) (sym (ap scanOf (s .1)) ∙ h) ∙ sym (ap (λ (x : Split). inBrief t l (wellFormed x >>= admitted t l room)) (s .1))
+      k (s .0) (sym (ap scanOf (s .1)) ∙ h) ∙ sym (ap (λ (x : Split). inBrief t l (wellFormed x >>= ifWritable t l room)) (s .1))
 
 -- ---- what was taken
 
@@ -174,7 +174,7 @@ brief-refused t l (accepted es) h = not-refused h
 
 -- the records, their number, and the length of their lines
 brief-accepted : (t l : Name) (o : Result (List Entry)) {count n : ℕ} → accepted (count, n) ≡ inBrief t l o
-    → (es : List Entry) × (o ≡ accepted es) × (count ≡ length es) × (n ≡ length (linesOf t l es))
+    → (es : List Entry) × (o ≡ accepted es) × (count ≡ length es) × (n ≡ length (recordLines t l es))
 unfolding inBrief _>>=_
 brief-accepted t l (refused r) h = not-refused (sym h)
 brief-accepted t l (accepted es) h =
@@ -186,13 +186,13 @@ pub record Taken (bytes : List ℕ) (t l : Name) (room : ℕ) (es : List Entry) 
   pub are : records bytes ≡ split es
   pub names : (isName t && isName l) ≡ true
   pub fit : firstUnfit es ≡ none
-  pub short : length (linesOf t l es) ≤ room
+  pub short : length (recordLines t l es) ≤ room
 
 pub was-taken : (bytes : List ℕ) (t l : Name) (room : ℕ) (es : List Entry) → importable bytes t l room ≡ accepted es → Taken bytes t l room es
 unfolding importable _>>=_
 was-taken bytes t l room es h = go (records bytes) refl h
   where
-    room-left : (ds : List Entry) → records bytes ≡ split ds → (isName t && isName l) ≡ true → firstUnfit ds ≡ none → (b : Bool) → ltb room (length (linesOf t l ds)) ≡ b
+    room-left : (ds : List Entry) → records bytes ≡ split ds → (isName t && isName l) ≡ true → firstUnfit ds ≡ none → (b : Bool) → ltb room (length (recordLines t l ds)) ≡ b
         → refuseIf b (refusalAt 21 0) >> accepted ds ≡ accepted es → Taken bytes t l room es
     room-left ds s n u true e k = unfold refuseIf _>>_ in not-refused k
     room-left ds s n u false e k = made (accepted-same (unfold refuseIf _>>_ in k))
@@ -202,58 +202,58 @@ was-taken bytes t l room es h = go (records bytes) refl h
           are = s ∙ ap split q;
           names = n;
           fit = sym (ap firstUnfit q) ∙ u;
-          short = omega (arith, ltb-false room (length (linesOf t l ds)) e, ap (λ (x : List Entry). length (linesOf t l x)) q);
+          short = omega (arith, ltb-false room (length (recordLines t l ds)) e, ap (λ (x : List Entry). length (recordLines t l x)) q);
         }
 
     fields-fit : (ds : List Entry) → records bytes ≡ split ds → (isName t && isName l) ≡ true → (o : Option ℕ) → firstUnfit ds ≡ o
-        → refuseUnfit o >> (refuseIf (ltb room (length (linesOf t l ds))) (refusalAt 21 0) >> accepted ds) ≡ accepted es → Taken bytes t l room es
-    fields-fit ds s n none u k = room-left ds s n u (ltb room (length (linesOf t l ds))) refl (unfold refuseUnfit _>>_ in k)
+        → refuseUnfit o >> (refuseIf (ltb room (length (recordLines t l ds))) (refusalAt 21 0) >> accepted ds) ≡ accepted es → Taken bytes t l room es
+    fields-fit ds s n none u k = room-left ds s n u (ltb room (length (recordLines t l ds))) refl (unfold refuseUnfit _>>_ in k)
     fields-fit ds s n (some p) u k = unfold refuseUnfit _>>_ in not-refused k
 
     names-fit : (ds : List Entry) → records bytes ≡ split ds → (b : Bool) → (isName t && isName l) ≡ b
-        → refuseIf (not b) (refusalAt 20 0) >> (refuseUnfit (firstUnfit ds) >> (refuseIf (ltb room (length (linesOf t l ds))) (refusalAt 21 0) >> accepted ds)) ≡ accepted es → Taken bytes t l room es
+        → refuseIf (not b) (refusalAt 20 0) >> (refuseUnfit (firstUnfit ds) >> (refuseIf (ltb room (length (recordLines t l ds))) (refusalAt 21 0) >> accepted ds)) ≡ accepted es → Taken bytes t l room es
     names-fit ds s true n k = fields-fit ds s n (firstUnfit ds) refl (unfold refuseIf _>>_ in k)
     names-fit ds s false n k = unfold refuseIf _>>_ in not-refused k
 
-    go : (p : Split) → records bytes ≡ p → wellFormed p >>= admitted t l room ≡ accepted es → Taken bytes t l room es
+    go : (p : Split) → records bytes ≡ p → wellFormed p >>= ifWritable t l room ≡ accepted es → Taken bytes t l room es
     go (malformed p) s k = unfold wellFormed _>>=_ in not-refused k
-    go (split ds) s k = names-fit ds s (isName t && isName l) refl (unfold wellFormed admitted _>>=_ in k)
+    go (split ds) s k = names-fit ds s (isName t && isName l) refl (unfold wellFormed ifWritable _>>=_ in k)
 
 -- ---- the outcomes
 
 module _ (bytes : List ℕ) (t l : Name) where
   -- a refusal leaves the buffer as it was
   pub imports-refused : (before : List ℕ) (r : code.Refusal) → refused (refusalOf r) ≡ inBrief t l (importable bytes t l (length before)) → Imports bytes t l before before (imported.Refused r)
-  unfolding importing lengthOnly bufferAfter _>>=_
+  unfolding importing lengthOnly afterImport _>>=_
   imports-refused before r h =
       let o = brief-refused t l (importable bytes t l (length before)) h in
-      let e : importing bytes t l (length before) ≡ refused (refusalOf r) = ap (λ (x : Result (List Entry)). x >>= λ es. accepted (linesOf t l es)) o in
-      record { is = sym (ap lengthOnly e); buffer = sym (ap (λ (x : Result (List ℕ)). bufferAfter x before) e) }
+      let e : importing bytes t l (length before) ≡ refused (refusalOf r) = ap (λ (x : Result (List Entry)). x >>= λ es. accepted (recordLines t l es)) o in
+      record { is = sym (ap lengthOnly e); buffer = sym (ap (λ (x : Result (List ℕ)). afterImport x before) e) }
 
   -- the lines are written
   pub imports-lines : (before after : List ℕ) {count n m : ℕ} → length before < 2 ^ 63 → accepted (count, n) ≡ inBrief t l (importable bytes t l (length before)) → RowsPlaced bytes count t l before after m
       → Imports bytes t l before after (imported.Lines n)
-  unfolding importing lengthOnly bufferAfter _>>=_
+  unfolding importing lengthOnly afterImport _>>=_
   imports-lines before after {count} {n} {m} small h x =
       let o = brief-accepted t l (importable bytes t l (length before)) h in
       let k = was-taken bytes t l (length before) (o .0) (o .1) in
-      let e : importing bytes t l (length before) ≡ accepted (linesOf t l (o .0)) = ap (λ (x : Result (List Entry)). x >>= λ es. accepted (linesOf t l es)) (o .1) in
+      let e : importing bytes t l (length before) ≡ accepted (recordLines t l (o .0)) = ap (λ (x : Result (List Entry)). x >>= λ es. accepted (recordLines t l es)) (o .1) in
       let w = x .placed (o .0) (k .are) (k .fit) (o .2) .room (omega (arith, k .short, small)) in
       record {
         is = ap accepted (o .3) ∙ sym (ap lengthOnly e);
-        buffer = w .stored ∙ filled before (linesOf t l (o .0)) (k .short) ∙ sym (ap (λ (x : Result (List ℕ)). bufferAfter x before) e);
+        buffer = w .stored ∙ filled before (recordLines t l (o .0)) (k .short) ∙ sym (ap (λ (x : Result (List ℕ)). afterImport x before) e);
       }
 
   -- the same without a buffer
   pub measures-refused : (r : code.Refusal) → refused (refusalOf r) ≡ inBrief t l (importable bytes t l longestBuffer) → refused (refusalOf r) ≡ measureImport bytes t l
   unfolding measureImport importing lengthOnly _>>=_
-  measures-refused r h = sym (ap (λ (x : Result (List Entry)). lengthOnly (x >>= λ es. accepted (linesOf t l es))) (brief-refused t l (importable bytes t l longestBuffer) h))
+  measures-refused r h = sym (ap (λ (x : Result (List Entry)). lengthOnly (x >>= λ es. accepted (recordLines t l es))) (brief-refused t l (importable bytes t l longestBuffer) h))
 
   pub measures-lines : {count n : ℕ} → accepted (count, n) ≡ inBrief t l (importable bytes t l longestBuffer) → accepted n ≡ measureImport bytes t l
   unfolding measureImport importing lengthOnly _>>=_
   measures-lines h =
       let o = brief-accepted t l (importable bytes t l longestBuffer) h in
-      ap accepted (o .3) ∙ sym (ap (λ (x : Result (List Entry)). lengthOnly (x >>= λ es. accepted (linesOf t l es))) (o .1))
+      ap accepted (o .3) ∙ sym (ap (λ (x : Result (List Entry)). lengthOnly (x >>= λ es. accepted (recordLines t l es))) (o .1))
 
 pub and-first : (a b : Bool) → a ≡ false → (a && b) ≡ false
 and-first true b h = absurd (true≢false h)

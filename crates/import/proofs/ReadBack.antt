@@ -11,7 +11,7 @@ use Rattle.form.specs.RowText.{itemTexts, rowText, spaced}
 use Rattle.import.proofs.RowLaws.{lines-one, spaced-one, unfit-first}
 use Rattle.import.proofs.FieldLaws.{not-name}
 use Rattle.import.proofs.ImportLaws.{was-taken}
-use Rattle.import.specs.Importing.{firstUnfit, importable, importing, lineOf, linesOf, oneLabel}
+use Rattle.import.specs.Importing.{firstUnfit, importable, importing, oneLabel, recordLine, recordLines}
 use Rattle.import.specs.ReadBack.{ReadsBack, itemWords, lineWords, linesRead, rowWords, wholeLines}
 use Rattle.import.specs.Fields.{Field}
 use Rattle.import.specs.Records.{Entry, records, split}
@@ -102,27 +102,27 @@ module _ (t l : Name) (named : isName t ≡ true) (labelled′ : isName l ≡ tr
   -- ---- the lines one after the other
 
   pub lines-cut : (e : Entry) (es : List Entry) → allOf isValue (e .fields) ≡ true
-      → cut (linesOf t l (e ∷ es)) ≡ record { head = rowText oneLabel t (l ∷ []) (e .fields); others = cut (linesOf t l es) .head ∷ cut (linesOf t l es) .others }
-  unfolding lineOf
+      → cut (recordLines t l (e ∷ es)) ≡ record { head = rowText oneLabel t (l ∷ []) (e .fields); others = cut (recordLines t l es) .head ∷ cut (recordLines t l es) .others }
+  unfolding recordLine
   lines-cut e es k =
-      ap cut (lines-one t l e es ∙ append-assoc (rowText oneLabel t (l ∷ []) (e .fields)) (10 ∷ []) (linesOf t l es))
-      ∙ cut-line (rowText oneLabel t (l ∷ []) (e .fields)) (linesOf t l es) (row-free (e .fields) k)
+      ap cut (lines-one t l e es ∙ append-assoc (rowText oneLabel t (l ∷ []) (e .fields)) (10 ∷ []) (recordLines t l es))
+      ∙ cut-line (rowText oneLabel t (l ∷ []) (e .fields)) (recordLines t l es) (row-free (e .fields) k)
 
-  lines-read : (es : List Entry) → firstUnfit es ≡ none → linesRead (linesOf t l es) ≡ some (map (λ e. some (t ∷ l ∷ e .fields)) es)
+  lines-read : (es : List Entry) → firstUnfit es ≡ none → linesRead (recordLines t l es) ≡ some (map (λ e. some (t ∷ l ∷ e .fields)) es)
   unfolding linesRead
-  lines-read [] h = unfold linesOf flatten cut wholeLines in refl
+  lines-read [] h = unfold recordLines flatten cut wholeLines in refl
   lines-read (e ∷ es) h =
       let u = unfit-first e es h in
       more e es (lines-cut e es (u .0)) (line-words (e .fields) (u .0)) (lines-read es (u .1))
     where
       more : (e : Entry) (es : List Entry)
-          → cut (linesOf t l (e ∷ es)) ≡ record { head = rowText oneLabel t (l ∷ []) (e .fields); others = cut (linesOf t l es) .head ∷ cut (linesOf t l es) .others }
+          → cut (recordLines t l (e ∷ es)) ≡ record { head = rowText oneLabel t (l ∷ []) (e .fields); others = cut (recordLines t l es) .head ∷ cut (recordLines t l es) .others }
           → lineWords (rowText oneLabel t (l ∷ []) (e .fields)) ≡ some (t ∷ l ∷ e .fields)
-          → Option·map (map lineWords) (wholeLines (cut (linesOf t l es) .head) (cut (linesOf t l es) .others)) ≡ some (map (λ e. some (t ∷ l ∷ e .fields)) es)
-          → Option·map (map lineWords) (wholeLines (cut (linesOf t l (e ∷ es)) .head) (cut (linesOf t l (e ∷ es)) .others)) ≡ some (map (λ e. some (t ∷ l ∷ e .fields)) (e ∷ es))
+          → Option·map (map lineWords) (wholeLines (cut (recordLines t l es) .head) (cut (recordLines t l es) .others)) ≡ some (map (λ e. some (t ∷ l ∷ e .fields)) es)
+          → Option·map (map lineWords) (wholeLines (cut (recordLines t l (e ∷ es)) .head) (cut (recordLines t l (e ∷ es)) .others)) ≡ some (map (λ e. some (t ∷ l ∷ e .fields)) (e ∷ es))
       more e es c w ih = unfold wholeLines in
           (ap (λ (p : Pieces). Option·map (map lineWords) (wholeLines (p .head) (p .others))) c
-          ∙ twice (rowText oneLabel t (l ∷ []) (e .fields)) (wholeLines (cut (linesOf t l es) .head) (cut (linesOf t l es) .others))
+          ∙ twice (rowText oneLabel t (l ∷ []) (e .fields)) (wholeLines (cut (recordLines t l es) .head) (cut (recordLines t l es) .others))
           ∙ ap (Option·map (λ ws. lineWords (rowText oneLabel t (l ∷ []) (e .fields)) ∷ ws)) ih
           ∙ ap (λ (x : Option (List Value)). some (x ∷ map (λ e. some (t ∷ l ∷ e .fields)) es)) w)
         where
@@ -138,12 +138,12 @@ pub record Was (bytes : List ℕ) (t l : Name) (ls : List ℕ) : Type 0 where
   pub are : records bytes ≡ split entries
   pub names : (isName t && isName l) ≡ true
   pub fit : firstUnfit entries ≡ none
-  pub lines : ls ≡ linesOf t l entries
+  pub lines : ls ≡ recordLines t l entries
 
 pub was-accepted : (bytes : List ℕ) (t l : Name) (room : ℕ) (ls : List ℕ) → importing bytes t l room ≡ accepted ls → Was bytes t l ls
 unfolding importing
 was-accepted bytes t l room ls h =
-    let b = bind-accepted (importable bytes t l room) (λ es. accepted (linesOf t l es)) ls h in
+    let b = bind-accepted (importable bytes t l room) (λ es. accepted (recordLines t l es)) ls h in
     let k = was-taken bytes t l room (b .0) (b .1) in
     record { entries = b .0; are = k .are; names = k .names; fit = k .fit; lines = sym (accepted-same (b .2)) }
 

@@ -9,7 +9,7 @@ use mathlib.Core.List.{List, [], _++_, _∷_, append-assoc, map}
 use mathlib.Core.Option.{Option, some}
 use mathlib.Core.Path.{_∙_, _≡_, ap, refl, subst, sym}
 use native.Mathlib.Omega.{arith}
-use Rattle.import.specs.Fields.{Field, bare, field, inQuotes, isPlain, plainBytes, quoted, taken, wrap}
+use Rattle.import.specs.Fields.{Field, bare, field, inQuotes, isPlain, plainBytes, quoted, withLeft, wrap}
 use Rattle.import.specs.Records.{Entry, countRead, entryBefore, fields, fieldsUpTo, goOn, lineEnding, recordEnd, recordOf, records, recordsUpTo, split, width}
 use Rattle.import.specs.Rendered.{Cell, Ending, Line, ReadAs, cellText, cellsText, doubled, endText, endsBy, endsWell, feed, fileEnd, fileText, isCell, isFile, isLine, lineFields, returnFeed}
 use Rattle.lists.proofs.ListLaws.{drop-append}
@@ -59,7 +59,7 @@ quoted-back (b ∷ bs) rest n = go (eqb b 34) refl (quoted-back bs rest n)
     go false e ih = quoted-other b (doubled bs ++ 34 ∷ rest) e ∙ ap (wrap (b ∷ [])) ih ∙ wrap-one b bs (suc (length (doubled bs)))
 
 cell-quoted : (v rest : List ℕ) → eqb (firstByte rest) 34 ≡ false → Reads itself field (34 ∷ (doubled v ++ 34 ∷ rest)) v rest
-unfolding field ifNext byte inQuotes taken
+unfolding field ifNext byte inQuotes withLeft
 cell-quoted v rest n = record {
   from = λ at.
       let e : doubled v ++ 34 ∷ rest ≡ (doubled v ++ 34 ∷ []) ++ rest = sym (append-assoc (doubled v) (34 ∷ []) rest) in

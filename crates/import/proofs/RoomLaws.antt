@@ -1,7 +1,7 @@
 -- Whether lines fit, told by a quotient, since a product could wrap. Assumes nothing.
 use Prim.Native.Nat.{_*_, _+_, _-_, _/_, _<_, _≤_, ℕ}
 use borrow.Author.Tests.{le-leb, leb-true, lt-leb}
-use Rattle.import.specs.Outside.{within}
+use Rattle.import.specs.Outside.{lengthWithin}
 use Rattle.text.specs.declared.words.End.the-variants.{At, Nothing}
 use lib.Dec.{leb}
 use mathlib.Core.Bool.{Bool, cond, false, true}
@@ -27,8 +27,8 @@ room-by room count each more p h =
 
 module _ (room count each more : ℕ) where
   -- the bytes more alone are too many
-  pub within-less : room < more → Nothing ≡ within room (count * each + more)
-  unfolding within
+  pub within-less : room < more → Nothing ≡ lengthWithin room (count * each + more)
+  unfolding lengthWithin
   within-less h = ap (λ (b : Bool). cond b (At (count * each + more)) Nothing) (room-short room count each more h)
 
   module _ (some-bytes : 0 < each) (h : more ≤ room) where
@@ -36,11 +36,11 @@ module _ (room count each more : ℕ) where
     pub product-small : count ≤ (room - more) / each → count * each + more ≤ room
     product-small k = leb-true (count * each + more) room (sym (room-by room count each more some-bytes h) ∙ le-leb count ((room - more) / each) k)
 
-    pub within-fits : count ≤ (room - more) / each → At (count * each + more) ≡ within room (count * each + more)
-    unfolding within
+    pub within-fits : count ≤ (room - more) / each → At (count * each + more) ≡ lengthWithin room (count * each + more)
+    unfolding lengthWithin
     within-fits k = ap (λ (b : Bool). cond b (At (count * each + more)) Nothing) (sym (le-leb (count * each + more) room (product-small k)))
 
     -- they don't
-    pub within-not : (room - more) / each < count → Nothing ≡ within room (count * each + more)
-    unfolding within
+    pub within-not : (room - more) / each < count → Nothing ≡ lengthWithin room (count * each + more)
+    unfolding lengthWithin
     within-not k = ap (λ (b : Bool). cond b (At (count * each + more)) Nothing) (sym (lt-leb count ((room - more) / each) k) ∙ room-by room count each more some-bytes h)

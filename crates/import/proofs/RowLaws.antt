@@ -14,7 +14,7 @@ use Rattle.import.proofs.FieldLaws.{eats-field, field-fit, field-is, fi
 use Rattle.import.proofs.RecordLaws.{eats-fields, end-next, fields-broken, fields-last, fields-more}
 use Rattle.import.proofs.ScanLaws.{record-none, record-other, record-read, records-end, records-step}
 use Rattle.writing.proofs.Writing.{Ahead, both, done, start, step}
-use Rattle.import.specs.Importing.{firstUnfit, lineOf, linesOf, oneLabel}
+use Rattle.import.specs.Importing.{firstUnfit, oneLabel, recordLine, recordLines}
 use Rattle.import.specs.Placement.{FieldPlaced, FieldsPlaced, Placing, RowPlaced, RowsPlaced}
 use Rattle.import.specs.Fields.{Field, field, plainBytes}
 use Rattle.import.specs.Records.{Entry, Split, entryBefore, fields, fieldsUpTo, goOn, malformed, recordEnd, recordOf, records, recordsUpTo, split, width}
@@ -160,8 +160,8 @@ module _ (s : List ℕ) (at : ℕ) {i : ℕ} {before out out′ : List ℕ} {to 
 
 -- ---- a row line
 
-pub line-bytes : (t l : Name) (vs : List Field) → lineOf t l vs ≡ (40 ∷ 114 ∷ 111 ∷ 119 ∷ 32 ∷ []) ++ t ++ (32 ∷ []) ++ l ++ spaced vs ++ (41 ∷ 10 ∷ [])
-unfolding lineOf itemTexts spaced flatten
+pub line-bytes : (t l : Name) (vs : List Field) → recordLine t l vs ≡ (40 ∷ 114 ∷ 111 ∷ 119 ∷ 32 ∷ []) ++ t ++ (32 ∷ []) ++ l ++ spaced vs ++ (41 ∷ 10 ∷ [])
+unfolding recordLine itemTexts spaced flatten
 line-bytes t l vs = ap (λ (bs : List ℕ). bs ++ 10 ∷ []) (rowText-bytes oneLabel t (l ∷ []) vs) ∙ simp append-assoc
 
 pub row-placed : (s : List ℕ) (at : ℕ) (t l : Name) {b0 b1 b2 b3 b4 b5 b6 : List ℕ} {to n1 n2 n3 n4 : ℕ} (p r : Placed)
@@ -250,7 +250,7 @@ pub record RowsLeft (s : List ℕ) (i : ℕ) (t l : Name) (es : List Entry) (bef
   pub read : recordsUpTo fuel (width s) (from s i) ≡ split ds
   pub fit : firstUnfit ds ≡ none
   pub count : length ds ≡ left
-  pub ahead : Ahead before 0 (linesOf t l es) out to (linesOf t l ds)
+  pub ahead : Ahead before 0 (recordLines t l es) out to (recordLines t l ds)
 
 -- so it is if the file has these records
 pub record PuttingRows (s : List ℕ) (i k count : ℕ) (t l : Name) (before out : List ℕ) (to : ℕ) : Type 0 where
@@ -261,18 +261,18 @@ pub rows-start : (s : List ℕ) (count : ℕ) (t l : Name) (before : List ℕ) �
 unfolding records
 rows-start s count t l before = record {
   kept = refl;
-  each = λ es r f c. record { ds = es; fuel = length s; read = r; fit = f; count = omega (arith, c); ahead = start before 0 (linesOf t l es) };
+  each = λ es r f c. record { ds = es; fuel = length s; read = r; fit = f; count = omega (arith, c); ahead = start before 0 (recordLines t l es) };
 }
 
-pub lines-one : (t l : Name) (d : Entry) (ds : List Entry) → linesOf t l (d ∷ ds) ≡ lineOf t l (d .fields) ++ linesOf t l ds
-unfolding linesOf flatten
+pub lines-one : (t l : Name) (d : Entry) (ds : List Entry) → recordLines t l (d ∷ ds) ≡ recordLine t l (d .fields) ++ recordLines t l ds
+unfolding recordLines flatten
 lines-one t l d ds = refl
 
 row-next : (s : List ℕ) (i : ℕ) (t l : Name) {es : List Entry} {before out out′ : List ℕ} {to left : ℕ} (p : Placed)
     → RowsLeft s i t l es before out to left → RowPlaced s i t l out to out′ p → 0 < left → RowsLeft s (p .at) t l es before out′ (p .to) (left - 1)
 row-next s i t l {es} {before} {out} {out′} {to} {left} p a x h = go (a .ds) (a .read) (a .fit) (a .count) (a .ahead)
   where
-    go : (ds : List Entry) → recordsUpTo (a .fuel) (width s) (from s i) ≡ split ds → firstUnfit ds ≡ none → length ds ≡ left → Ahead before 0 (linesOf t l es) out to (linesOf t l ds)
+    go : (ds : List Entry) → recordsUpTo (a .fuel) (width s) (from s i) ≡ split ds → firstUnfit ds ≡ none → length ds ≡ left → Ahead before 0 (recordLines t l es) out to (recordLines t l ds)
         → RowsLeft s (p .at) t l es before out′ (p .to) (left - 1)
     go [] r f c w = absurd (omega (arith, c, h))
     go (d ∷ ds) r f c w =
@@ -285,7 +285,7 @@ row-next s i t l {es} {before} {out} {out′} {to} {left} p a x h = go (a .ds) (
           read = ap (λ (n : ℕ). recordsUpTo (y .fuel) (width s) (from s n)) (q .next) ∙ y .others;
           fit = u .1;
           count = omega (arith, c);
-          ahead = step (lineOf t l (d .fields)) (linesOf t l ds) w (lines-one t l d ds) (q .wrote);
+          ahead = step (recordLine t l (d .fields)) (recordLines t l ds) w (lines-one t l d ds) (q .wrote);
         }
 
 module _ (s : List ℕ) (count : ℕ) (t l : Name) {i k : ℕ} {before out : List ℕ} {to : ℕ} (g : PuttingRows s i k count t l before out to) where
@@ -300,6 +300,6 @@ module _ (s : List ℕ) (count : ℕ) (t l : Name) {i k : ℕ} {before out : Lis
   pub rows-done : count ≤ k → RowsPlaced s count t l before out to
   rows-done h = record { kept = g .kept; placed = λ es r f c. let a = g .each es r f c in done (a .ahead) (none-of (a .ds) (omega (arith, h, a .count))) }
     where
-      none-of : (ds : List Entry) → length ds ≡ 0 → linesOf t l ds ≡ []
-      none-of [] e = unfold linesOf flatten in refl
+      none-of : (ds : List Entry) → length ds ≡ 0 → recordLines t l ds ≡ []
+      none-of [] e = unfold recordLines flatten in refl
       none-of (d ∷ ds) e = absurd (omega (arith, e))

@@ -38,13 +38,13 @@ quoted false (b ∷ bs) = wrap (cond (eqb b 34) [] (b ∷ [])) (quoted (eqb b 34
 quoted true (b ∷ bs) = cond (eqb b 34) (wrap (b ∷ []) (quoted false bs)) (some ([], 0))
 
 -- what was found, and what is left behind it
-unfoldable pub taken : Left → Option (Field × ℕ) → Option (Field × Left)
-taken l none = none
-taken l (some q) = some (q .0, skip (q .1) l)
+unfoldable pub withLeft : Left → Option (Field × ℕ) → Option (Field × Left)
+withLeft l none = none
+withLeft l (some q) = some (q .0, skip (q .1) l)
 
 -- read a field behind its opening quote
 unfoldable pub inQuotes : Reader Field
-inQuotes l = taken l (quoted false (l .bytes))
+inQuotes l = withLeft l (quoted false (l .bytes))
 
 -- read a field
 unfoldable pub field : Reader Field

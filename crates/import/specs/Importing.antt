@@ -38,32 +38,32 @@ abbrev pub oneLabel : Scheme Name
 oneLabel = byRow
 
 -- the row line of a record, `(row T L v ..)`, with its line feed (byte 10)
-unfoldable pub lineOf : Name → Name → List Field → List ℕ
-lineOf t l vs = rowText oneLabel t (l ∷ []) vs ++ 10 ∷ []
+unfoldable pub recordLine : Name → Name → List Field → List ℕ
+recordLine t l vs = rowText oneLabel t (l ∷ []) vs ++ 10 ∷ []
 
 -- the row lines of all records
-unfoldable pub linesOf : Name → Name → List Entry → List ℕ
-linesOf t l es = flatten (map (λ e. lineOf t l (e .fields)) es)
+unfoldable pub recordLines : Name → Name → List Entry → List ℕ
+recordLines t l es = flatten (map (λ e. recordLine t l (e .fields)) es)
 
 -- records of which lines can be written: 20 for the table and the label, 20 for a field, 21; `room` is the lent buffer's length
-unfoldable pub admitted : (table label : Name) (room : ℕ) → List Entry → Result (List Entry)
-admitted t l room es = do
+unfoldable pub ifWritable : (table label : Name) (room : ℕ) → List Entry → Result (List Entry)
+ifWritable t l room es = do
   refuseIf (not (isName t && isName l)) (refusalAt 20 0)
   refuseUnfit (firstUnfit es)
-  refuseIf (ltb room (length (linesOf t l es))) (refusalAt 21 0)
+  refuseIf (ltb room (length (recordLines t l es))) (refusalAt 21 0)
   accepted es
 
 -- the records of a file of which lines can be written: 19, and what follows
 unfoldable pub importable : (bytes : List ℕ) (table label : Name) (room : ℕ) → Result (List Entry)
 importable bytes t l room = do
   es ← wellFormed (records bytes)
-  admitted t l room es
+  ifWritable t l room es
 
 -- what importing gives for the bytes of a file, a table and a label: the row lines
 unfoldable pub importing : (bytes : List ℕ) (table label : Name) (room : ℕ) → Result (List ℕ)
 importing bytes t l room = do
   es ← importable bytes t l room
-  accepted (linesOf t l es)
+  accepted (recordLines t l es)
 
 -- the lines' length only
 unfoldable pub lengthOnly : Result (List ℕ) → Result ℕ
@@ -80,6 +80,6 @@ unfoldable pub measureImport : (bytes : List ℕ) (table label : Name) → Resul
 measureImport bytes t l = lengthOnly (importing bytes t l longestBuffer)
 
 -- the lent buffer afterwards: the lines fill its first bytes, a refusal leaves it as it was
-unfoldable pub bufferAfter : Result (List ℕ) → List ℕ → List ℕ
-bufferAfter (refused r) buffer = buffer
-bufferAfter (accepted ls) buffer = ls ++ drop (length ls) buffer
+unfoldable pub afterImport : Result (List ℕ) → List ℕ → List ℕ
+afterImport (refused r) buffer = buffer
+afterImport (accepted ls) buffer = ls ++ drop (length ls) buffer

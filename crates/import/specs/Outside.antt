@@ -5,7 +5,7 @@ use lib.ListN.{length}
 use mathlib.Core.Bool.{cond}
 use mathlib.Core.List.{List}
 use mathlib.Core.Path.{_≡_}
-use Rattle.import.specs.Importing.{bufferAfter, importing, lengthOnly, linesOf}
+use Rattle.import.specs.Importing.{afterImport, importing, lengthOnly, recordLines}
 use Rattle.import.specs.Records.{Entry}
 use Rattle.import.specs.declared.importing.Imported.{Imported}
 use Rattle.import.specs.declared.importing.Imported.the-variants as imported
@@ -18,14 +18,14 @@ use Rattle.text.specs.declared.words.End.{End}
 use Rattle.text.specs.declared.words.End.the-variants.{At, Nothing}
 
 -- a length that is at most `room`
-unfoldable pub within : (room n : ℕ) → End
-within room n = cond (leb n room) (At n) Nothing
+unfoldable pub lengthWithin : (room n : ℕ) → End
+lengthWithin room n = cond (leb n room) (At n) Nothing
 
 -- how many records there are, and how long their lines are
 unfoldable pub inBrief : Name → Name → Result (List Entry) → Result (ℕ × ℕ)
 inBrief t l o = do
   es ← o
-  accepted (length es, length (linesOf t l es))
+  accepted (length es, length (recordLines t l es))
 
 -- what judging a file says: a refusal, or these two
 abbrev pub judgedAs : Judged → Result (ℕ × ℕ)
@@ -40,4 +40,4 @@ importedAs (imported.Lines n) = accepted n
 -- the code's answer and the buffer are those of importing
 pub record Imports (bytes : List ℕ) (t l : Name) (before after : List ℕ) (r : Imported) : Type 0 where
   pub is : importedAs r ≡ lengthOnly (importing bytes t l (length before))
-  pub buffer : after ≡ bufferAfter (importing bytes t l (length before)) before
+  pub buffer : after ≡ afterImport (importing bytes t l (length before)) before

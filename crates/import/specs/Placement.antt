@@ -7,7 +7,7 @@ use mathlib.Core.Option.{none, some}
 use mathlib.Core.Path.{_≡_}
 use Rattle.form.specs.RowText.{spaced}
 use Rattle.import.specs.Fields.{Field, field, plainBytes}
-use Rattle.import.specs.Importing.{firstUnfit, lineOf, linesOf}
+use Rattle.import.specs.Importing.{firstUnfit, recordLine, recordLines}
 use Rattle.import.specs.Records.{Entry, fields, records, split}
 use Rattle.import.specs.declared.rows.Placed.{Placed}
 use Rattle.lists.specs.Lists.{allOf}
@@ -53,9 +53,9 @@ pub record FieldsPlaced (s : List ℕ) (at : ℕ) (before : List ℕ) (to : ℕ)
 -- the row line of a record
 pub record RowPlaced (s : List ℕ) (at : ℕ) (t label : Name) (before : List ℕ) (to : ℕ) (after : List ℕ) (r : Placed) : Type 0 where
   pub kept : length after ≡ length before
-  pub placed : (vs : List Field) (l : Left) → fields (from s at) ≡ some (vs, l) → allOf isValue vs ≡ true → Placing l before to (lineOf t label vs) after r
+  pub placed : (vs : List Field) (l : Left) → fields (from s at) ≡ some (vs, l) → allOf isValue vs ≡ true → Placing l before to (recordLine t label vs) after r
 
 -- the row lines of a file
 pub record RowsPlaced (s : List ℕ) (count : ℕ) (t label : Name) (before after : List ℕ) (next : ℕ) : Type 0 where
   pub kept : length after ≡ length before
-  pub placed : (es : List Entry) → records s ≡ split es → firstUnfit es ≡ none → count ≡ length es → Wrote before 0 (linesOf t label es) after next
+  pub placed : (es : List Entry) → records s ≡ split es → firstUnfit es ≡ none → count ≡ length es → Wrote before 0 (recordLines t label es) after next

@@ -10,13 +10,13 @@ use text::words::name_end;
 ghost use Prim.Native.Nat.{_*_, _+_, _<_, _^_, ℕ};
 ghost use mathlib.Core.List.{List};
 ghost use mathlib.Core.Path.{_≡_};
-ghost use Rattle.import.specs.Importing.{admitted, importable, measureImport, refusalAt};
-ghost use Rattle.import.specs.Outside.{Imports, importedAs, inBrief, judgedAs, within};
+ghost use Rattle.import.specs.Importing.{ifWritable, importable, measureImport, refusalAt};
+ghost use Rattle.import.specs.Outside.{Imports, importedAs, inBrief, judgedAs, lengthWithin};
 ghost use Rattle.import.specs.Records.{Entry, records, split};
 ghost use Rattle.import.specs.Scanned.{scanOf};
 ghost use Rattle.import.specs.declared.records.Scan.the-variants as scan;
 ghost use Rattle.text.specs.Names.{isName};
-ghost use Rattle.text.specs.Reasons.{numberOf, refusalOf};
+ghost use Rattle.text.specs.Reasons.{reasonNumber, refusalOf};
 
 // No lent buffer is longer.
 const MOST: usize = 9223372036854775807;
@@ -35,7 +35,7 @@ pub enum Judged {
 
 // The refusal that hands back the empty part at a place of the file.
 fn refusal_at(reason: Reason, place: usize) -> Refusal
-    ensures { λ r. ⌜ refusalOf r ≡ refusalAt (numberOf reason) place ⌝ }
+    ensures { λ r. ⌜ refusalOf r ≡ refusalAt (reasonNumber reason) place ⌝ }
 {
     Refusal {
         reason,
@@ -60,7 +60,7 @@ fn is_name(s: &[u8]) -> bool
 // could wrap.
 fn length_within(room: usize, count: usize, each: usize, more: usize) -> End
     requires { ⌜ 0 < each ⌝ }
-    ensures { λ r. ⌜ r ≡ within room (count * each + more) ⌝ }
+    ensures { λ r. ⌜ r ≡ lengthWithin room (count * each + more) ⌝ }
 {
     if room < more {
         return End::Nothing;
@@ -80,7 +80,7 @@ fn judge_scanned(
     size: usize,
     unfit: End,
 ) -> Judged
-    ensures { λ r. ⌜ ((es : List Entry) → scanOf (split es) ≡ scan.Counted count size unfit → judgedAs r ≡ inBrief (now (table .entry)) (now (label .entry)) (admitted (now (table .entry)) (now (label .entry)) room es)) ⌝ }
+    ensures { λ r. ⌜ ((es : List Entry) → scanOf (split es) ≡ scan.Counted count size unfit → judgedAs r ≡ inBrief (now (table .entry)) (now (label .entry)) (ifWritable (now (table .entry)) (now (label .entry)) room es)) ⌝ }
 {
     if !is_name(table) {
         return Judged::Refused(refusal_at(Reason::UnfitField, 0));

@@ -12,7 +12,7 @@ use programs::lines::refusal_line;
 use programs::output::within;
 use programs::output::write_out;
 use text::refusals::Refusal;
-ghost use Rattle.programs.specs.Input.{Loads};
+ghost use Rattle.programs.specs.Input.{ReadsWithin};
 
 // What is lent: more lines than a document has room for are 21.
 const ROOM: usize = 60000;
@@ -50,7 +50,7 @@ fn import_named(file: &[u8]) {
 }
 
 fn read_file(file: &mut [u8; FILE_ROOM]) -> Loaded
-    ensures { λ r. ⌜ Loads (now (file .exit)) r ⌝ }
+    ensures { λ r. ⌜ ReadsWithin (now (file .exit)) r ⌝ }
 {
     read_all(STDIN_FILENO, b"standard input", file)
 }

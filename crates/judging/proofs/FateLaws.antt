@@ -21,13 +21,13 @@ use Rattle.judging.specs.declared.tally.Tally.{Tally}
 use Rattle.document.specs.Lookup.{schemeAt}
 use Rattle.document.specs.Open.{labelOpen, rowWithheld}
 use Rattle.document.specs.Policy.{Doc, Policy, Row}
-use Rattle.workspace.proofs.ListedLaws.{listed-more}
+use Rattle.workspace.proofs.TabulatedLaws.{tabulated-more}
 use Rattle.relations.proofs.RowLaws.{row-known}
 use Rattle.relations.proofs.TableLaws.{scheme-at, table-inside}
 use Rattle.relations.specs.Labels.{Opened}
 use Rattle.relations.specs.Rows.{Rows, labelCountIn, labelsIn, rowIn, rowTableIn}
 use Rattle.relations.specs.Tables.{columnLabelsIn, schemeBy, schemeIn, tableLabelIn}
-use Rattle.workspace.specs.Listed.{listed}
+use Rattle.workspace.specs.Tabulated.{tabulated}
 use Rattle.form.specs.declared.lines.Scheme as coded
 use Rattle.lists.proofs.ListLaws.{count-keep}
 use Rattle.lists.specs.Lists.{countOf, keep}
@@ -129,13 +129,13 @@ module _ {A : Type 0} (f : A → Bool) where
       go false e = e
 
 -- the rows of a table, with one row more
-rows-more : (t : ℕ) (row : ℕ → Row) (f : Row → Bool) (k : ℕ) → countOf f (rowsIn t (listed row (k + 1))) ≡ countOf f (rowsIn t (listed row k)) + cond (eqb (row k .table) t && f (row k)) 1 0
+rows-more : (t : ℕ) (row : ℕ → Row) (f : Row → Bool) (k : ℕ) → countOf f (rowsIn t (tabulated row (k + 1))) ≡ countOf f (rowsIn t (tabulated row k)) + cond (eqb (row k .table) t && f (row k)) 1 0
 unfolding rowsIn
 rows-more t row f k =
-    count-keep f (λ x. eqb (x .table) t) (listed row (k + 1))
-    ∙ ap (countOf (λ x. eqb (x .table) t && f x)) (listed-more row k)
-    ∙ count-behind (λ x. eqb (x .table) t && f x) (listed row k) (row k)
-    ∙ ap (λ (n : ℕ). n + cond (eqb (row k .table) t && f (row k)) 1 0) (sym (count-keep f (λ x. eqb (x .table) t) (listed row k)))
+    count-keep f (λ x. eqb (x .table) t) (tabulated row (k + 1))
+    ∙ ap (countOf (λ x. eqb (x .table) t && f x)) (tabulated-more row k)
+    ∙ count-behind (λ x. eqb (x .table) t && f x) (tabulated row k) (row k)
+    ∙ ap (λ (n : ℕ). n + cond (eqb (row k .table) t && f (row k)) 1 0) (sym (count-keep f (λ x. eqb (x .table) t) (tabulated row k)))
 
 -- what a row of this fate adds to the counts
 record Adds (x : Tally) (f : Fate) (given held missed : Bool) : Type 0 where
@@ -169,7 +169,7 @@ fewer-more k x y f h e = subst (Fewer (k + 1)) (sym e) (go f)
 
 module _ (d : Doc) (q : Query) (row : ℕ → Row) where
   pub judged-none : (marks : List Bool) → JudgedTo d q row 0 marks (record { passed = 0; withheld = 0; unmatched = 0 })
-  unfolding listed rowsIn countOf keep
+  unfolding tabulated rowsIn countOf keep
   judged-none marks = record { given = λ r l. absurd (omega (arith, l)); passed = refl; withheld = refl; unmatched = refl }
 
   module _ (k : ℕ) (marks : List Bool) (x : Tally) (l : k < length marks) (h : JudgedTo d q row k marks x) where

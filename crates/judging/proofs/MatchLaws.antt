@@ -25,7 +25,7 @@ use Rattle.relations.proofs.TableLaws.{column-at, column-inside, table-inside}
 use Rattle.relations.specs.Tables.{Tables, columnIn, columnKindIn}
 use Rattle.lists.proofs.ListLaws.{all-map, findIndex-found, map-map, there-some}
 use Rattle.lists.proofs.Tests.{and-left, and-right}
-use Rattle.lists.specs.Lists.{allOf, known, there}
+use Rattle.lists.specs.Lists.{allOf, orZero, there}
 use Rattle.program.proofs.ProgramLaws.{Agree, program-holds}
 use Rattle.program.specs.Program.{Programmed, comesTo}
 use Rattle.query.specs.QueryPlaces.{conditionAt}
@@ -91,7 +91,7 @@ getD-mapped h (suc m) (suc j) (o ∷ ops) z l k = getD-mapped h m j ops z (omega
 
 -- ---- one comparison, whose column has the number c
 
-module _ (text ts : List ℕ) (k t : ℕ) (d : Policy) (tables : Tables text ts k (d .tables)) (inside : t < k) (s : List ℕ) (op c : ℕ) (is : there (columnOf (columnsAt d t) (comparedAt s op .of)) ≡ true) (number : c ≡ known (columnOf (columnsAt d t) (comparedAt s op .of))) where
+module _ (text ts : List ℕ) (k t : ℕ) (d : Policy) (tables : Tables text ts k (d .tables)) (inside : t < k) (s : List ℕ) (op c : ℕ) (is : there (columnOf (columnsAt d t) (comparedAt s op .of)) ≡ true) (number : c ≡ orZero (columnOf (columnsAt d t) (comparedAt s op .of))) where
   number-found : columnOf (columnsAt d t) (comparedAt s op .of) ≡ some c
   number-found = there-some (columnOf (columnsAt d t) (comparedAt s op .of)) is ∙ ap some (sym number)
 
@@ -123,12 +123,12 @@ module _ (text ts ws : List ℕ) (count : ℕ) (os : List Bool) (s : List ℕ) (
   columns = columnsAt (d .policy) (g .table)
 
   abbrev number : ℕ → ℕ
-  number p = known (columnOf columns (comparedAt s p .of))
+  number p = orZero (columnOf columns (comparedAt s p .of))
 
   number-at : (j : ℕ) → j < g .tests → getD cs (g .chosen + j) 0 ≡ number (getD ops j 0)
   number-at j l =
       sym (getD-drop (g .chosen) cs j 0) ∙ sym (getD-take (g .tests) (drop (g .chosen) cs) j 0 l)
-      ∙ ap (λ ys. getD ys j 0) (pr .numbers ∙ ap (map (λ x. known (columnOf columns (x .of)))) (sym (pr .compared)) ∙ map-map (λ x. known (columnOf columns (x .of))) (comparedAt s) (take (g .tests) ops))
+      ∙ ap (λ ys. getD ys j 0) (pr .numbers ∙ ap (map (λ x. orZero (columnOf columns (x .of)))) (sym (pr .compared)) ∙ map-map (λ x. orZero (columnOf columns (x .of))) (comparedAt s) (take (g .tests) ops))
       ∙ getD-mapped number (g .tests) j ops 0 l (omega (arith, l, long))
 
   there-at : (j : ℕ) → j < g .tests → there (columnOf columns (comparedAt s (getD ops j 0) .of)) ≡ true

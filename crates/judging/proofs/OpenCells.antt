@@ -12,7 +12,7 @@ use native.Mathlib.Omega.{arith}
 use Rattle.judging.specs.Judging.{openIn}
 use Rattle.document.specs.Open.{labelOpen, rowWithheld}
 use Rattle.document.specs.Policy.{Policy}
-use Rattle.workspace.proofs.ListedLaws.{length-listed, listed-at}
+use Rattle.workspace.proofs.TabulatedLaws.{length-tabulated, tabulated-at}
 use Rattle.relations.specs.Labels.{Opened}
 use Rattle.relations.specs.Rows.{labelCountIn, labelRoom, labelsIn, rowLabelIn}
 use Rattle.relations.specs.Tables.{Cut, schemeBy}
@@ -34,13 +34,13 @@ module _ (d : Policy) (p : ℕ) (os : List Bool) (opened : Opened d p os) (ws : 
   open-there b l is x e i f =
       e ∙ opened .is l
       ∙ ap (λ n. labelOpen d p (some n)) (is i (omega (arith, b, cut .few)))
-      ∙ ap (labelOpen d p) (sym (listed-at (rowLabelIn ws r) (labelCountIn ws r) c (omega (arith, b, cut .is i f))))
+      ∙ ap (labelOpen d p) (sym (tabulated-at (rowLabelIn ws r) (labelCountIn ws r) c (omega (arith, b, cut .is i f))))
 
   -- one that it has not is closed
   pub open-missing : n ≤ c → r < 1024 → labelCountIn ws r ≤ 16 → false ≡ openIn d p ws r c
   unfolding openIn labelOpen holdsOf bind
   open-missing b i f =
-      ap (labelOpen d p) (sym (nothing-past (labelsIn ws r) c (omega (arith, b, cut .is i f, length-listed (rowLabelIn ws r) (labelCountIn ws r)))))
+      ap (labelOpen d p) (sym (nothing-past (labelsIn ws r) c (omega (arith, b, cut .is i f, length-tabulated (rowLabelIn ws r) (labelCountIn ws r)))))
 
 -- ---- one of the first columns is closed
 

@@ -21,7 +21,7 @@ use Rattle.condition.specs.declared.conditions.Read.the-variants as read
 use Rattle.workspace.specs.Cells.{kindOfCell}
 use Rattle.relations.specs.Rows.{rowIn}
 use Rattle.lists.proofs.Tests.{both}
-use Rattle.lists.specs.Lists.{known}
+use Rattle.lists.specs.Lists.{orZero}
 use Rattle.program.proofs.RunLaws.{all-steps, from-step, step-back, step-end, step-first, step-on}
 use Rattle.program.specs.Program.{Programmed}
 use Rattle.query.specs.declared.reading.Test.the-variants as tests
@@ -46,10 +46,10 @@ kind-names (suc n) h = refl
 -- v is the row's value
 module _ (text ws : List ℕ) (r : ℕ) (s : List ℕ) (x : TestRead) (o : Op) (eo : o ≡ operatorBy (x .operator)) (v : Value) (ev : v ≡ getD (rowIn text ws r .values) (x .column) []) (b : Bool) where
   -- of numbers, k and n being the ranks
-  pub holds-numbers : x .kind ≡ 0 → Sized s x → (k n : ℕ) → k ≡ known (rank v) → n ≡ x .rank → b ≡ ranksMeet o k n → b ≡ testHolds text ws r s x
+  pub holds-numbers : x .kind ≡ 0 → Sized s x → (k n : ℕ) → k ≡ orZero (rank v) → n ≡ x .rank → b ≡ ranksMeet o k n → b ≡ testHolds text ws r s x
   unfolding testHolds meets valuesMeet kindOfCell
   holds-numbers z sized k n ek en h =
-      h ∙ (λ i. ranksMeet (eo i) ((ek ∙ ap (λ (w : Value). known (rank w)) ev) i) ((en ∙ sized .ranked) i))
+      h ∙ (λ i. ranksMeet (eo i) ((ek ∙ ap (λ (w : Value). orZero (rank w)) ev) i) ((en ∙ sized .ranked) i))
       ∙ ap (λ (y : ℕ). valuesMeet (kindOfCell y) (operatorBy (x .operator)) (getD (rowIn text ws r .values) (x .column) []) (wordAt s (x .place))) (sym z)
 
   -- of names

@@ -4,15 +4,15 @@ use lib.ListN.{List·getD-eq-default, drop-of-length-le, getD, length}
 use mathlib.Core.List.{List, []}
 use mathlib.Core.Path.{_∙_, _≡_, ap, sym}
 use native.Mathlib.Omega.{arith}
-use Rattle.workspace.proofs.ListedLaws.{length-listed, listed-getD}
-use Rattle.workspace.specs.Listed.{listed}
+use Rattle.workspace.proofs.TabulatedLaws.{length-tabulated, tabulated-getD}
+use Rattle.workspace.specs.Tabulated.{tabulated}
 use Rattle.relations.specs.Rows.{rowIn, valueCountIn, valueIn, valuePlaceIn}
 use Rattle.text.specs.Words.{nameBytes, writtenAt}
 
 -- n is the number of values that the code reads
-pub value-in : (text ws : List ℕ) (r c n : ℕ) → n ≡ valueCountIn ws r → getD (listed (valueIn text ws r) n) c [] ≡ getD (rowIn text ws r .values) c []
+pub value-in : (text ws : List ℕ) (r c n : ℕ) → n ≡ valueCountIn ws r → getD (tabulated (valueIn text ws r) n) c [] ≡ getD (rowIn text ws r .values) c []
 unfolding rowIn
-value-in text ws r c n e = ap (λ m. getD (listed (valueIn text ws r) m) c []) e
+value-in text ws r c n e = ap (λ m. getD (tabulated (valueIn text ws r) m) c []) e
 
 -- at the end stands the empty value
 value-end : (s : List ℕ) → writtenAt s (length s) ≡ []
@@ -20,15 +20,15 @@ unfolding nameBytes writtenAt
 value-end s = let l : length s ≤ length s = omega arith in rw (drop-of-length-le s l)
 
 -- the value of a column stands in the text
-pub value-place : (text ws : List ℕ) (r width c p : ℕ) → c < width → p ≡ valuePlaceIn ws r c → writtenAt text p ≡ getD (listed (valueIn text ws r) width) c []
-value-place text ws r width c p l e = ap (writtenAt text) e ∙ sym (listed-getD (valueIn text ws r) width c [] l)
+pub value-place : (text ws : List ℕ) (r width c p : ℕ) → c < width → p ≡ valuePlaceIn ws r c → writtenAt text p ≡ getD (tabulated (valueIn text ws r) width) c []
+value-place text ws r width c p l e = ap (writtenAt text) e ∙ sym (tabulated-getD (valueIn text ws r) width c [] l)
 
 -- past the last column stands none
-pub no-value : (text ws : List ℕ) (r width c : ℕ) → width ≤ c → getD (listed (valueIn text ws r) width) c [] ≡ []
+pub no-value : (text ws : List ℕ) (r width c : ℕ) → width ≤ c → getD (tabulated (valueIn text ws r) width) c [] ≡ []
 no-value text ws r width c l =
-    let h : length (listed (valueIn text ws r) width) ≤ c = omega (arith, l, length-listed (valueIn text ws r) width) in
-    List·getD-eq-default (listed (valueIn text ws r) width) [] h
+    let h : length (tabulated (valueIn text ws r) width) ≤ c = omega (arith, l, length-tabulated (valueIn text ws r) width) in
+    List·getD-eq-default (tabulated (valueIn text ws r) width) [] h
 
 -- past the last column it is the empty one
-pub value-past : (text ws : List ℕ) (r width c : ℕ) → width ≤ c → writtenAt text (length text) ≡ getD (listed (valueIn text ws r) width) c []
+pub value-past : (text ws : List ℕ) (r width c : ℕ) → width ≤ c → writtenAt text (length text) ≡ getD (tabulated (valueIn text ws r) width) c []
 value-past text ws r width c l = value-end text ∙ sym (no-value text ws r width c l)

@@ -17,7 +17,7 @@ use Rattle.document.specs.Lookup.{schemeAt}
 use Rattle.document.specs.Open.{labelOpen}
 use Rattle.document.specs.Policy.{Doc, Policy, Row}
 use Rattle.relations.specs.Labels.{Opened}
-use Rattle.workspace.specs.Listed.{listed}
+use Rattle.workspace.specs.Tabulated.{tabulated}
 use Rattle.relations.specs.Rows.{Rows, labelsIn}
 use Rattle.relations.specs.Tables.{schemeBy}
 use Rattle.form.specs.declared.lines.Scheme as coded
@@ -70,6 +70,6 @@ pub record Judgeable (text ws : List ℕ) (count : ℕ) (os : List Bool) (s : Li
 -- the same as Judged, for the first k rows
 pub record JudgedTo (d : Doc) (q : Query) (row : ℕ → Row) (k : ℕ) (marks : List Bool) (x : Tally) : Type 0 where
   pub given : (r : ℕ) → r < k → getD marks r false ≡ (eqb (row r .table) (q .table) && isGiven d q (row r))
-  pub passed : x .passed ≡ countOf (isGiven d q) (rowsIn (q .table) (listed row k))
-  pub withheld : x .withheld ≡ countOf (isWithheldRow d q) (rowsIn (q .table) (listed row k))
-  pub unmatched : x .unmatched ≡ countOf (isUnmatchedRow d q) (rowsIn (q .table) (listed row k))
+  pub passed : x .passed ≡ countOf (isGiven d q) (rowsIn (q .table) (tabulated row k))
+  pub withheld : x .withheld ≡ countOf (isWithheldRow d q) (rowsIn (q .table) (tabulated row k))
+  pub unmatched : x .unmatched ≡ countOf (isUnmatchedRow d q) (rowsIn (q .table) (tabulated row k))

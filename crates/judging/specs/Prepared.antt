@@ -15,7 +15,7 @@ use Rattle.document.specs.Policy.{Doc, Row}
 use Rattle.relations.specs.Labels.{Opened}
 use Rattle.relations.specs.Rows.{Rows}
 use Rattle.relations.specs.Tables.{Tables}
-use Rattle.lists.specs.Lists.{allOf, countOf, known, there}
+use Rattle.lists.specs.Lists.{allOf, countOf, orZero, there}
 use Rattle.query.specs.QueryPlaces.{conditionAt}
 use Rattle.query.specs.Query.{Query, Wanted, columnComparison, countsOnly, named, select}
 use Rattle.judging.specs.declared.sought.Sought.{Sought}
@@ -43,7 +43,7 @@ pub record Prepared (text ts ws : List ℕ) (count : ℕ) (os : List Bool) (s : 
   pub named : take (g .chosen + g .tests) cs ≡ named q
   pub condition : q .condition ≡ Option·map (mapCond (columnComparison (columnsAt (d .policy) (g .table)))) (conditionAt s (g .test))
   pub compared : map (comparedAt s) (take (g .tests) ops) ≡ comparisonsIn (conditionAt s (g .test))
-  pub numbers : take (g .tests) (drop (g .chosen) cs) ≡ map (λ x. known (columnOf (columnsAt (d .policy) (g .table)) (x .of))) (comparisonsIn (conditionAt s (g .test)))
+  pub numbers : take (g .tests) (drop (g .chosen) cs) ≡ map (λ x. orZero (columnOf (columnsAt (d .policy) (g .table)) (x .of))) (comparisonsIn (conditionAt s (g .test)))
   pub allThere : allOf (λ x. there (columnOf (columnsAt (d .policy) (g .table)) (x .of))) (comparisonsIn (conditionAt s (g .test))) ≡ true
 
 -- each row is judged: the marks say which rows of the query's table are given, and the counts are those of its rows

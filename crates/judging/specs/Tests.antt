@@ -14,7 +14,7 @@ use Rattle.condition.specs.declared.conditions.Read.{Read}
 use Rattle.workspace.specs.Cells.{kindOfCell}
 use Rattle.relations.specs.Rows.{rowIn}
 use Rattle.relations.specs.Tables.{columnKindIn}
-use Rattle.lists.specs.Lists.{known}
+use Rattle.lists.specs.Lists.{orZero}
 use Rattle.program.specs.Program.{Programmed, comesTo}
 use Rattle.query.specs.declared.reading.Test.the-variants as tests
 use Rattle.query.specs.declared.reading.Test.{Test}
@@ -49,7 +49,7 @@ comparisonBy s x = record { of = x .column; kind = kindOfCell (x .kind); op = op
 -- its size and its rank are those of its value
 pub record Sized (s : List ℕ) (x : TestRead) : Type 0 where
   pub size : x .size ≡ length (wordAt s (x .place))
-  pub ranked : x .rank ≡ known (rank (wordAt s (x .place)))
+  pub ranked : x .rank ≡ orZero (rank (wordAt s (x .place)))
 
 -- x is read of the comparison of column c of table t whose operator stands at a place of s; it goes on with y or n
 pub record TestOf (ts : List ℕ) (t : ℕ) (s : List ℕ) (op c y n : ℕ) (x : TestRead) : Type 0 where

@@ -2,5 +2,5 @@
 use Rattle.lists.specs.Lists as Lists
 
 unfoldable pub computing : Unit {0}
-unfolding mathlib.Core.Option.bind mathlib.Core.List.flatten Lists.anyOf Lists.allOf Lists.keep Lists.countOf Lists.findIndexFrom Lists.findIndex Lists.find Lists.found Lists.there Lists.holdsOf Lists.listed Lists.member Lists.known
+unfolding mathlib.Core.Option.bind mathlib.Core.List.flatten Lists.anyOf Lists.allOf Lists.keep Lists.countOf Lists.findIndexFrom Lists.findIndex Lists.find Lists.found Lists.there Lists.holdsOf Lists.listed Lists.member Lists.orZero
 computing = tt

@@ -17,9 +17,9 @@ use Rattle.document.specs.ValueFaults.{givesAll, isAttributeOf}
 use Rattle.form.proofs.WalkSteps.{givens-more, givens-stop, pair-after}
 use Rattle.form.specs.Form.{GivenForm}
 use Rattle.form.specs.Walks.{firstIn, givenAt, givensAt, pairEndAt, secondIn}
-use Rattle.workspace.proofs.ListedLaws.{listed-at, listed-more}
+use Rattle.workspace.proofs.TabulatedLaws.{tabulated-at, tabulated-more}
 use Rattle.principals.specs.Attributes.{Attributes, attributeIn}
-use Rattle.workspace.specs.Listed.{listed}
+use Rattle.workspace.specs.Tabulated.{tabulated}
 use Rattle.lists.proofs.ListLaws.{count-less, count-more, count-nil, findIndex-found, holdsOf-some}
 use Rattle.lists.specs.Distinct.{NoTwoSame}
 use Rattle.lists.specs.Lists.{allOf, anyOf, countOf, holdsOf, keep, there}
@@ -275,21 +275,21 @@ count-behind {A} f (y ∷ ys) x = go (f y) refl (count-behind f ys x)
 module _ (d : Policy) (holder : ℕ) (text ws : List ℕ) where
   -- how many of the first i that stand in the array
   abbrev pub heldOf : ℕ → ℕ
-  heldOf i = countOf (hasAttribute d holder) (listed (attributeIn text ws) i)
+  heldOf i = countOf (hasAttribute d holder) (tabulated (attributeIn text ws) i)
 
   pub held-none : heldOf 0 ≡ 0
-  unfolding listed
+  unfolding tabulated
   held-none = count-nil (hasAttribute d holder)
 
   pub held-more : (i : ℕ) → hasAttribute d holder (attributeIn text ws i) ≡ true → heldOf (i + 1) ≡ heldOf i + 1
   held-more i h =
-      ap (countOf (hasAttribute d holder)) (listed-more (attributeIn text ws) i)
-      ∙ omega (arith, count-behind (hasAttribute d holder) (listed (attributeIn text ws) i) (attributeIn text ws i), count-more (hasAttribute d holder) (attributeIn text ws i) [] h, count-nil (hasAttribute d holder))
+      ap (countOf (hasAttribute d holder)) (tabulated-more (attributeIn text ws) i)
+      ∙ omega (arith, count-behind (hasAttribute d holder) (tabulated (attributeIn text ws) i) (attributeIn text ws i), count-more (hasAttribute d holder) (attributeIn text ws i) [] h, count-nil (hasAttribute d holder))
 
   pub held-same : (i : ℕ) → hasAttribute d holder (attributeIn text ws i) ≡ false → heldOf (i + 1) ≡ heldOf i
   held-same i h =
-      ap (countOf (hasAttribute d holder)) (listed-more (attributeIn text ws) i)
-      ∙ omega (arith, count-behind (hasAttribute d holder) (listed (attributeIn text ws) i) (attributeIn text ws i), count-less (hasAttribute d holder) (attributeIn text ws i) [] h, count-nil (hasAttribute d holder))
+      ap (countOf (hasAttribute d holder)) (tabulated-more (attributeIn text ws) i)
+      ∙ omega (arith, count-behind (hasAttribute d holder) (tabulated (attributeIn text ws) i) (attributeIn text ws i), count-less (hasAttribute d holder) (attributeIn text ws i) [] h, count-nil (hasAttribute d holder))
 
   -- the clock's are no role's
   clock-none : (xs : List Attribute) → countOf (hasAttribute d holder) (clockAttributes ++ xs) ≡ countOf (hasAttribute d holder) xs
@@ -298,15 +298,15 @@ module _ (d : Policy) (holder : ℕ) (text ws : List ℕ) where
 
   module _ (k : ℕ) (h : Attributes text ws k (d .attributes)) where
     pub held-all : countOf (hasAttribute d holder) (d .attributes) ≡ heldOf k
-    held-all = ap (countOf (hasAttribute d holder)) (sym (h .are)) ∙ clock-none (listed (attributeIn text ws) k)
+    held-all = ap (countOf (hasAttribute d holder)) (sym (h .are)) ∙ clock-none (tabulated (attributeIn text ws) k)
 
     -- the others have their numbers behind the clock's
     pub held-at : (i : ℕ) → i < k → getElem? (d .attributes) (3 + i) ≡ some (attributeIn text ws i)
     unfolding clockAttributes
     held-at i l =
         ap (λ xs. getElem? xs (3 + i)) (sym (h .are))
-        ∙ ap (getElem? (clockAttributes ++ listed (attributeIn text ws) k)) three-on
-        ∙ listed-at (attributeIn text ws) k i l
+        ∙ ap (getElem? (clockAttributes ++ tabulated (attributeIn text ws) k)) three-on
+        ∙ tabulated-at (attributeIn text ws) k i l
       where
         three-on : 3 + i ≡ suc (suc (suc i))
         three-on = omega arith

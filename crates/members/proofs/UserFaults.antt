@@ -18,17 +18,17 @@ use Rattle.document.specs.ValueFaults.{givesAll, misfit}
 use Rattle.members.proofs.GivenLaws.{mistypedGiven}
 use Rattle.stepping.proofs.Judging.{judge-bound, judge-fine, judge-taken, judge-type, judge-unknown, judge-values}
 use Rattle.form.specs.Form.{GivenForm, user}
-use Rattle.workspace.proofs.ListedLaws.{length-listed}
+use Rattle.workspace.proofs.TabulatedLaws.{length-tabulated}
 use Rattle.principals.proofs.UserLaws.{userOf-known, userOf-unknown}
 use Rattle.principals.specs.Users.{Users, userIn}
-use Rattle.lists.specs.Lists.{findIndex, known, there}
+use Rattle.lists.specs.Lists.{findIndex, orZero, there}
 use Rattle.text.specs.Offending.{leftmost, missing, offendingIf, unless}
 use Rattle.text.specs.Refusal.{accepted, document, pointing, pointingAll, refused}
 use Rattle.text.specs.Words.{Word, isCalled}
 
 -- as many users as the workspace says
 pub users-length : {p : Policy} {text ws : List ℕ} {k : ℕ} {us : List User} → Users p text ws k us → length us ≡ k
-users-length {p} {text} {ws} {k} {us} h = ap length (sym (h .are)) ∙ length-listed (userIn p text ws) k
+users-length {p} {text} {ws} {k} {us} h = ap length (sym (h .are)) ∙ length-tabulated (userIn p text ws) k
 
 module _ (d : Doc) (line : List ℕ) (u r : Word) (gs : List GivenForm) where
   -- as many users as there may be
@@ -80,8 +80,8 @@ module _ (d : Doc) (line : List ℕ) (u r : Word) (gs : List GivenForm) where
           all-known = unknown-given none named
 
           fits : misfit (d .policy) (user u r gs) ≡ not (givesAll (d .policy) n (map (λ (g : GivenForm). g .attribute) gs))
-          unfolding misfit known
-          fits = ap (λ o. not (givesAll (d .policy) (known o) (map (λ (g : GivenForm). g .attribute) gs))) e
+          unfolding misfit orZero
+          fits = ap (λ o. not (givesAll (d .policy) (orZero o) (map (λ (g : GivenForm). g .attribute) gs))) e
 
           no-root : secondRoot (d .policy) (user u r gs) ≡ false
           unfolding secondRoot

@@ -9,11 +9,11 @@ use native.Mathlib.Omega.{arith}
 use Rattle.condition.specs.Kinds.{numbers}
 use Rattle.document.specs.Policy.{Attribute, clockAttributes}
 use Rattle.workspace.proofs.Finding.{found-first}
-use Rattle.workspace.proofs.ListedLaws.{findIndexFrom-shift, listed-pushed, listed-there}
+use Rattle.workspace.proofs.TabulatedLaws.{findIndexFrom-shift, tabulated-pushed, tabulated-there}
 use Rattle.workspace.proofs.Stores.{Store, stores, stores-other, stores-same}
 use Rattle.principals.specs.Attributes.{Attributes, attributeIn}
 use Rattle.workspace.specs.Cells.{kindOfCell}
-use Rattle.workspace.specs.Listed.{listed}
+use Rattle.workspace.specs.Tabulated.{tabulated}
 use Rattle.lists.specs.Lists.{findIndex, findIndexFrom}
 use Rattle.text.specs.Bytes.{ascii}
 use Rattle.text.specs.Words.{Word, isCalled, wordAt}
@@ -48,8 +48,8 @@ module _ (text ws : List ℕ) (k pos role cell : ℕ) (small : k < 32) (long : 6
   attributes-pushed xs n = record {
     few = omega (arith, small);
     are =
-        ap (λ l. clockAttributes ++ l) (listed-pushed (attributeIn text ws) (attributeIn text (stores ws ss)) k (listed (attributeIn text ws) k) _ refl attribute-kept attribute-new)
-        ∙ sym (append-assoc clockAttributes (listed (attributeIn text ws) k) _)
+        ap (λ l. clockAttributes ++ l) (tabulated-pushed (attributeIn text ws) (attributeIn text (stores ws ss)) k (tabulated (attributeIn text ws) k) _ refl attribute-kept attribute-new)
+        ∙ sym (append-assoc clockAttributes (tabulated (attributeIn text ws) k) _)
         ∙ ap (λ l. l ++ (record { name = wordAt text pos; role = some role; kind = kindOfCell cell } ∷ [])) (n .are);
   }
 
@@ -72,12 +72,12 @@ behind-clock l (suc (suc (suc n))) h = ap (getElem? l) (omega arith)
 module _ {text ws : List ℕ} {k : ℕ} {xs : List Attribute} (h : Attributes text ws k xs) (n : ℕ) (a : Attribute) (e : getElem? xs n ≡ some a) where
   -- the clock's
   pub attribute-clock : n < 3 → (a .role ≡ none) × (a .kind ≡ numbers)
-  attribute-clock l = clock-at (listed (attributeIn text ws) k) n a l (ap (λ l. getElem? l n) (h .are) ∙ e)
+  attribute-clock l = clock-at (tabulated (attributeIn text ws) k) n a l (ap (λ l. getElem? l n) (h .are) ∙ e)
 
   -- the others
   pub attribute-there : 3 ≤ n → (n - 3 < k) × (a ≡ attributeIn text ws (n - 3))
   attribute-there l =
-      listed-there (attributeIn text ws) k (n - 3) a (sym (behind-clock (listed (attributeIn text ws) k) n l) ∙ ap (λ l. getElem? l n) (h .are) ∙ e)
+      tabulated-there (attributeIn text ws) k (n - 3) a (sym (behind-clock (tabulated (attributeIn text ws) k) n l) ∙ ap (λ l. getElem? l n) (h .are) ∙ e)
 
 -- ---- looking up
 
@@ -95,14 +95,14 @@ module _ (w : Word) {text ws : List ℕ} {k : ℕ} {xs : List Attribute} (h : At
   found-hour e₁ e₂ e₃ = rw (← h .are, e₁, e₂, e₃)
 
   pub found-behind-clock : isCalled w (ascii "year") ≡ false → isCalled w (ascii "day") ≡ false → isCalled w (ascii "hour") ≡ false
-      → findIndex (λ (x : Attribute). isCalled w (x .name)) xs ≡ Option·map (λ i. 3 + i) (findIndex (λ (x : Attribute). isCalled w (x .name)) (listed (attributeIn text ws) k))
+      → findIndex (λ (x : Attribute). isCalled w (x .name)) xs ≡ Option·map (λ i. 3 + i) (findIndex (λ (x : Attribute). isCalled w (x .name)) (tabulated (attributeIn text ws) k))
   unfolding findIndex findIndexFrom clockAttributes
-  found-behind-clock e₁ e₂ e₃ = rw (← h .are, e₁, e₂, e₃) (findIndexFrom-shift (λ (x : Attribute). isCalled w (x .name)) 3 0 (listed (attributeIn text ws) k))
+  found-behind-clock e₁ e₂ e₃ = rw (← h .are, e₁, e₂, e₃) (findIndexFrom-shift (λ (x : Attribute). isCalled w (x .name)) 3 0 (tabulated (attributeIn text ws) k))
 
   -- what is found in the array has its number behind the clock's
   pub found-later : isCalled w (ascii "year") ≡ false → isCalled w (ascii "day") ≡ false → isCalled w (ascii "hour") ≡ false
-      → (r : Option ℕ) → r ≡ findIndex (λ p. isCalled w (wordAt text p)) (listed (λ i. getD ws (0 + i) 0) k)
+      → (r : Option ℕ) → r ≡ findIndex (λ p. isCalled w (wordAt text p)) (tabulated (λ i. getD ws (0 + i) 0) k)
       → Option·map (λ i. 3 + i) r ≡ findIndex (λ (x : Attribute). isCalled w (x .name)) xs
   found-later e₁ e₂ e₃ r e =
-      ap (Option·map (λ i. 3 + i)) (e ∙ found-first (isCalled w) (λ (x : Attribute). x .name) text ws (attributeIn text ws) k (listed (attributeIn text ws) k) (λ i. unfold attributeIn in refl) refl)
+      ap (Option·map (λ i. 3 + i)) (e ∙ found-first (isCalled w) (λ (x : Attribute). x .name) text ws (attributeIn text ws) k (tabulated (attributeIn text ws) k) (λ i. unfold attributeIn in refl) refl)
       ∙ sym (found-behind-clock e₁ e₂ e₃)

@@ -11,12 +11,12 @@ use Rattle.document.specs.Meaning.{attributeComparison}
 use Rattle.document.specs.Policy.{CondRole, Policy}
 use Rattle.lists.specs.Lists.{findIndex}
 use Rattle.workspace.proofs.Finding.{found-first}
-use Rattle.workspace.proofs.ListedLaws.{listed-pushed}
+use Rattle.workspace.proofs.TabulatedLaws.{tabulated-pushed}
 use Rattle.workspace.proofs.Stores.{Store, stores, stores-other, stores-same}
 use Rattle.workspace.specs.Hash.{Printed, printOf}
-use Rattle.principals.specs.CondRoles.{CondRoles, attributesKnown, condRoleIn, conditionAt, conditionIn, conditionReads, readsIn}
+use Rattle.principals.specs.CondRoles.{CondRoles, attributesKnown, condRoleIn, conditionIn, conditionInLine, conditionReads, readsIn}
 use Rattle.text.specs.Words.{Word, isCalled, wordAt}
-use Rattle.workspace.specs.Listed.{listed}
+use Rattle.workspace.specs.Tabulated.{tabulated}
 
 -- one more: its name, its role, the start and the end of its line, the place of its condition there, and its name's print
 abbrev pub condStores : ℕ → ℕ → ℕ → ℕ → ℕ → ℕ → ℕ → List Store
@@ -35,14 +35,14 @@ module _ (text ws : List ℕ) (k pos role start end place h : ℕ) (small : k < 
 
   condition-kept : (i : ℕ) → i < k → conditionIn text (stores ws ss) i ≡ conditionIn text ws i
   unfolding conditionIn ss
-  condition-kept i l = λ j. conditionAt text
+  condition-kept i l = λ j. conditionInLine text
       (stores-other ws (condStores k pos role start end place h) (128 + i) (omega arith) j)
       (stores-other ws (condStores k pos role start end place h) (192 + i) (omega arith) j)
       (stores-other ws (condStores k pos role start end place h) (256 + i) (omega arith) j)
 
-  condition-new : conditionIn text (stores ws ss) k ≡ conditionAt text start end place
+  condition-new : conditionIn text (stores ws ss) k ≡ conditionInLine text start end place
   unfolding conditionIn ss
-  condition-new = λ j. conditionAt text
+  condition-new = λ j. conditionInLine text
       (stores-same ws (condStores k pos role start end place h) 2 (omega arith) (omega arith) (omega arith) j)
       (stores-same ws (condStores k pos role start end place h) 3 (omega arith) (omega arith) (omega arith) j)
       (stores-same ws (condStores k pos role start end place h) 4 (omega arith) (omega arith) (omega arith) j)
@@ -81,7 +81,7 @@ module _ (text ws : List ℕ) (k pos role start end place h : ℕ) (small : k < 
       condition = mapCond (attributeComparison d) (condition-kept i l j);
     }
 
-    cond-new : condRoleIn d text (stores ws ss) k ≡ record { name = wordAt text pos; role = role; condition = mapCond (attributeComparison d) (conditionAt text start end place) }
+    cond-new : condRoleIn d text (stores ws ss) k ≡ record { name = wordAt text pos; role = role; condition = mapCond (attributeComparison d) (conditionInLine text start end place) }
     unfolding condRoleIn ss
     cond-new = λ j. record {
       name = wordAt text (stores-same ws (condStores k pos role start end place h) 0 (omega arith) (omega arith) (omega arith) j);
@@ -89,12 +89,12 @@ module _ (text ws : List ℕ) (k pos role start end place h : ℕ) (small : k < 
       condition = mapCond (attributeComparison d) (condition-new j);
     }
 
-    pub conds-pushed : (cs : List CondRole) → CondRoles d text ws k cs → h ≡ printOf (wordAt text pos) → attributesKnown d (conditionAt text start end place) ≡ true → conditionReads text start end place ≡ true
-        → CondRoles d text (stores ws (condStores k pos role start end place h)) (k + 1) (cs ++ (record { name = wordAt text pos; role = role; condition = mapCond (attributeComparison d) (conditionAt text start end place) } ∷ []))
+    pub conds-pushed : (cs : List CondRole) → CondRoles d text ws k cs → h ≡ printOf (wordAt text pos) → attributesKnown d (conditionInLine text start end place) ≡ true → conditionReads text start end place ≡ true
+        → CondRoles d text (stores ws (condStores k pos role start end place h)) (k + 1) (cs ++ (record { name = wordAt text pos; role = role; condition = mapCond (attributeComparison d) (conditionInLine text start end place) } ∷ []))
     unfolding ss
     conds-pushed cs n p known r = record {
       few = omega (arith, small);
-      are = listed-pushed (condRoleIn d text ws) (condRoleIn d text (stores ws ss)) k cs _ (n .are) cond-kept cond-new;
+      are = tabulated-pushed (condRoleIn d text ws) (condRoleIn d text (stores ws ss)) k cs _ (n .are) cond-kept cond-new;
       known = below-more (λ i. attributesKnown d (conditionIn text (stores ws ss) i) ≡ true) k
           (λ i l. ap (attributesKnown d) (condition-kept i l) ∙ n .known i l)
           (ap (attributesKnown d) condition-new ∙ known);
@@ -104,6 +104,6 @@ module _ (text ws : List ℕ) (k pos role start end place h : ℕ) (small : k < 
 
 -- a conditional role
 pub cond-found : {d : Policy} {text ws : List ℕ} {k : ℕ} {cs : List CondRole} (w : Word) → CondRoles d text ws k cs
-    → findIndex (λ p. isCalled w (wordAt text p)) (listed (λ i. getD ws (0 + i) 0) k) ≡ findIndex (λ x. isCalled w (x .name)) cs
+    → findIndex (λ p. isCalled w (wordAt text p)) (tabulated (λ i. getD ws (0 + i) 0) k) ≡ findIndex (λ x. isCalled w (x .name)) cs
 unfolding condRoleIn
 cond-found {d} {text} {ws} {k} {cs} w n = found-first (isCalled w) (λ x. x .name) text ws (condRoleIn d text ws) k cs (λ i. refl) (n .are)

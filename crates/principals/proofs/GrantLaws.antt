@@ -6,14 +6,14 @@ use mathlib.Core.Option.{some}
 use mathlib.Core.Path.{_∙_, _≡_, ap, refl, subst, sym}
 use native.Mathlib.Omega.{arith}
 use Rattle.document.specs.Policy.{Grant}
-use Rattle.workspace.proofs.ListedLaws.{listed-pushed, listed-there}
+use Rattle.workspace.proofs.TabulatedLaws.{tabulated-pushed, tabulated-there}
 use Rattle.workspace.proofs.Stores.{Store, stores, stores-other, stores-same}
 use Rattle.principals.specs.Grants.{Grants, grantIn}
-use Rattle.workspace.specs.Listed.{listed}
+use Rattle.workspace.specs.Tabulated.{tabulated}
 
 -- no grant yet
 pub grants-start : (ws : List ℕ) → Grants ws 0 []
-unfolding listed
+unfolding tabulated
 grants-start ws = record { few = omega arith; are = refl }
 
 -- one more: its purpose, and its conditional role
@@ -40,12 +40,12 @@ module _ (ws : List ℕ) (k p c : ℕ) (full : length ws ≡ 256) (small : k < 1
       → Grants w₂ (k + 1) (gs ++ (record { purpose = p; condRole = c } ∷ []))
   grants-pushed w₁ w₂ gs s₁ s₂ h =
       subst (λ (w : List ℕ). Grants w (k + 1) (gs ++ (record { purpose = p; condRole = c } ∷ []))) (sym (s₂ ∙ ap (λ w. set w (128 + k) c) s₁))
-      (record { few = omega arith; are = listed-pushed (grantIn ws) (grantIn (stores ws (grantStores k p c))) k gs _ (h .are) grant-kept grant-new })
+      (record { few = omega arith; are = tabulated-pushed (grantIn ws) (grantIn (stores ws (grantStores k p c))) k gs _ (h .are) grant-kept grant-new })
 
 -- a grant that is there
 module _ (ws : List ℕ) (i k : ℕ) (gs : List Grant) (g : Grant) (h : Grants ws k gs) (e : getElem? gs i ≡ some g) where
   grant-there : (i < k) × (g ≡ grantIn ws i)
-  grant-there = listed-there (grantIn ws) k i g (ap (λ l. getElem? l i) (h .are) ∙ e)
+  grant-there = tabulated-there (grantIn ws) k i g (ap (λ l. getElem? l i) (h .are) ∙ e)
 
   pub grant-below : i < 128
   grant-below = omega (arith, h .few, grant-there .0)

@@ -16,16 +16,16 @@ use Rattle.document.specs.Meaning.{attributeComparison, givenOf}
 use Rattle.document.specs.Policy.{Attribute, CondRole, Node, Policy, User, clockAttributes}
 use Rattle.form.specs.Form.{GivenForm}
 use Rattle.form.specs.Walks.{givensAt}
-use Rattle.workspace.proofs.ListedLaws.{length-listed, listed-same}
+use Rattle.workspace.proofs.TabulatedLaws.{length-tabulated, tabulated-same}
 use Rattle.principals.specs.Attributes.{Attributes, attributeIn}
 use Rattle.workspace.specs.Cells.{lineIn}
 use Rattle.principals.specs.CondRoles.{CondRoles, attributesKnown, condRoleIn, conditionIn}
 use Rattle.principals.specs.Nodes.{Nodes, nodeIn}
 use Rattle.principals.specs.Users.{Users, userIn}
-use Rattle.workspace.specs.Listed.{listed}
+use Rattle.workspace.specs.Tabulated.{tabulated}
 use Rattle.lists.proofs.ListLaws.{all-everywhere, all-here, all-parts, findIndex-found, findIndexFrom-append, getElem?-inside-append, there-some}
 use Rattle.lists.proofs.Tests.{and-left}
-use Rattle.lists.specs.Lists.{allOf, findIndex, known, there}
+use Rattle.lists.specs.Lists.{allOf, findIndex, orZero, there}
 use Rattle.text.specs.Words.{Word, isCalled, wordAt}
 
 -- ---- conditions with their comparisons replaced: what agrees on the comparisons gives the same
@@ -53,7 +53,7 @@ module _ (d e : Policy) (new : List Attribute) (grown : e .attributes ≡ d .att
   unfolding attributeOf findIndex
   attribute-same w h =
       ap (findIndex (λ (x : Attribute). isCalled w (x .name))) grown
-      ∙ findIndexFrom-append 0 (λ (x : Attribute). isCalled w (x .name)) (d .attributes) new (known (attributeOf d w)) (there-some (attributeOf d w) h)
+      ∙ findIndexFrom-append 0 (λ (x : Attribute). isCalled w (x .name)) (d .attributes) new (orZero (attributeOf d w)) (there-some (attributeOf d w) h)
       ∙ sym (there-some (attributeOf d w) h)
 
   -- and its type
@@ -62,17 +62,17 @@ module _ (d e : Policy) (new : List Attribute) (grown : e .attributes ≡ d .att
   attributeKind-same w h =
       ap (λ o. Option·getD (Option·map (λ (a : Attribute). a .kind) o) numbers)
       (ap (λ o. bind o (getElem? (e .attributes))) (attribute-same w h ∙ there-some (attributeOf d w) h)
-      ∙ ap (λ l. getElem? l (known (attributeOf d w))) grown
-      ∙ getElem?-inside-append (d .attributes) new (known (attributeOf d w)) inside
+      ∙ ap (λ l. getElem? l (orZero (attributeOf d w))) grown
+      ∙ getElem?-inside-append (d .attributes) new (orZero (attributeOf d w)) inside
       ∙ sym (ap (λ o. bind o (getElem? (d .attributes))) (there-some (attributeOf d w) h)))
     where
-      inside : known (attributeOf d w) < length (d .attributes)
-      inside = unfold attributeOf in findIndex-found (λ (x : Attribute). isCalled w (x .name)) (d .attributes) (known (attributeOf d w)) (there-some (attributeOf d w) h) .1
+      inside : orZero (attributeOf d w) < length (d .attributes)
+      inside = unfold attributeOf in findIndex-found (λ (x : Attribute). isCalled w (x .name)) (d .attributes) (orZero (attributeOf d w)) (there-some (attributeOf d w) h) .1
 
   comparison-same : (x : Compared) → there (attributeOf d (x .of)) ≡ true → attributeComparison e x ≡ attributeComparison d x
   unfolding attributeComparison
   comparison-same x h = λ j. record {
-    of = known (attribute-same (x .of) h j);
+    of = orZero (attribute-same (x .of) h j);
     kind = attributeKind-same (x .of) h j;
     op = x .op;
     value = x .value .bytes;
@@ -96,7 +96,7 @@ module _ (d e : Policy) (new : List Attribute) (grown : e .attributes ≡ d .att
   pub conds-grown : {text ws : List ℕ} {k : ℕ} {cs : List CondRole} → CondRoles d text ws k cs → CondRoles e text ws k cs
   conds-grown {text} {ws} {k} n = record {
     few = n .few;
-    are = listed-same (condRoleIn e text ws) (condRoleIn d text ws) k (λ i l. cond-same text ws i (n .known i l)) ∙ n .are;
+    are = tabulated-same (condRoleIn e text ws) (condRoleIn d text ws) k (λ i l. cond-same text ws i (n .known i l)) ∙ n .are;
     known = λ i l. known-grown (conditionIn text ws i) (n .known i l);
     reads = n .reads;
     printed = n .printed;
@@ -111,7 +111,7 @@ module _ (d e : Policy) (same : e .attributes ≡ d .attributes) where
   given-same : (g : GivenForm) → givenOf e g ≡ givenOf d g
   unfolding givenOf attributeOf
   given-same g = λ j. record {
-    attribute = known (findIndex (λ (x : Attribute). isCalled (g .attribute) (x .name)) (same j));
+    attribute = orZero (findIndex (λ (x : Attribute). isCalled (g .attribute) (x .name)) (same j));
     value = g .value .bytes;
   }
 
@@ -126,44 +126,44 @@ module _ (d e : Policy) (same : e .attributes ≡ d .attributes) where
   pub users-same : {text ws : List ℕ} {k : ℕ} {us : List User} → Users d text ws k us → Users e text ws k us
   users-same {text} {ws} {k} n = record {
     few = n .few;
-    are = listed-same (userIn e text ws) (userIn d text ws) k (λ i l. user-same text ws i) ∙ n .are;
+    are = tabulated-same (userIn e text ws) (userIn d text ws) k (λ i l. user-same text ws i) ∙ n .are;
     printed = n .printed;
   }
 
 -- where there is no user, any policy will do
 pub users-none : (d e : Policy) {text ws : List ℕ} {us : List User} → Users d text ws 0 us → Users e text ws 0 us
-unfolding listed
+unfolding tabulated
 users-none d e n = record { few = n .few; are = n .are; printed = n .printed }
 
 -- ---- before any line
 
 pub nodes-start : (room : ℕ) (text ws : List ℕ) → Nodes room text ws 0 []
-unfolding listed
+unfolding tabulated
 nodes-start room text ws = record { few = omega arith; are = refl; hashed = below-none _; first = below-none _ }
 
 pub attributes-start : (text ws : List ℕ) → Attributes text ws 0 clockAttributes
-unfolding listed
+unfolding tabulated
 attributes-start text ws = record { few = omega arith; are = append-nil clockAttributes }
 
 pub users-start : (d : Policy) (text ws : List ℕ) → Users d text ws 0 []
-unfolding listed
+unfolding tabulated
 users-start d text ws = record { few = omega arith; are = refl; printed = below-none _ }
 
 pub conds-start : (d : Policy) (text ws : List ℕ) → CondRoles d text ws 0 []
-unfolding listed
+unfolding tabulated
 conds-start d text ws = record { few = omega arith; are = refl; known = below-none _; reads = below-none _; printed = below-none _ }
 
 -- ---- how many there are
 
 pub nodes-length : {room : ℕ} {text ws : List ℕ} {k : ℕ} {ns : List Node} → Nodes room text ws k ns → length ns ≡ k
-nodes-length {room} {text} {ws} {k} n = ap length (sym (n .are)) ∙ length-listed (nodeIn room text ws) k
+nodes-length {room} {text} {ws} {k} n = ap length (sym (n .are)) ∙ length-tabulated (nodeIn room text ws) k
 
 pub attributes-length : {text ws : List ℕ} {k : ℕ} {xs : List Attribute} → Attributes text ws k xs → length xs ≡ 3 + k
 attributes-length {text} {ws} {k} n =
-    ap length (sym (n .are)) ∙ length-append clockAttributes (listed (attributeIn text ws) k) ∙ (unfold clockAttributes in ap (λ m. 3 + m) (length-listed (attributeIn text ws) k))
+    ap length (sym (n .are)) ∙ length-append clockAttributes (tabulated (attributeIn text ws) k) ∙ (unfold clockAttributes in ap (λ m. 3 + m) (length-tabulated (attributeIn text ws) k))
 
 pub users-length : {d : Policy} {text ws : List ℕ} {k : ℕ} {us : List User} → Users d text ws k us → length us ≡ k
-users-length {d} {text} {ws} {k} n = ap length (sym (n .are)) ∙ length-listed (userIn d text ws) k
+users-length {d} {text} {ws} {k} n = ap length (sym (n .are)) ∙ length-tabulated (userIn d text ws) k
 
 pub conds-length : {d : Policy} {text ws : List ℕ} {k : ℕ} {cs : List CondRole} → CondRoles d text ws k cs → length cs ≡ k
-conds-length {d} {text} {ws} {k} n = ap length (sym (n .are)) ∙ length-listed (condRoleIn d text ws) k
+conds-length {d} {text} {ws} {k} n = ap length (sym (n .are)) ∙ length-tabulated (condRoleIn d text ws) k

@@ -15,12 +15,12 @@ use Rattle.document.specs.Policy.{Policy, User}
 use Rattle.form.specs.Walks.{givensAt}
 use Rattle.workspace.proofs.Finding.{found-first}
 use Rattle.workspace.proofs.HashLaws.{other-print}
-use Rattle.workspace.proofs.ListedLaws.{listed-found, listed-none, listed-pushed}
+use Rattle.workspace.proofs.TabulatedLaws.{tabulated-found, tabulated-none, tabulated-pushed}
 use Rattle.workspace.proofs.Stores.{Store, stores, stores-other, stores-same}
 use Rattle.workspace.specs.Cells.{lineIn}
 use Rattle.workspace.specs.Hash.{Printed, printOf}
 use Rattle.principals.specs.Users.{Users, userIn, userPasses}
-use Rattle.workspace.specs.Listed.{listed}
+use Rattle.workspace.specs.Tabulated.{tabulated}
 use Rattle.lists.specs.Lists.{anyOf, findIndex, findIndexFrom, holdsOf, there}
 use Rattle.text.specs.Reader.{whole}
 use Rattle.text.specs.Words.{Word, isCalled, wordAt}
@@ -84,7 +84,7 @@ module _ (d : Policy) (text ws : List ℕ) (k n r a e v p : ℕ) (full : length 
       subst (λ (w : List ℕ). Users d text w (k + 1) (us ++ (record { name = wordAt text n; role = r; values = map (givenOf d) (givensAt (lineIn text a e) v) } ∷ []))) (sym whole)
       (record {
         few = omega arith;
-        are = listed-pushed (userIn d text ws) (userIn d text (stores ws (userStores k n r a e v p))) k us _ (h .are) user-kept user-new;
+        are = tabulated-pushed (userIn d text ws) (userIn d text (stores ws (userStores k n r a e v p))) k us _ (h .are) user-kept user-new;
         printed = below-more (Printed 1280 text (stores ws (userStores k n r a e v p))) k (λ i l. print-kept i l (h .printed i l)) (print-new is);
       })
     where
@@ -114,13 +114,13 @@ module _ (w : Word) (text ws : List ℕ) (held k : ℕ) (d : Policy) (us : List 
       → some i ≡ findIndex (λ x. isCalled w (x .name) && eqb (x .role) held) us
   unfolding userIn
   user-found i l before here =
-      sym (ap (findIndex (λ x. isCalled w (x .name) && eqb (x .role) held)) (sym (h .are)) ∙ listed-found (λ x. isCalled w (x .name) && eqb (x .role) held) (userIn d text ws) k i l before here)
+      sym (ap (findIndex (λ x. isCalled w (x .name) && eqb (x .role) held)) (sym (h .are)) ∙ tabulated-found (λ x. isCalled w (x .name) && eqb (x .role) held) (userIn d text ws) k i l before here)
 
   -- where none passes, none is found
   pub user-missed : ((j : ℕ) → j < k → userPasses w text ws held j ≡ false) → none ≡ findIndex (λ x. isCalled w (x .name) && eqb (x .role) held) us
   unfolding userIn
   user-missed before =
-      sym (ap (findIndex (λ x. isCalled w (x .name) && eqb (x .role) held)) (sym (h .are)) ∙ listed-none (λ x. isCalled w (x .name) && eqb (x .role) held) (userIn d text ws) k before)
+      sym (ap (findIndex (λ x. isCalled w (x .name) && eqb (x .role) held)) (sym (h .are)) ∙ tabulated-none (λ x. isCalled w (x .name) && eqb (x .role) held) (userIn d text ws) k before)
 
 -- where the role is known, this is the user form of the name and the role's name
 pub userOf-known : (d : Policy) (w r : Word) (held : ℕ) → roleOf d r ≡ some held → userOf d w r ≡ findIndex (λ x. isCalled w (x .name) && eqb (x .role) held) (d .users)
@@ -156,7 +156,7 @@ any-found t xs = any-from t 0 xs
 
 -- what is found among the positions of the names says whether a user has the name
 pub user-called : {d : Policy} {text ws : List ℕ} {k : ℕ} {us : List User} (w : Word) (o : Option ℕ) → Users d text ws k us
-    → o ≡ findIndex (λ p. isCalled w (wordAt text p)) (listed (λ i. getD ws (0 + i) 0) k) → there o ≡ anyOf (λ x. isCalled w (x .name)) us
+    → o ≡ findIndex (λ p. isCalled w (wordAt text p)) (tabulated (λ i. getD ws (0 + i) 0) k) → there o ≡ anyOf (λ x. isCalled w (x .name)) us
 unfolding userIn
 user-called {d} {text} {ws} {k} {us} w o h e =
     ap there (e ∙ found-first (isCalled w) (λ x. x .name) text ws (userIn d text ws) k us (λ i. refl) (h .are)) ∙ any-found (λ x. isCalled w (x .name)) us

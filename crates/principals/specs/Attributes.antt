@@ -5,7 +5,7 @@ use mathlib.Core.List.{List, _++_}
 use mathlib.Core.Option.{some}
 use mathlib.Core.Path.{_≡_}
 use Rattle.document.specs.Policy.{Attribute, clockAttributes}
-use Rattle.workspace.specs.Listed.{listed}
+use Rattle.workspace.specs.Tabulated.{tabulated}
 use Rattle.text.specs.Words.{wordAt}
 use Rattle.workspace.specs.Cells.{kindOfCell}
 
@@ -14,4 +14,4 @@ attributeIn text ws i = record { name = wordAt text (getD ws i 0); role = some (
 
 pub record Attributes (text ws : List ℕ) (k : ℕ) (as′ : List Attribute) : Type 0 where
   pub few : k ≤ 32
-  pub are : clockAttributes ++ listed (attributeIn text ws) k ≡ as′
+  pub are : clockAttributes ++ tabulated (attributeIn text ws) k ≡ as′

@@ -13,7 +13,7 @@ use Rattle.document.specs.Lookup.{attributeOf}
 use Rattle.document.specs.Meaning.{attributeComparison}
 use Rattle.document.specs.Policy.{CondRole, Policy}
 use Rattle.workspace.specs.Hash.{Printed}
-use Rattle.workspace.specs.Listed.{listed}
+use Rattle.workspace.specs.Tabulated.{tabulated}
 use Rattle.lists.specs.Lists.{allOf, there}
 use Rattle.text.specs.Reader.{Left, from}
 use Rattle.text.specs.Words.{plainWord, wordAt}
@@ -29,8 +29,8 @@ conditionRead none = noCondition
 conditionRead (some r) = r .0
 
 -- the condition that stands at a place of the line from a to e of the text, as read
-unfoldable pub conditionAt : List ℕ → ℕ → ℕ → ℕ → Cond Compared
-conditionAt text a e place = conditionRead (conditionInForm (from (lineIn text a e) place))
+unfoldable pub conditionInLine : List ℕ → ℕ → ℕ → ℕ → Cond Compared
+conditionInLine text a e place = conditionRead (conditionInForm (from (lineIn text a e) place))
 
 -- the role of conditional role i
 abbrev pub condRoleRoleIn : List ℕ → ℕ → ℕ
@@ -54,7 +54,7 @@ conditionReads text a e place = there (conditionInForm (from (lineIn text a e) p
 
 -- that of the conditional role of number i
 unfoldable pub conditionIn : List ℕ → List ℕ → ℕ → Cond Compared
-conditionIn text ws i = conditionAt text (condRoleStartIn ws i) (condRoleEndIn ws i) (condRolePlaceIn ws i)
+conditionIn text ws i = conditionInLine text (condRoleStartIn ws i) (condRoleEndIn ws i) (condRolePlaceIn ws i)
 
 -- the condition of the conditional role of number i can be read again
 unfoldable pub readsIn : List ℕ → List ℕ → ℕ → Bool
@@ -73,7 +73,7 @@ condRoleIn d text ws i = record {
 
 pub record CondRoles (d : Policy) (text ws : List ℕ) (k : ℕ) (cs : List CondRole) : Type 0 where
   pub few : k ≤ 64
-  pub are : listed (condRoleIn d text ws) k ≡ cs
+  pub are : tabulated (condRoleIn d text ws) k ≡ cs
   pub known : (i : ℕ) → i < k → attributesKnown d (conditionIn text ws i) ≡ true
   pub reads : (i : ℕ) → i < k → readsIn text ws i ≡ true
   pub printed : (i : ℕ) → i < k → Printed 320 text ws i

@@ -4,11 +4,11 @@ use lib.ListN.{getD}
 use mathlib.Core.List.{List}
 use mathlib.Core.Path.{_≡_}
 use Rattle.document.specs.Policy.{Grant}
-use Rattle.workspace.specs.Listed.{listed}
+use Rattle.workspace.specs.Tabulated.{tabulated}
 
 unfoldable pub grantIn : List ℕ → ℕ → Grant
 grantIn ws i = record { purpose = getD ws i 0; condRole = getD ws (128 + i) 0 }
 
 pub record Grants (ws : List ℕ) (k : ℕ) (gs : List Grant) : Type 0 where
   pub few : k ≤ 128
-  pub are : listed (grantIn ws) k ≡ gs
+  pub are : tabulated (grantIn ws) k ≡ gs

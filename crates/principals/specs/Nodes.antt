@@ -11,7 +11,7 @@ use mathlib.Core.Path.{_≡_}
 use Rattle.condition.specs.Kinds.{names}
 use Rattle.document.specs.Policy.{Node}
 use Rattle.workspace.specs.Hash.{hashOf}
-use Rattle.workspace.specs.Listed.{listed}
+use Rattle.workspace.specs.Tabulated.{tabulated}
 use Rattle.lists.specs.Lists.{findIndex}
 use Rattle.text.specs.Words.{isCalled, wordAt, wordOf}
 use Rattle.principals.specs.declared.names.Sought.{Sought}
@@ -29,14 +29,14 @@ abbrev pub slotIn : ℕ → List ℕ → ℕ → ℕ
 slotIn room ws h = getD ws (3 * room + h) 0
 
 -- the first of k names that has the hash h, by its slot; k where none has it
-unfoldable pub firstIn : ℕ → List ℕ → ℕ → ℕ → ℕ
-firstIn room ws k h = cond (ltb (slotIn room ws h) k && eqb (hashIn room ws (slotIn room ws h)) h) (slotIn room ws h) k
+unfoldable pub firstHashed : ℕ → List ℕ → ℕ → ℕ → ℕ
+firstHashed room ws k h = cond (ltb (slotIn room ws h) k && eqb (hashIn room ws (slotIn room ws h)) h) (slotIn room ws h) k
 
 pub record Nodes (room : ℕ) (text ws : List ℕ) (k : ℕ) (ns : List Node) : Type 0 where
   pub few : k ≤ room
-  pub are : listed (nodeIn room text ws) k ≡ ns
+  pub are : tabulated (nodeIn room text ws) k ≡ ns
   pub hashed : (i : ℕ) → i < k → hashIn room ws i ≡ hashOf (wordAt text (getD ws i 0))
-  pub first : (i : ℕ) → i < k → firstIn room ws k (hashIn room ws i) ≤ i
+  pub first : (i : ℕ) → i < k → firstHashed room ws k (hashIn room ws i) ≤ i
 
 -- what looking the name at i of a line up gives: where the word ends and its hash, and its number among the k names
 pub record Seeks (room : ℕ) (text ws : List ℕ) (k : ℕ) (line : List ℕ) (i : ℕ) (r : Sought) : Type 0 where

@@ -10,7 +10,7 @@ use Rattle.document.specs.Meaning.{givenOf}
 use Rattle.document.specs.Policy.{Policy, User}
 use Rattle.form.specs.Walks.{givensAt}
 use Rattle.workspace.specs.Hash.{Printed}
-use Rattle.workspace.specs.Listed.{listed}
+use Rattle.workspace.specs.Tabulated.{tabulated}
 use Rattle.text.specs.Words.{Word, isCalled, wordAt}
 use Rattle.workspace.specs.Cells.{lineIn}
 
@@ -43,5 +43,5 @@ userPasses w text ws held i = isCalled w (wordAt text (getD ws i 0)) && eqb (get
 
 pub record Users (d : Policy) (text ws : List ℕ) (k : ℕ) (us : List User) : Type 0 where
   pub few : k ≤ 256
-  pub are : listed (userIn d text ws) k ≡ us
+  pub are : tabulated (userIn d text ws) k ≡ us
   pub printed : (i : ℕ) → i < k → Printed 1280 text ws i

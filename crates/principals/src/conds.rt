@@ -12,7 +12,7 @@ ghost use mathlib.Core.Path.{_≡_};
 ghost use Rattle.condition.specs.Cond.{mapCond};
 ghost use Rattle.document.specs.Meaning.{attributeComparison};
 ghost use Rattle.document.specs.Policy.{CondRole, Policy};
-ghost use Rattle.principals.specs.CondRoles.{CondRoles, attributesKnown, condRoleEndIn, condRolePlaceIn, condRoleRoleIn, condRoleStartIn, conditionAt, conditionReads};
+ghost use Rattle.principals.specs.CondRoles.{CondRoles, attributesKnown, condRoleEndIn, condRolePlaceIn, condRoleRoleIn, condRoleStartIn, conditionInLine, conditionReads};
 ghost use Rattle.workspace.specs.Found.{FoundBelow, foundAs};
 ghost use Rattle.workspace.specs.Hash.{printOf};
 ghost use Rattle.lists.specs.Lists.{findIndex};
@@ -57,7 +57,7 @@ fn store_cond_role(
     h: usize,
 )
     requires { ⌜ (k < 64) × (320 + k < length (now ws)) ⌝ }
-    ensures { λ r. ⌜ ((d : Policy) (text : List ℕ) (cs : List CondRole) → CondRoles d text (now (ws .entry)) k cs → h ≡ printOf (wordAt text pos) → attributesKnown d (conditionAt text start end place) ≡ true → conditionReads text start end place ≡ true → CondRoles d text (now (ws .exit)) (k + 1) (cs ++ (record { name = wordAt text pos; role = role; condition = mapCond (attributeComparison d) (conditionAt text start end place) } ∷ []))) ⌝ }
+    ensures { λ r. ⌜ ((d : Policy) (text : List ℕ) (cs : List CondRole) → CondRoles d text (now (ws .entry)) k cs → h ≡ printOf (wordAt text pos) → attributesKnown d (conditionInLine text start end place) ≡ true → conditionReads text start end place ≡ true → CondRoles d text (now (ws .exit)) (k + 1) (cs ++ (record { name = wordAt text pos; role = role; condition = mapCond (attributeComparison d) (conditionInLine text start end place) } ∷ []))) ⌝ }
 {
     ws[k] = pos;
     ws[ROLE_AT + k] = role;
@@ -79,7 +79,7 @@ pub fn add_cond_role(
     place: usize,
     h: usize,
 )
-    ensures { λ r. ⌜ ((d : Policy) (text : List ℕ) (cs : List CondRole) → CondRoles d text (now (ws .entry)) k cs → h ≡ printOf (wordAt text pos) → k < 64 → attributesKnown d (conditionAt text start end place) ≡ true → conditionReads text start end place ≡ true → CondRoles d text (now (ws .exit)) (k + 1) (cs ++ (record { name = wordAt text pos; role = role; condition = mapCond (attributeComparison d) (conditionAt text start end place) } ∷ []))) ⌝ }
+    ensures { λ r. ⌜ ((d : Policy) (text : List ℕ) (cs : List CondRole) → CondRoles d text (now (ws .entry)) k cs → h ≡ printOf (wordAt text pos) → k < 64 → attributesKnown d (conditionInLine text start end place) ≡ true → conditionReads text start end place ≡ true → CondRoles d text (now (ws .exit)) (k + 1) (cs ++ (record { name = wordAt text pos; role = role; condition = mapCond (attributeComparison d) (conditionInLine text start end place) } ∷ []))) ⌝ }
 {
     if k < COND_ROLES {
         store_cond_role(ws, k, pos, role, start, end, place, h);

@@ -14,7 +14,7 @@ ghost use mathlib.Core.List.{List, [], _++_, _∷_};
 ghost use mathlib.Core.Path.{_≡_};
 ghost use Rattle.workspace.specs.Hash.{hashOf, slots};
 ghost use Rattle.workspace.specs.Found.{FoundBelow, foundAs};
-ghost use Rattle.principals.specs.Nodes.{Nodes, Seeks, firstIn};
+ghost use Rattle.principals.specs.Nodes.{Nodes, Seeks, firstHashed};
 ghost use Rattle.document.specs.Policy.{Node, treeOf};
 ghost use Rattle.lists.specs.Lists.{findIndex};
 ghost use Rattle.purpose.specs.Compliance.{descends};
@@ -31,7 +31,7 @@ pub struct Sought {
 // The first of the names among the first k that has the hash h; k where none has it.
 fn first_hashed(ws: &[usize], room: usize, k: usize, h: usize) -> usize
     requires { ⌜ (k ≤ room) × (3 * room + slots ≤ length (now ws)) × (h < slots) ⌝ }
-    ensures { λ r. ⌜ r ≡ firstIn room (now (ws .entry)) k h ⌝ }
+    ensures { λ r. ⌜ r ≡ firstHashed room (now (ws .entry)) k h ⌝ }
 {
     let j = ws[3 * room + h];
     if j < k {

@@ -8,7 +8,7 @@ use mathlib.Core.Bool.{Bool, _&&_, _||_, cond, false, not, true}
 use mathlib.Core.List.{List, [], _++_, _∷_, map}
 use mathlib.Core.Option.{some}
 use mathlib.Core.Path.{_≡_}
-use Rattle.condition.specs.Answers.{counted, numbered}
+use Rattle.condition.specs.Answers.{numbered, readTo}
 use Rattle.condition.specs.CondForm.{Compared, conditionInForm}
 use Rattle.condition.specs.declared.conditions.Read.{Read}
 use Rattle.text.specs.Reader.{Left, from}
@@ -68,7 +68,7 @@ comesTo f ts fs os m = eqb (run f 0 (stepsOf ts fs os 0 m) 0) room
 -- many comparisons it has; and, where there is room for them, that running the program is evaluating the condition,
 -- whatever tells which comparisons hold under an even number of `not`s and under an odd one
 pub record Programmed (s : List ℕ) (at : ℕ) (r : Read) (ts fs : List ℕ) (os : List Bool) : Type 0 where
-  pub reads : r ≡ counted (conditionInForm (from s at))
+  pub reads : r ≡ readTo (conditionInForm (from s at))
   pub runs : (c : Cond Compared) (l : Left) → conditionInForm (from s at) ≡ some (c, l) → length (comparisons c) ≤ room → (f : Bool → ℕ → Bool) → comesTo f ts fs os (length (comparisons c)) ≡ holdsTwo (f false) (f true) (numbered 0 c)
 
 -- ---- for the functions that are not called from outside

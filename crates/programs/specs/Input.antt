@@ -6,6 +6,6 @@ use Rattle.programs.specs.declared.input.Loaded.{Loaded}
 use Rattle.programs.specs.declared.input.Loaded.the-variants.{Failed, Text}
 
 -- a text that was read lies within the buffer
-abbrev pub Loads : List ℕ → Loaded → Type 0
-Loads buffer (Text n) = Counts n buffer
-Loads buffer Failed = Unit {0}
+abbrev pub ReadsWithin : List ℕ → Loaded → Type 0
+ReadsWithin buffer (Text n) = Counts n buffer
+ReadsWithin buffer Failed = Unit {0}

@@ -2,7 +2,7 @@
 use crate::retry::is_made_again;
 ghost use lib.ListN.{length};
 ghost use Rattle.libc.specs.Io.{Moved};
-ghost use Rattle.programs.specs.Input.{Loads};
+ghost use Rattle.programs.specs.Input.{ReadsWithin};
 
 // What became of reading a text: it has so many bytes, or an error was told on standard error.
 pub enum Loaded {
@@ -29,7 +29,7 @@ pub fn read_some(fd: i32, buf: &mut [u8]) -> isize
 // Reads until the input ends or the buffer is full. A read that fails leaves no text: what came before may be cut anywhere. The name
 // is what standard error calls the input.
 pub fn read_all(fd: i32, name: &[u8], text: &mut [u8]) -> Loaded
-    ensures { λ r. ⌜ Loads (now (text .exit)) r ⌝ }
+    ensures { λ r. ⌜ ReadsWithin (now (text .exit)) r ⌝ }
 {
     let mut done = 0;
     while done < text.len() {

@@ -12,18 +12,18 @@ use Rattle.lists.proofs.Tests.{and-both, and-left, and-right, both, never, one-
 use Rattle.lists.specs.Lists.{anyOf, member}
 use Rattle.purpose.proofs.Ancestry.{ancestor-le, chain, descends-outside, descends-trans, root-above}
 use Rattle.purpose.proofs.Words.{Words, meet-overlap, overlap}
-use Rattle.purpose.specs.Compliance.{Grown, Marks, Same, descends, inTree, meet, opens, related}
-use Rattle.purpose.specs.Meaning.{ClosureOf, admitted, isAbove, marksOf}
+use Rattle.purpose.specs.Compliance.{Grown, Marks, Same, descends, inTree, intersects, opens, related}
+use Rattle.purpose.specs.Meaning.{ClosureOf, admitted, isAbove, marksHeld}
 use Rattle.purpose.specs.Members.{members}
 use Rattle.purpose.specs.declared.Closure.{Closure}
 use Rattle.purpose.specs.declared.Label.{Label}
 
 -- a closure that is empty outside the tree: meeting it is being in the tree and passing its test
 meet-closure : (inside : Bool) (f : ℕ → Bool) (closure xs : List ℕ)
-    → ((i : ℕ) → member i closure ≡ (inside && f i)) → meet closure xs ≡ (inside && anyOf f xs)
-unfolding meet
+    → ((i : ℕ) → member i closure ≡ (inside && f i)) → intersects closure xs ≡ (inside && anyOf f xs)
+unfolding intersects
 meet-closure inside f closure xs e =
-    both (meet closure xs) (inside && anyOf f xs)
+    both (intersects closure xs) (inside && anyOf f xs)
     (λ h. let w = any-find (λ x. member x xs) closure h in
     and-both inside _ (and-left inside (f (w .0)) (sym (e (w .0)) ∙ w .1)) (any-here f xs (w .0) (w .2) (and-right inside (f (w .0)) (sym (e (w .0)) ∙ w .1))))
     (λ h. let w = any-find f xs (and-right inside (anyOf f xs) h) in
@@ -39,7 +39,7 @@ spread false x y = refl
 pub compliance : (tree : List ℕ) (p : ℕ) (l : Marks) (ancestors relatives : List ℕ)
     → ((a : ℕ) → member a ancestors ≡ (inTree tree p && descends tree p a))
     → ((d : ℕ) → member d relatives ≡ (inTree tree p && related tree p d))
-    → (meet ancestors (l .allowed) && not (meet relatives (l .denied))) ≡ opens tree l p
+    → (intersects ancestors (l .allowed) && not (intersects relatives (l .denied))) ≡ opens tree l p
 unfolding opens
 compliance tree p l ancestors relatives up near =
     ap₂ (λ (x y : Bool). x && not y)
@@ -58,9 +58,9 @@ compliance-words tree p allowed denied ancestors relatives up near small small�
     ∙ compliance tree p (record { allowed = members allowed; denied = members denied }) (members ancestors) (members relatives) up near
 
 -- what a label test computes with the closure of p is whether the label is open to p
-pub admitted-opens : (tree : List ℕ) (p : ℕ) (c : Closure) (l : Label) → ClosureOf tree p c → admitted c l ≡ opens tree (marksOf l) p
+pub admitted-opens : (tree : List ℕ) (p : ℕ) (c : Closure) (l : Label) → ClosureOf tree p c → admitted c l ≡ opens tree (marksHeld l) p
 unfolding admitted
-admitted-opens tree p c l of = compliance tree p (marksOf l) (members (c .ancestors)) (members (c .relatives)) (of .up) (of .near)
+admitted-opens tree p c l of = compliance tree p (marksHeld l) (members (c .ancestors)) (members (c .relatives)) (of .up) (of .near)
 
 -- what stands above by the closure of p is what p descends from, for a p of the tree
 pub above-descends : (tree : List ℕ) (p : ℕ) (c : Closure) (a : ℕ) → ClosureOf tree p c → isAbove c a ≡ (inTree tree p && descends tree p a)

@@ -6,9 +6,9 @@ ghost use Prim.Native.Nat.{ℕ, _≤_, _<_, min};
 ghost use lib.ListN.{length, getD, take};
 ghost use lib.Dec.{eqb, ltb};
 ghost use Rattle.lists.specs.Lists.{member};
-ghost use Rattle.purpose.specs.Compliance.{meet, Same, descends, related, inTree, opens};
+ghost use Rattle.purpose.specs.Compliance.{intersects, Same, descends, related, inTree, opens};
 ghost use Rattle.purpose.specs.Members.{limit, members, including};
-ghost use Rattle.purpose.specs.Meaning.{treeOf, treeFrom, marksOf, Grows, ClosureOf, admitted, isAbove};
+ghost use Rattle.purpose.specs.Meaning.{treeHeld, treeFrom, marksHeld, TreeGrows, ClosureOf, admitted, isAbove};
 
 // How many words of 64 bits hold a set of purposes, and the most purposes that a tree has.
 pub const WORDS: usize = 4;
@@ -47,7 +47,7 @@ fn wide(x: u8) -> usize
 
 // A tree with no purpose.
 pub fn no_purposes() -> Tree
-    ensures { λ r. ⌜ treeOf r ≡ [] ⌝ }
+    ensures { λ r. ⌜ treeHeld r ≡ [] ⌝ }
 {
     Tree {
         parents: [0u8; LIMIT],
@@ -57,7 +57,7 @@ pub fn no_purposes() -> Tree
 
 // How many purposes the tree has: never more than the limit, whatever `count` says.
 pub fn size(t: Tree) -> usize
-    ensures { λ r. ⌜ (r ≡ length (treeOf t)) × (r ≤ limit) ⌝ }
+    ensures { λ r. ⌜ (r ≡ length (treeHeld t)) × (r ≤ limit) ⌝ }
 {
     let n = t.count;
     if n < LIMIT { n } else { LIMIT }
@@ -65,7 +65,7 @@ pub fn size(t: Tree) -> usize
 
 // The tree with its first purpose; refused if it has one already.
 pub fn add_root(t: Tree) -> Growth
-    ensures { λ r. ⌜ Grows (eqb (length (treeOf t)) 0) 0 t r ⌝ }
+    ensures { λ r. ⌜ TreeGrows (eqb (length (treeHeld t)) 0) 0 t r ⌝ }
 {
     let n = t.count;
     if n == 0 {
@@ -79,7 +79,7 @@ pub fn add_root(t: Tree) -> Growth
 
 // The tree with one purpose more below `parent`; refused if the tree is full or has no such purpose.
 pub fn add_child(t: Tree, parent: usize) -> Growth
-    ensures { λ r. ⌜ Grows (ltb (length (treeOf t)) limit && inTree (treeOf t) parent) parent t r ⌝ }
+    ensures { λ r. ⌜ TreeGrows (ltb (length (treeHeld t)) limit && inTree (treeHeld t) parent) parent t r ⌝ }
 {
     let n = t.count;
     if n < LIMIT {
@@ -101,7 +101,7 @@ fn smaller(a: usize, b: usize) -> usize
 
 // The tree that `add_root` and then `add_child` for each further parent give, without a copy for each: what is refused is left out.
 pub fn tree_of(parents: &[usize], count: usize) -> Tree
-    ensures { λ r. ⌜ treeOf r ≡ treeFrom (take count (now (parents .entry))) ⌝ }
+    ensures { λ r. ⌜ treeHeld r ≡ treeFrom (take count (now (parents .entry))) ⌝ }
 {
     let m = smaller(count, parents.len());
     if m == 0 {
@@ -161,7 +161,7 @@ pub fn insert(s: [u64; WORDS], p: usize) -> [u64; WORDS]
 
 // Whether the sets have a member in common: one AND for each word.
 pub fn meets(a: [u64; WORDS], b: [u64; WORDS]) -> bool
-    ensures { λ r. ⌜ r ≡ meet (members a) (members b) ⌝ }
+    ensures { λ r. ⌜ r ≡ intersects (members a) (members b) ⌝ }
 {
     let mut k: usize = 0;
     while k < WORDS {
@@ -188,7 +188,7 @@ pub fn unite(a: [u64; WORDS], b: [u64; WORDS]) -> [u64; WORDS]
 
 // The ancestors of each purpose of the tree.
 fn upward(t: Tree) -> [[u64; WORDS]; LIMIT]
-    ensures { λ r. ⌜ ((i : ℕ) → i < length (treeOf t) → (a : ℕ) → member a (members (getD r i [])) ≡ descends (treeOf t) i a) ⌝ }
+    ensures { λ r. ⌜ ((i : ℕ) → i < length (treeHeld t) → (a : ℕ) → member a (members (getD r i [])) ≡ descends (treeHeld t) i a) ⌝ }
 {
     let n = size(t);
     let mut up = [[0u64; WORDS]; LIMIT];
@@ -226,7 +226,7 @@ fn relatives(up: &[[u64; WORDS]; LIMIT], n: usize, p: usize) -> [u64; WORDS]
 
 // The closure of p: both sets are empty if the tree has no p.
 pub fn closure_of(t: Tree, p: usize) -> Closure
-    ensures { λ r. ⌜ ClosureOf (treeOf t) p r ⌝ }
+    ensures { λ r. ⌜ ClosureOf (treeHeld t) p r ⌝ }
 {
     let n = size(t);
     if p < n {
@@ -270,7 +270,7 @@ pub fn admits(c: Closure, l: Label) -> bool
 
 // Whether p is open under the label.
 pub fn open(t: Tree, l: Label, p: usize) -> bool
-    ensures { λ r. ⌜ r ≡ opens (treeOf t) (marksOf l) p ⌝ }
+    ensures { λ r. ⌜ r ≡ opens (treeHeld t) (marksHeld l) p ⌝ }
 {
     admits(closure_of(t, p), l)
 }

@@ -18,7 +18,7 @@ use Rattle.query.specs.QueryForm.{QueryForm, namedWords, selectedWords}
 use Rattle.lists.proofs.ListLaws.{findIndex-found, findIndexFrom-mono}
 use Rattle.text.proofs.OffendingLaws.{leftmost-head, leftmost-nil, leftmost-none, leftmost-tail, missing-mono, unless-none, unless-true}
 use Rattle.lists.proofs.Tests.{and-left, and-right}
-use Rattle.lists.specs.Lists.{findIndex, findIndexFrom, known, there}
+use Rattle.lists.specs.Lists.{findIndex, findIndexFrom, orZero, there}
 use Rattle.text.specs.Words.{Word}
 
 -- the same query for another purpose
@@ -49,9 +49,9 @@ grant-below d p q below c u g = go (getElem? (d .users) u)
     go (some x) e = unfold bind in findIndexFrom-mono 0 (authorises d c x p) (authorises d c x q) (authorised x) (d .grants) g e
 
 module _ (d : Policy) (q : QueryForm) (w : Word) (p : ℕ) (is-p : purposeOf d w ≡ some p)
-    (below : descends (treeOf (d .purposes)) p (known (purposeOf d (q .purpose))) ≡ true) where
-  pub label-down : (l : Option ℕ) → labelOpen d (known (purposeOf d (q .purpose))) l ≡ true → labelOpen d p l ≡ true
-  label-down = label-below d (known (purposeOf d (q .purpose))) p (purpose-inside d w p is-p) below
+    (below : descends (treeOf (d .purposes)) p (orZero (purposeOf d (q .purpose))) ≡ true) where
+  pub label-down : (l : Option ℕ) → labelOpen d (orZero (purposeOf d (q .purpose))) l ≡ true → labelOpen d p l ≡ true
+  label-down = label-below d (orZero (purposeOf d (q .purpose))) p (purpose-inside d w p is-p) below
 
   pub party-down : unknownParty d q ≡ none → unknownParty d (forPurpose w q) ≡ none
   unfolding unknownParty forPurpose there
@@ -60,15 +60,15 @@ module _ (d : Policy) (q : QueryForm) (w : Word) (p : ℕ) (is-p : purposeOf d w
       (leftmost-none _ _ (unless-true (there (purposeOf d w)) w (rw is-p)) leftmost-nil))
 
   pub parts-down : closedPart d q ≡ none → closedPart d (forPurpose w q) ≡ none
-  unfolding closedPart openFor forPurpose namedWords selectedWords known
+  unfolding closedPart openFor forPurpose namedWords selectedWords orZero
   parts-down h =
       let s : Scheme ℕ = schemeOf d (q .table) in
       let cs : List Column = columnsOf d (q .table) in
-      let here : Option ℕ → Bool = labelOpen d (known (purposeOf d (q .purpose))) in
+      let here : Option ℕ → Bool = labelOpen d (orZero (purposeOf d (q .purpose))) in
       rw is-p (leftmost-none _ _
       (unless-true _ _ (tableOpen-more here (labelOpen d p) label-down s (unless-none _ _ (leftmost-head _ _ h))))
-      (leftmost-none _ _ (missing-mono _ _ (λ v. columnOpen-more here (labelOpen d p) label-down s (known (columnOf cs v))) (namedWords q) (leftmost-head _ _ (leftmost-tail _ _ h))) leftmost-nil))
+      (leftmost-none _ _ (missing-mono _ _ (λ v. columnOpen-more here (labelOpen d p) label-down s (orZero (columnOf cs v))) (namedWords q) (leftmost-head _ _ (leftmost-tail _ _ h))) leftmost-nil))
 
   pub resolved-down : resolved d (forPurpose w q) ≡ toPurpose p (resolved d q)
-  unfolding resolved forPurpose toPurpose known
+  unfolding resolved forPurpose toPurpose orZero
   resolved-down = rw is-p

@@ -16,12 +16,12 @@ use Rattle.query.specs.QueryForm.{QueryForm, namedWords, selectedWords}
 use Rattle.lists.proofs.ListLaws.{all-at, map-append, map-map, there-some}
 use Rattle.text.proofs.OffendingLaws.{leftmost-head, leftmost-tail, missing-none, unless-none}
 use Rattle.lists.proofs.Tests.{and-left, and-right}
-use Rattle.lists.specs.Lists.{allOf, found, known, member, there}
+use Rattle.lists.specs.Lists.{allOf, found, member, orZero, there}
 use Rattle.text.specs.Words.{Word}
 
 -- the number of the column that a word names
 abbrev pub columnNumber : List Column → Word → ℕ
-columnNumber cs w = known (columnOf cs w)
+columnNumber cs w = orZero (columnOf cs w)
 
 selected-words : (cs : List Column) (o : Option (List Word)) → selected (wantedOf cs o) ≡ map (columnNumber cs) (Option·getD o [])
 unfolding selected wantedOf
@@ -42,7 +42,7 @@ named-words d q =
 
 -- where every word names a column, the named columns are those that are found
 pub found-known : (cs : List Column) (ws : List Word) → allOf (λ w. there (columnOf cs w)) ws ≡ true → found (map (columnOf cs) ws) ≡ map (columnNumber cs) ws
-unfolding allOf found known
+unfolding allOf found orZero
 found-known cs [] h = refl
 found-known cs (w ∷ ws) h =
     rw (there-some (columnOf cs w) (and-left (there (columnOf cs w)) _ h)) (ap (λ l. columnNumber cs w ∷ l) (found-known cs ws (and-right (there (columnOf cs w)) _ h)))
@@ -69,6 +69,6 @@ module _ (d : Policy) (q : QueryForm) where
   pub columns-open : closedPart d q ≡ none → (k : ℕ) → member k (named (resolved d q)) ≡ true → columnOpen (labelOpen d (resolved d q .purpose)) (schemeAt d (resolved d q .table)) k ≡ true
   unfolding closedPart openFor resolved schemeOf
   columns-open h k m =
-      all-at (columnNumber (columnsOf d (q .table))) (columnOpen (labelOpen d (known (purposeOf d (q .purpose)))) (schemeOf d (q .table))) (namedWords q)
+      all-at (columnNumber (columnsOf d (q .table))) (columnOpen (labelOpen d (orZero (purposeOf d (q .purpose)))) (schemeOf d (q .table))) (namedWords q)
       (missing-none _ _ (leftmost-head _ _ (leftmost-tail _ _ h)))
       k (rw (named-words d q) at m)

@@ -15,7 +15,7 @@ use Rattle.form.proofs.WalkSteps.{names-more, names-stop}
 use Rattle.form.specs.Walks.{namesAt}
 use Rattle.lists.proofs.ListLaws.{map-append}
 use Rattle.query.proofs.BodiesRead.{first-of, wanted-count}
-use Rattle.query.specs.Naming.{ComparedStored, NamesPlaced, Stored, TestStored, TestsPlaced, wordsAt}
+use Rattle.query.specs.Naming.{ComparedStored, NamesPlaced, PlacesStored, TestStored, TestsPlaced, wordsAt}
 use Rattle.query.specs.QueryForm.{namedWords, selectedWords}
 use Rattle.query.specs.QueryPlaces.{IsQuery, TestWithin, chosenCount, comparisonCount, conditionAt, formAt, selectedFrom, wantedAt}
 use Rattle.text.specs.Reader.{from}
@@ -73,14 +73,14 @@ module _ (s : List ℕ) (p room : ℕ) (out : List ℕ) (at k : ℕ) (inv : Stor
       long = length-set out k at ∙ inv .long;
     }
 
-    pub storing-last : (getD s e 0 ≡ 32 → ⊥) → (before : List ℕ) → length before ≡ room → Stored s (selectedFrom s p) (k + 1) before (set out k at)
+    pub storing-last : (getD s e 0 ≡ 32 → ⊥) → (before : List ℕ) → length before ≡ room → PlacesStored s (selectedFrom s p) (k + 1) before (set out k at)
     storing-last h before l = record {
       small = omega (arith, inv .long);
       same = length-set out k at ∙ inv .long ∙ sym l;
       named = λ z. stored-one s out k at more ∙ ap (λ (ws : List Word). wordsAt s k out ++ ws) (sym (selected-last s at ends h)) ∙ inv .so-far;
     }
 
-  pub storing-full : length out ≤ k → (before : List ℕ) → length before ≡ room → Stored s (selectedFrom s p) k before out
+  pub storing-full : length out ≤ k → (before : List ℕ) → length before ≡ room → PlacesStored s (selectedFrom s p) k before out
   unfolding selectedFrom
   storing-full h before l =
       let a : length (wordsAt s k out) + length (selectedFrom s at) ≡ length (selectedFrom s p) = sym (length-append (wordsAt s k out) (selectedFrom s at)) ∙ ap length (inv .so-far) in
@@ -175,20 +175,20 @@ module _ (s : List ℕ) {c : Read} {ops : List ℕ} where
 abbrev wantedWords : List ℕ → Wanted → List Word
 wantedWords s w = Option·getD (wantedAt s w) []
 
-pub wanted-select : (s : List ℕ) {w : Wanted} {p n k : ℕ} {before after : List ℕ} → w ≡ wanted.Select p n → Stored s (selectedFrom s p) k before after → Stored s (wantedWords s w) k before after
+pub wanted-select : (s : List ℕ) {w : Wanted} {p n k : ℕ} {before after : List ℕ} → w ≡ wanted.Select p n → PlacesStored s (selectedFrom s p) k before after → PlacesStored s (wantedWords s w) k before after
 unfolding wantedAt
-wanted-select s {p} {k} {before} {after} e d = subst (λ v. Stored s (wantedWords s v) k before after) (sym e) d
+wanted-select s {p} {k} {before} {after} e d = subst (λ v. PlacesStored s (wantedWords s v) k before after) (sym e) d
 
-none-wanted : (s before : List ℕ) → Stored s (wantedWords s wanted.Count) 0 before before
+none-wanted : (s before : List ℕ) → PlacesStored s (wantedWords s wanted.Count) 0 before before
 unfolding wantedAt
 none-wanted s before = record { small = omega arith; same = refl; named = λ h. refl }
 
-pub wanted-none : (s : List ℕ) {w : Wanted} (before : List ℕ) → w ≡ wanted.Count → Stored s (wantedWords s w) 0 before before
-wanted-none s before e = subst (λ v. Stored s (wantedWords s v) 0 before before) (sym e) (none-wanted s before)
+pub wanted-none : (s : List ℕ) {w : Wanted} (before : List ℕ) → w ≡ wanted.Count → PlacesStored s (wantedWords s w) 0 before before
+wanted-none s before e = subst (λ v. PlacesStored s (wantedWords s v) 0 before before) (sym e) (none-wanted s before)
 
 -- ---- the words that name columns: they have room in 80 places
 
-pub names-placed : (s : List ℕ) (q : Question) {k r : ℕ} {before mid after ops : List ℕ} → length before ≡ 80 → Stored s (wantedWords s (q .wanted)) k before mid
+pub names-placed : (s : List ℕ) (q : Question) {k r : ℕ} {before mid after ops : List ℕ} → length before ≡ 80 → PlacesStored s (wantedWords s (q .wanted)) k before mid
     → TestStored s (q .test) k r mid after ops → IsQuery s q → NamesPlaced s q r after ops
 unfolding formAt namedWords selectedWords
 names-placed s q {k} {r} {before} {mid} {after} {ops} l b d h =

@@ -9,7 +9,7 @@ use mathlib.Core.Option.{none, some}
 use mathlib.Core.Path.{_∙_, _≡_, ap, refl, sym}
 use native.Mathlib.Omega.{arith}
 use Rattle.condition.proofs.ReadLaws.{condition-at, condition-none}
-use Rattle.condition.specs.Answers.{comparedIn, counted}
+use Rattle.condition.specs.Answers.{comparedIn, readTo}
 use Rattle.condition.specs.CondForm.{conditionInForm}
 use Rattle.form.proofs.PartLaws.{Behind, space-before}
 use Rattle.form.proofs.WalkSteps.{names-more, names-stop}
@@ -149,11 +149,11 @@ module _ (s : List ℕ) (at : ℕ) where
   test-absent h = record { is = optional-not conditionInForm s at h; within = tt }
 
   module _ (space : getD s at 0 ≡ 32) where
-    pub test-wrong : counted (conditionInForm (from s (at + 1))) ≡ read.Refused → ReadsTest s at tested.Refused
+    pub test-wrong : readTo (conditionInForm (from s (at + 1))) ≡ read.Refused → ReadsTest s at tested.Refused
     unfolding testedAt TestedWithin
     test-wrong h = record { is = optional-here conditionInForm s at space ∙ rw (condition-none s (at + 1) h); within = tt }
 
-    pub test-read : {e n : ℕ} → counted (conditionInForm (from s (at + 1))) ≡ read.At e n → ReadsTest s at (tested.At (test.When (at + 1) n) e)
+    pub test-read : {e n : ℕ} → readTo (conditionInForm (from s (at + 1))) ≡ read.At e n → ReadsTest s at (tested.At (test.When (at + 1) n) e)
     unfolding testedAt TestedWithin TestWithin conditionAt there
     test-read {e} {n} h =
         let r = condition-at s (at + 1) e n h in

@@ -18,7 +18,7 @@ use Rattle.query.specs.QueryForm.{QueryForm, namedWords, selectedWords, 
 use Rattle.lists.proofs.ListLaws.{map-append, map-map}
 use Rattle.text.proofs.Places.{leftmost-placeless, unless-placeless}
 use Rattle.text.proofs.ReadBack.{placeless}
-use Rattle.lists.specs.Lists.{anyOf, known, there}
+use Rattle.lists.specs.Lists.{anyOf, orZero, there}
 use Rattle.text.specs.Offending.{leftmost, missing, unless}
 use Rattle.text.specs.Words.{Word, isCalled, plainWord}
 
@@ -87,7 +87,7 @@ module _ (d : Policy) (q : QueryForm) where
   pub closed-placeless : closedPart d (placelessQuery q) ≡ Option·map placeless (closedPart d q)
   unfolding closedPart openFor columnsOf schemeOf tableOf purposeOf isCalled placeless plainWord columnOf placelessQuery
   closed-placeless =
-      let f : Word → Bool = λ w. columnOpen (openFor d q) (schemeOf d (q .table)) (known (columnOf (columnsOf d (q .table)) w)) in
+      let f : Word → Bool = λ w. columnOpen (openFor d q) (schemeOf d (q .table)) (orZero (columnOf (columnsOf d (q .table)) w)) in
       (λ i. leftmost (unless-placeless (tableOpen (openFor d q) (schemeOf d (q .table))) (q .table) i ∷ (ap (missing f) (named-placeless q) ∙ missing-placeless f (λ w. refl) (namedWords q)) i ∷ []))
       ∙ leftmost-placeless (_ ∷ _ ∷ [])
 
@@ -101,7 +101,7 @@ module _ (d : Policy) (q : QueryForm) where
 wanted-placeless : (cs : List Column) (o : Option (List Word)) → wantedOf cs (Option·map (map placeless) o) ≡ wantedOf cs o
 unfolding wantedOf columnOf isCalled placeless plainWord
 wanted-placeless cs none = refl
-wanted-placeless cs (some ws) = ap select (map-map (λ w. known (columnOf cs w)) placeless ws)
+wanted-placeless cs (some ws) = ap select (map-map (λ w. orZero (columnOf cs w)) placeless ws)
 
 condition-placeless : (cs : List Column) (o : Option (Cond Compared)) → Option·map (mapCond (columnComparison cs)) (Option·map (mapCond placelessCompared) o) ≡ Option·map (mapCond (columnComparison cs)) o
 unfolding columnComparison columnKind columnOf isCalled placeless plainWord placelessCompared
@@ -113,8 +113,8 @@ unfolding resolved placelessQuery purposeOf tableOf columnsOf isCalled placeless
 resolved-placeless d q =
     let cs : List Column = columnsOf d (q .table) in
     λ i. record {
-      purpose = known (purposeOf d (q .purpose));
-      table = known (tableOf d (q .table));
+      purpose = orZero (purposeOf d (q .purpose));
+      table = orZero (tableOf d (q .table));
       wanted = wanted-placeless cs (q .columns) i;
       condition = condition-placeless cs (q .condition) i;
     }

@@ -10,7 +10,7 @@ use Rattle.condition.specs.Cond.{holds}
 use Rattle.document.specs.Policy.{CondRole, Grant, Policy, User, treeOf}
 use Rattle.purpose.specs.Compliance.{descends}
 use Rattle.text.specs.Bytes.{within}
-use Rattle.lists.specs.Lists.{find, findIndex, holdsOf, known}
+use Rattle.lists.specs.Lists.{find, findIndex, holdsOf, orZero}
 use Rattle.text.specs.Numbers.{Value, rank, rankOf}
 
 -- the host's clock
@@ -41,7 +41,7 @@ userValue u i = Option·map (λ g. g .value) (find (λ g. eqb (g .attribute) i) 
 
 -- the comparison holds for the clock's number, if it is one of the clock's, and else for the user's value
 unfoldable pub attributeMeets : User → Comparison → Option ℕ → Bool
-attributeMeets u x (some n) = ranksMeet (x .op) (rankOf n) (known (rank (x .value)))
+attributeMeets u x (some n) = ranksMeet (x .op) (rankOf n) (orZero (rank (x .value)))
 attributeMeets u x none = holdsOf (meets x) (userValue u (x .of))
 
 -- the user, acting in the role of this user form, belongs to the conditional role

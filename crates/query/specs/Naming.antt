@@ -30,7 +30,7 @@ pub record NamesPlaced (s : List ℕ) (q : Question) (r : ℕ) (places ops : Lis
 -- ---- for the functions that are not called from outside; before is the lent part before the call, after is what it is then
 
 -- the first r places are those of these words, if they have room
-pub record Stored (s : List ℕ) (ws : List Word) (r : ℕ) (before after : List ℕ) : Type 0 where
+pub record PlacesStored (s : List ℕ) (ws : List Word) (r : ℕ) (before after : List ℕ) : Type 0 where
   pub small : r ≤ length before
   pub same : length after ≡ length before
   pub named : length ws ≤ length before → wordsAt s r after ≡ ws

@@ -10,7 +10,7 @@ use Rattle.document.specs.Lookup.{columnKind, columnOf, columnsOf, purposeOf, r
 use Rattle.document.specs.Open.{columnOpen, labelOpen, tableOpen}
 use Rattle.document.specs.Policy.{Column, Policy}
 use Rattle.query.specs.QueryForm.{QueryForm, namedWords}
-use Rattle.lists.specs.Lists.{anyOf, known, there}
+use Rattle.lists.specs.Lists.{anyOf, orZero, there}
 use Rattle.text.specs.Offending.{leftmost, missing, unless}
 use Rattle.text.specs.Words.{Word, isCalled}
 
@@ -57,30 +57,30 @@ mistypedQuery d q =
 
 -- the test of labels for the query's purpose, which is known
 unfoldable pub openFor : Policy → QueryForm → Option ℕ → Bool
-openFor d q = labelOpen d (known (purposeOf d (q .purpose)))
+openFor d q = labelOpen d (orZero (purposeOf d (q .purpose)))
 
 -- 17: table or named column closed to the purpose
 unfoldable pub closedPart : Policy → QueryForm → Option Word
 closedPart d q = leftmost (
     unless (tableOpen (openFor d q) (schemeOf d (q .table))) (q .table)
-    ∷ missing (λ w. columnOpen (openFor d q) (schemeOf d (q .table)) (known (columnOf (columnsOf d (q .table)) w))) (namedWords q)
+    ∷ missing (λ w. columnOpen (openFor d q) (schemeOf d (q .table)) (orZero (columnOf (columnsOf d (q .table)) w))) (namedWords q)
     ∷ [])
 
 -- a comparison of a column
 unfoldable pub columnComparison : List Column → Compared → Comparison
 columnComparison cs x =
-    record { of = known (columnOf cs (x .of)); kind = columnKind cs (x .of); op = x .op; value = x .value .bytes }
+    record { of = orZero (columnOf cs (x .of)); kind = columnKind cs (x .of); op = x .op; value = x .value .bytes }
 
 -- what is asked for, columns by number
 unfoldable pub wantedOf : List Column → Option (List Word) → Wanted
 wantedOf cs none = countsOnly
-wantedOf cs (some ws) = select (map (λ w. known (columnOf cs w)) ws)
+wantedOf cs (some ws) = select (map (λ w. orZero (columnOf cs w)) ws)
 
 -- the query with its names resolved; all of them are known
 unfoldable pub resolved : Policy → QueryForm → Query
 resolved d q = record {
-  purpose = known (purposeOf d (q .purpose));
-  table = known (tableOf d (q .table));
+  purpose = orZero (purposeOf d (q .purpose));
+  table = orZero (tableOf d (q .table));
   wanted = wantedOf (columnsOf d (q .table)) (q .columns);
   condition = Option·map (mapCond (columnComparison (columnsOf d (q .table)))) (q .condition);
 }

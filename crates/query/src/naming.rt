@@ -9,12 +9,12 @@ use text::words::word_end;
 ghost use lib.ListN.{length};
 ghost use mathlib.Core.List.{[]};
 ghost use mathlib.Core.Option.{Option·getD};
-ghost use Rattle.query.specs.Naming.{ComparedStored, NamesPlaced, Stored, TestStored};
+ghost use Rattle.query.specs.Naming.{ComparedStored, NamesPlaced, PlacesStored, TestStored};
 ghost use Rattle.query.specs.QueryPlaces.{IsQuery, selectedFrom, wantedAt};
 
 // Stores where the columns of a select stand, the first of them at p, as many as have room. Gives how many.
 fn store_selected(s: &[u8], p: usize, out: &mut [usize]) -> usize
-    ensures { λ r. ⌜ Stored (now (s .entry)) (selectedFrom (now (s .entry)) p) r (now (out .entry)) (now (out .exit)) ⌝ }
+    ensures { λ r. ⌜ PlacesStored (now (s .entry)) (selectedFrom (now (s .entry)) p) r (now (out .entry)) (now (out .exit)) ⌝ }
 {
     let mut at = p;
     let mut k = 0;
@@ -32,7 +32,7 @@ fn store_selected(s: &[u8], p: usize, out: &mut [usize]) -> usize
 
 // The same for columns that may not be asked for.
 fn store_wanted(s: &[u8], w: Wanted, out: &mut [usize]) -> usize
-    ensures { λ r. ⌜ Stored (now (s .entry)) (Option·getD (wantedAt (now (s .entry)) w) []) r (now (out .entry)) (now (out .exit)) ⌝ }
+    ensures { λ r. ⌜ PlacesStored (now (s .entry)) (Option·getD (wantedAt (now (s .entry)) w) []) r (now (out .entry)) (now (out .exit)) ⌝ }
 {
     match w {
         Wanted::Select(p, _) => store_selected(s, p, out),

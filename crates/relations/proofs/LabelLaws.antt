@@ -14,9 +14,9 @@ use native.Mathlib.Omega.{arith}
 use Rattle.document.specs.Open.{labelOpen}
 use Rattle.document.specs.Policy.{Label, Policy, treeOf}
 use Rattle.workspace.proofs.Finding.{found-first}
-use Rattle.workspace.proofs.ListedLaws.{findIndex-map, length-listed, listed-pushed, listed-there}
-use Rattle.relations.specs.Labels.{Holds, Labels, Opened, SetStored, setIn}
-use Rattle.workspace.specs.Listed.{listed}
+use Rattle.workspace.proofs.TabulatedLaws.{findIndex-map, length-tabulated, tabulated-pushed, tabulated-there}
+use Rattle.relations.specs.Labels.{Labels, Opened, SetHolds, SetStored, setIn}
+use Rattle.workspace.specs.Tabulated.{tabulated}
 use Rattle.lists.proofs.ListLaws.{getElem?-grown, getElem?-map, map-append, member-append}
 use Rattle.lists.proofs.Tests.{decide}
 use Rattle.lists.specs.Lists.{anyOf, findIndex, holdsOf, member}
@@ -126,15 +126,15 @@ set-beyond sets i s h = record { here = λ l. absurd (omega (arith, l, h)); othe
 -- ---- sets and the lists that they hold
 
 -- a set with no member
-pub holds-none : (ws : List ℕ) → Same (members ws) [] → Holds ws []
+pub holds-none : (ws : List ℕ) → Same (members ws) [] → SetHolds ws []
 holds-none ws e = record { same = e }
 
 -- a number that a tree may have, put into a set: in front of the list, or behind it
-pub holds-insert : (ws new xs : List ℕ) (p : ℕ) → p < limit → Holds ws xs → Same (members new) (including p (members ws)) → Holds new (p ∷ xs)
+pub holds-insert : (ws new xs : List ℕ) (p : ℕ) → p < limit → SetHolds ws xs → Same (members new) (including p (members ws)) → SetHolds new (p ∷ xs)
 unfolding member anyOf
 holds-insert ws new xs p l h e = record { same = λ i. e i ∙ ap (λ b. member i (cond b (p ∷ members ws) (members ws))) (lt-ltb p limit l) ∙ ap (λ b. eqb i p || b) (h .same i) }
 
-pub holds-insert-behind : (ws new xs : List ℕ) (p : ℕ) → p < limit → Holds ws xs → Same (members new) (including p (members ws)) → Holds new (xs ++ (p ∷ []))
+pub holds-insert-behind : (ws new xs : List ℕ) (p : ℕ) → p < limit → SetHolds ws xs → Same (members new) (including p (members ws)) → SetHolds new (xs ++ (p ∷ []))
 unfolding member anyOf
 holds-insert-behind ws new xs p l h e = record { same = λ i. holds-insert ws new xs p l h e .same i ∙ turned i }
   where
@@ -145,7 +145,7 @@ holds-insert-behind ws new xs p l h e = record { same = λ i. holds-insert ws ne
 
 -- what is found among the positions of the names is the label of the name
 pub label-found : {text ws sets : List ℕ} {k : ℕ} {ls : List Label} (w : Word) (o : Option ℕ) → Labels text ws sets k ls
-    → o ≡ findIndex (λ p. isCalled w (wordAt text p)) (listed (λ i. getD ws (0 + i) 0) k) → o ≡ findIndex (λ x. isCalled w (x .name)) ls
+    → o ≡ findIndex (λ p. isCalled w (wordAt text p)) (tabulated (λ i. getD ws (0 + i) 0) k) → o ≡ findIndex (λ x. isCalled w (x .name)) ls
 label-found {text} {ws} {sets} {k} {ls} w o h e =
     e
     ∙ found-first (isCalled w) (λ n. n) text ws (λ i. wordAt text (getD ws i 0)) k (map (λ l. l .name) ls) (λ i. refl) (h .named)
@@ -153,7 +153,7 @@ label-found {text} {ws} {sets} {k} {ls} w o h e =
 
 -- no label yet
 pub labels-start : (text ws sets : List ℕ) → Labels text ws sets 0 []
-unfolding listed
+unfolding tabulated
 labels-start text ws sets = record {
   few = omega arith;
   named = refl;
@@ -166,51 +166,51 @@ labels-start text ws sets = record {
 module _ (text ws sets : List ℕ) (k : ℕ) (ls : List Label) (h : Labels text ws sets k ls) where
   -- as many as there are
   pub labels-long : length ls ≡ k
-  labels-long = sym (length-map ls (λ l. l .name)) ∙ ap length (sym (h .named)) ∙ length-listed (λ i. wordAt text (getD ws i 0)) k
+  labels-long = sym (length-map ls (λ l. l .name)) ∙ ap length (sym (h .named)) ∙ length-tabulated (λ i. wordAt text (getD ws i 0)) k
 
   -- a label that is there
   pub label-below : (i : ℕ) (l : Label) → getElem? ls i ≡ some l → i < k
   label-below i l e =
-      listed-there (λ i. wordAt text (getD ws i 0)) k i (l .name)
+      tabulated-there (λ i. wordAt text (getD ws i 0)) k i (l .name)
       (ap (λ x. getElem? x i) (h .named) ∙ getElem?-map (λ x. x .name) ls i ∙ ap (Option·map (λ x. x .name)) e) .0
 
   -- one label more, its sets stored one after the other
   pub labels-pushed : (w₁ s₁ s₂ : List ℕ) (n : ℕ) (allowed denied xs ys : List ℕ) → length ws ≡ 64 → k < 64 → w₁ ≡ set ws k n → SetStored sets s₁ k allowed → SetStored s₁ s₂ (64 + k) denied
-      → Holds allowed xs → Holds denied ys → Labels text w₁ s₂ (k + 1) (ls ++ (record { name = wordAt text n; marks = record { allowed = xs; denied = ys } } ∷ []))
+      → SetHolds allowed xs → SetHolds denied ys → Labels text w₁ s₂ (k + 1) (ls ++ (record { name = wordAt text n; marks = record { allowed = xs; denied = ys } } ∷ []))
   labels-pushed w₁ s₁ s₂ n allowed denied xs ys full l e a b ha hb = record {
     few = omega arith;
     named =
-        ap (λ w. listed (λ i. wordAt text (getD w i 0)) (k + 1)) e
-        ∙ listed-pushed (λ i. wordAt text (getD ws i 0)) (λ i. wordAt text (getD (set ws k n) i 0)) k (map (λ l. l .name) ls) (wordAt text n) (h .named)
+        ap (λ w. tabulated (λ i. wordAt text (getD w i 0)) (k + 1)) e
+        ∙ tabulated-pushed (λ i. wordAt text (getD ws i 0)) (λ i. wordAt text (getD (set ws k n) i 0)) k (map (λ l. l .name) ls) (wordAt text n) (h .named)
         (λ i m. ap (wordAt text) (getD-set-other ws k i n 0 (omega arith)))
         (ap (wordAt text) (getD-set-same ws k n 0 (omega arith)))
         ∙ sym (map-append (λ l. l .name) ls (new ∷ []));
-    allowed = λ i x g. ⊎-elim (λ o. old-allowed i x o) (λ o. subst (λ (y : Label). Holds (setIn s₂ i) (y .marks .allowed)) (o .1) (new-allowed i (o .0))) (getElem?-grown ls new i x g);
-    denied = λ i x g. ⊎-elim (λ o. old-denied i x o) (λ o. subst (λ (y : Label). Holds (setIn s₂ (64 + i)) (y .marks .denied)) (o .1) (new-denied i (o .0))) (getElem?-grown ls new i x g);
+    allowed = λ i x g. ⊎-elim (λ o. old-allowed i x o) (λ o. subst (λ (y : Label). SetHolds (setIn s₂ i) (y .marks .allowed)) (o .1) (new-allowed i (o .0))) (getElem?-grown ls new i x g);
+    denied = λ i x g. ⊎-elim (λ o. old-denied i x o) (λ o. subst (λ (y : Label). SetHolds (setIn s₂ (64 + i)) (y .marks .denied)) (o .1) (new-denied i (o .0))) (getElem?-grown ls new i x g);
   }
     where
       new : Label
       new = record { name = wordAt text n; marks = record { allowed = xs; denied = ys } }
 
-      old-allowed : (i : ℕ) (x : Label) → getElem? ls i ≡ some x → Holds (setIn s₂ i) (x .marks .allowed)
+      old-allowed : (i : ℕ) (x : Label) → getElem? ls i ≡ some x → SetHolds (setIn s₂ i) (x .marks .allowed)
       old-allowed i x o =
           let m : i < k = label-below i x o in
-          subst (λ (s : List ℕ). Holds s (x .marks .allowed)) (sym (b .others i (λ e. omega (arith, e, m, l)) ∙ a .others i (λ e. omega (arith, e, m)))) (h .allowed i x o)
+          subst (λ (s : List ℕ). SetHolds s (x .marks .allowed)) (sym (b .others i (λ e. omega (arith, e, m, l)) ∙ a .others i (λ e. omega (arith, e, m)))) (h .allowed i x o)
 
-      old-denied : (i : ℕ) (x : Label) → getElem? ls i ≡ some x → Holds (setIn s₂ (64 + i)) (x .marks .denied)
+      old-denied : (i : ℕ) (x : Label) → getElem? ls i ≡ some x → SetHolds (setIn s₂ (64 + i)) (x .marks .denied)
       old-denied i x o =
           let m : i < k = label-below i x o in
-          subst (λ (s : List ℕ). Holds s (x .marks .denied)) (sym (b .others (64 + i) (λ e. omega (arith, e, m)) ∙ a .others (64 + i) (λ e. omega (arith, e, l)))) (h .denied i x o)
+          subst (λ (s : List ℕ). SetHolds s (x .marks .denied)) (sym (b .others (64 + i) (λ e. omega (arith, e, m)) ∙ a .others (64 + i) (λ e. omega (arith, e, l)))) (h .denied i x o)
 
-      new-allowed : (i : ℕ) → i ≡ length ls → Holds (setIn s₂ i) xs
+      new-allowed : (i : ℕ) → i ≡ length ls → SetHolds (setIn s₂ i) xs
       new-allowed i o =
           let m : i ≡ k = o ∙ labels-long in
-          subst (λ (s : List ℕ). Holds s xs) (sym (ap (setIn s₂) m ∙ b .others k (λ e. omega (arith, e)) ∙ a .here (omega (arith, l)))) ha
+          subst (λ (s : List ℕ). SetHolds s xs) (sym (ap (setIn s₂) m ∙ b .others k (λ e. omega (arith, e)) ∙ a .here (omega (arith, l)))) ha
 
-      new-denied : (i : ℕ) → i ≡ length ls → Holds (setIn s₂ (64 + i)) ys
+      new-denied : (i : ℕ) → i ≡ length ls → SetHolds (setIn s₂ (64 + i)) ys
       new-denied i o =
           let m : i ≡ k = o ∙ labels-long in
-          subst (λ (s : List ℕ). Holds s ys) (sym (ap (λ j. setIn s₂ (64 + j)) m ∙ b .here (omega (arith, l)))) hb
+          subst (λ (s : List ℕ). SetHolds s ys) (sym (ap (λ j. setIn s₂ (64 + j)) m ∙ b .here (omega (arith, l)))) hb
 
   -- ---- whether one is open
 

@@ -10,9 +10,9 @@ use native.Mathlib.Omega.{arith}
 use Rattle.document.specs.Policy.{Row}
 use Rattle.relations.specs.Rows.{FillingRow, LabelStored, Rows, ValueStored, labelCountIn, labelRoom, rowIn, rowLabelIn, valueCountIn, valueIn, valuePlaceIn}
 use Rattle.relations.specs.Tables.{Cut}
-use Rattle.workspace.specs.Listed.{listed}
+use Rattle.workspace.specs.Tabulated.{tabulated}
 use Rattle.workspace.proofs.CellLaws.{kept-3}
-use Rattle.workspace.proofs.ListedLaws.{length-listed, listed-at, listed-pushed, listed-same, listed-there}
+use Rattle.workspace.proofs.TabulatedLaws.{length-tabulated, tabulated-at, tabulated-pushed, tabulated-same, tabulated-there}
 use Rattle.text.specs.Numbers.{Value}
 use Rattle.text.specs.Words.{writtenAt}
 
@@ -31,22 +31,22 @@ module _ (text ws ws′ : List ℕ) where
   unfolding rowIn
   row-same r s n m = λ j. record { table = s .table j; values = values j; labels = labels j }
     where
-      values : listed (valueIn text ws′ r) (getD ws′ (1024 + r) 0) ≡ listed (valueIn text ws r) (getD ws (1024 + r) 0)
+      values : tabulated (valueIn text ws′ r) (getD ws′ (1024 + r) 0) ≡ tabulated (valueIn text ws r) (getD ws (1024 + r) 0)
       values =
-          ap (listed (valueIn text ws′ r)) (s .width)
-          ∙ listed-same (valueIn text ws′ r) (valueIn text ws r) (getD ws (1024 + r) 0) (λ c l. ap (writtenAt text) (s .value c (omega (arith, l, n))))
+          ap (tabulated (valueIn text ws′ r)) (s .width)
+          ∙ tabulated-same (valueIn text ws′ r) (valueIn text ws r) (getD ws (1024 + r) 0) (λ c l. ap (writtenAt text) (s .value c (omega (arith, l, n))))
 
-      labels : listed (rowLabelIn ws′ r) (getD ws′ (2048 + r) 0) ≡ listed (rowLabelIn ws r) (getD ws (2048 + r) 0)
+      labels : tabulated (rowLabelIn ws′ r) (getD ws′ (2048 + r) 0) ≡ tabulated (rowLabelIn ws r) (getD ws (2048 + r) 0)
       labels =
-          ap (listed (rowLabelIn ws′ r)) (s .marks)
-          ∙ listed-same (rowLabelIn ws′ r) (rowLabelIn ws r) (getD ws (2048 + r) 0) (λ c l. s .label c (omega (arith, l, m)))
+          ap (tabulated (rowLabelIn ws′ r)) (s .marks)
+          ∙ tabulated-same (rowLabelIn ws′ r) (rowLabelIn ws r) (getD ws (2048 + r) 0) (λ c l. s .label c (omega (arith, l, m)))
 
   rows-same : (k : ℕ) (rs : List Row) → ((r : ℕ) → r < k → SameRow ws ws′ r) → Rows text ws k rs → Rows text ws′ k rs
   rows-same k rs s h = record {
     few = h .few;
     narrow = λ r l. subst (λ (n : ℕ). n ≤ 16) (sym (s r l .width)) (h .narrow r l);
     marked = λ r l. subst (λ (n : ℕ). n ≤ 16) (sym (s r l .marks)) (h .marked r l);
-    are = listed-same (rowIn text ws′) (rowIn text ws) k (λ r l. row-same r (s r l) (h .narrow r l) (h .marked r l)) ∙ h .are;
+    are = tabulated-same (rowIn text ws′) (rowIn text ws) k (λ r l. row-same r (s r l) (h .narrow r l) (h .marked r l)) ∙ h .are;
   }
 
 -- ---- a value or a label is stored
@@ -69,11 +69,11 @@ module _ (ws : List ℕ) (r : ℕ) (long : length ws ≡ 35840) (inside : r < 10
       few = omega (arith, s);
       fewLabels = h .fewLabels;
       values =
-          listed-pushed (valueIn text ws r) (valueIn text (set ws (3072 + 16 * r + c) pos) r) c vs (writtenAt text pos) (h .values)
+          tabulated-pushed (valueIn text ws r) (valueIn text (set ws (3072 + 16 * r + c) pos) r) c vs (writtenAt text pos) (h .values)
           (λ n b. ap (writtenAt text) (getD-set-other ws (3072 + 16 * r + c) (3072 + 16 * r + n) pos 0 (λ e. omega (arith, e, b))))
           (ap (writtenAt text) (getD-set-same ws (3072 + 16 * r + c) pos 0 (omega (arith, long, inside, s))));
       labels =
-          listed-same (rowLabelIn (set ws (3072 + 16 * r + c) pos) r) (rowLabelIn ws r) m
+          tabulated-same (rowLabelIn (set ws (3072 + 16 * r + c) pos) r) (rowLabelIn ws r) m
           (λ n b. getD-set-other ws (3072 + 16 * r + c) (19456 + 16 * r + n) pos 0 (λ e. omega (arith, e, inside, s)))
           ∙ h .labels;
     };
@@ -86,11 +86,11 @@ module _ (ws : List ℕ) (r : ℕ) (long : length ws ≡ 35840) (inside : r < 10
       few = h .few;
       fewLabels = omega (arith, s);
       values =
-          listed-same (valueIn text (set ws (19456 + 16 * r + m) label) r) (valueIn text ws r) c
+          tabulated-same (valueIn text (set ws (19456 + 16 * r + m) label) r) (valueIn text ws r) c
           (λ n b. ap (writtenAt text) (getD-set-other ws (19456 + 16 * r + m) (3072 + 16 * r + n) label 0 (λ e. omega (arith, e, inside, b, h .few))))
           ∙ h .values;
       labels =
-          listed-pushed (rowLabelIn ws r) (rowLabelIn (set ws (19456 + 16 * r + m) label) r) m ls label (h .labels)
+          tabulated-pushed (rowLabelIn ws r) (rowLabelIn (set ws (19456 + 16 * r + m) label) r) m ls label (h .labels)
           (λ n b. getD-set-other ws (19456 + 16 * r + m) (19456 + 16 * r + n) label 0 (λ e. omega (arith, e, b)))
           (getD-set-same ws (19456 + 16 * r + m) label 0 (omega (arith, long, inside, s)));
     };
@@ -117,8 +117,8 @@ row-counted text ws k table c m rs vs ls l h f et ec em = record {
   narrow = below-more (λ r. getD ws (1024 + r) 0 ≤ 16) k (h .narrow) (omega (arith, ec, f .few));
   marked = below-more (λ r. getD ws (2048 + r) 0 ≤ 16) k (h .marked) (omega (arith, em, f .fewLabels));
   are =
-      listed-pushed (rowIn text ws) (rowIn text ws) k rs (record { table = table; values = vs; labels = ls }) (h .are) (λ r b. refl)
-      (λ j. record { table = et j; values = (ap (listed (valueIn text ws k)) ec ∙ f .values) j; labels = (ap (listed (rowLabelIn ws k)) em ∙ f .labels) j });
+      tabulated-pushed (rowIn text ws) (rowIn text ws) k rs (record { table = table; values = vs; labels = ls }) (h .are) (λ r b. refl)
+      (λ j. record { table = et j; values = (ap (tabulated (valueIn text ws k)) ec ∙ f .values) j; labels = (ap (tabulated (rowLabelIn ws k)) em ∙ f .labels) j });
 }
 
 module _ (ws : List ℕ) (k table c m : ℕ) (long : length ws ≡ 35840) (inside : k < 1024) where
@@ -146,8 +146,8 @@ module _ (ws : List ℕ) (k table c m : ℕ) (long : length ws ≡ 35840) (insid
   filling-same text vs ls f = record {
     few = f .few;
     fewLabels = f .fewLabels;
-    values = listed-same (valueIn text w3 k) (valueIn text ws k) c (λ n l. ap (writtenAt text) (besides (3072 + 16 * k + n) (λ b p e. omega (arith, e, p, inside)))) ∙ f .values;
-    labels = listed-same (rowLabelIn w3 k) (rowLabelIn ws k) m (λ n l. besides (19456 + 16 * k + n) (λ b p e. omega (arith, e, p, inside))) ∙ f .labels;
+    values = tabulated-same (valueIn text w3 k) (valueIn text ws k) c (λ n l. ap (writtenAt text) (besides (3072 + 16 * k + n) (λ b p e. omega (arith, e, p, inside)))) ∙ f .values;
+    labels = tabulated-same (rowLabelIn w3 k) (rowLabelIn ws k) m (λ n l. besides (19456 + 16 * k + n) (λ b p e. omega (arith, e, p, inside))) ∙ f .labels;
   }
 
   pub row-added : (text : List ℕ) (rs : List Row) (vs : List Value) (ls : List ℕ) → Rows text ws k rs → FillingRow text ws k c m vs ls
@@ -169,26 +169,26 @@ module _ (ws : List ℕ) (k table c m : ℕ) (long : length ws ≡ 35840) (insid
 
 -- before any row
 pub no-rows : (text ws : List ℕ) → Rows text ws 0 []
-unfolding listed
+unfolding tabulated
 no-rows text ws = record { few = omega arith; narrow = λ r l. absurd (omega (arith, l)); marked = λ r l. absurd (omega (arith, l)); are = refl }
 
 -- before any value and label of a row
 pub row-empty : (text ws : List ℕ) (r : ℕ) → FillingRow text ws r 0 0 [] []
-unfolding listed
+unfolding tabulated
 row-empty text ws r = record { few = omega arith; fewLabels = omega arith; values = refl; labels = refl }
 
 -- ---- what stands at a row
 
 pub rows-counted : (text ws : List ℕ) (k : ℕ) (rs : List Row) → Rows text ws k rs → length rs ≡ k
-rows-counted text ws k rs h = ap length (sym (h .are)) ∙ length-listed (rowIn text ws) k
+rows-counted text ws k rs h = ap length (sym (h .are)) ∙ length-tabulated (rowIn text ws) k
 
 pub row-at : (text ws : List ℕ) (k : ℕ) (rs : List Row) → Rows text ws k rs → (r : ℕ) → r < k → getElem? rs r ≡ some (rowIn text ws r)
-row-at text ws k rs h r l = ap (λ xs. getElem? xs r) (sym (h .are)) ∙ listed-at (rowIn text ws) k r l
+row-at text ws k rs h r l = ap (λ xs. getElem? xs r) (sym (h .are)) ∙ tabulated-at (rowIn text ws) k r l
 
 -- what the code reads of the row x of number r: each law takes what the function of that name gives
 module _ (text ws : List ℕ) (k : ℕ) (rs : List Row) (h : Rows text ws k rs) (r : ℕ) (x : Row) (e : getElem? rs r ≡ some x) where
   pub row-known : (r < k) × (x ≡ rowIn text ws r)
-  row-known = listed-there (rowIn text ws) k r x (ap (λ xs. getElem? xs r) (h .are) ∙ e)
+  row-known = tabulated-there (rowIn text ws) k r x (ap (λ xs. getElem? xs r) (h .are) ∙ e)
 
   pub row-inside : r < 1024
   row-inside = omega (arith, row-known .0, h .few)
@@ -199,11 +199,11 @@ module _ (text ws : List ℕ) (k : ℕ) (rs : List Row) (h : Rows text ws k rs) 
 
   values-count : length (x .values) ≡ getD ws (1024 + r) 0
   unfolding rowIn
-  values-count = ap (λ y. length (y .values)) (row-known .1) ∙ length-listed (valueIn text ws r) (getD ws (1024 + r) 0)
+  values-count = ap (λ y. length (y .values)) (row-known .1) ∙ length-tabulated (valueIn text ws r) (getD ws (1024 + r) 0)
 
   labels-count : length (x .labels) ≡ getD ws (2048 + r) 0
   unfolding rowIn
-  labels-count = ap (λ y. length (y .labels)) (row-known .1) ∙ length-listed (rowLabelIn ws r) (getD ws (2048 + r) 0)
+  labels-count = ap (λ y. length (y .labels)) (row-known .1) ∙ length-tabulated (rowLabelIn ws r) (getD ws (2048 + r) 0)
 
   pub values-read : (n : ℕ) → Cut 16 r 1024 (valueCountIn ws r) n → n ≡ length (x .values)
   values-read n w = w .is row-inside (h .narrow r (row-known .0)) ∙ sym values-count
@@ -215,12 +215,12 @@ module _ (text ws : List ℕ) (k : ℕ) (rs : List Row) (h : Rows text ws k rs) 
   unfolding rowIn
   value-read c p l is =
       ap (λ y. getElem? (y .values) c) (row-known .1)
-      ∙ listed-at (valueIn text ws r) (getD ws (1024 + r) 0) c (omega (arith, l, values-count))
+      ∙ tabulated-at (valueIn text ws r) (getD ws (1024 + r) 0) c (omega (arith, l, values-count))
       ∙ ap (λ n. some (writtenAt text n)) (sym (is row-inside (omega (arith, l, values-count, h .narrow r (row-known .0)))))
 
   pub label-read : (c p : ℕ) → c < length (x .labels) → (r < 1024 → c < 16 → p ≡ getD ws (19456 + 16 * r + c) 0) → getElem? (x .labels) c ≡ some p
   unfolding rowIn
   label-read c p l is =
       ap (λ y. getElem? (y .labels) c) (row-known .1)
-      ∙ listed-at (rowLabelIn ws r) (getD ws (2048 + r) 0) c (omega (arith, l, labels-count))
+      ∙ tabulated-at (rowLabelIn ws r) (getD ws (2048 + r) 0) c (omega (arith, l, labels-count))
       ∙ ap some (sym (is row-inside (omega (arith, l, labels-count, h .marked r (row-known .0)))))

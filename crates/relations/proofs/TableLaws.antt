@@ -15,13 +15,13 @@ use Rattle.form.specs.Form.{Scheme, byCell, unlabelled}
 use Rattle.workspace.specs.Cells.{kindOfCell}
 use Rattle.workspace.specs.Found.{FoundBelow}
 use Rattle.relations.specs.Tables.{ColumnStored, Cut, Filling, Tables, columnCountIn, columnIn, columnKindIn, columnLabelIn, columnLabelsIn, schemeBy, schemeIn, schemeOfCell, tableIn, tableLabelIn}
-use Rattle.workspace.specs.Listed.{listed}
+use Rattle.workspace.specs.Tabulated.{tabulated}
 use Rattle.workspace.specs.declared.found.Found.{Found}
 use Rattle.workspace.specs.declared.found.Found.the-variants as found
 use Rattle.form.specs.declared.lines.Scheme as coded
 use Rattle.workspace.proofs.CellLaws.{kept-3, kept-4}
 use Rattle.workspace.proofs.Finding.{found-first, found-from}
-use Rattle.workspace.proofs.ListedLaws.{length-listed, listed-at, listed-pushed, listed-same}
+use Rattle.workspace.proofs.TabulatedLaws.{length-tabulated, tabulated-at, tabulated-pushed, tabulated-same}
 use Rattle.lists.specs.Lists.{findIndex}
 use Rattle.text.specs.Words.{Word, isCalled, wordAt}
 
@@ -38,13 +38,13 @@ by-cell (suc (suc (suc (suc n)))) l ls a b c d = refl
 
 module _ (ws : List ℕ) (t : ℕ) where
   -- a scheme by its number
-  pub scheme-number : (n : ℕ) → getD ws (8 + t) 0 ≡ n → schemeIn ws t ≡ schemeOfCell n (getD ws (16 + t) 0) (listed (columnLabelIn ws t) (getD ws (24 + t) 0))
+  pub scheme-number : (n : ℕ) → getD ws (8 + t) 0 ≡ n → schemeIn ws t ≡ schemeOfCell n (getD ws (16 + t) 0) (tabulated (columnLabelIn ws t) (getD ws (24 + t) 0))
   unfolding schemeIn
-  scheme-number n e = ap (λ m. schemeOfCell m (getD ws (16 + t) 0) (listed (columnLabelIn ws t) (getD ws (24 + t) 0))) e
+  scheme-number n e = ap (λ m. schemeOfCell m (getD ws (16 + t) 0) (tabulated (columnLabelIn ws t) (getD ws (24 + t) 0))) e
 
   pub scheme-over : let n = getD ws (8 + t) 0 in (n ≡ 0 → ⊥) → (n ≡ 1 → ⊥) → (n ≡ 2 → ⊥) → (n ≡ 3 → ⊥) → schemeIn ws t ≡ byCell
   unfolding schemeIn
-  scheme-over a b c d = by-cell (getD ws (8 + t) 0) (getD ws (16 + t) 0) (listed (columnLabelIn ws t) (getD ws (24 + t) 0)) a b c d
+  scheme-over a b c d = by-cell (getD ws (8 + t) 0) (getD ws (16 + t) 0) (tabulated (columnLabelIn ws t) (getD ws (24 + t) 0)) a b c d
 
 -- ---- what stores leave
 
@@ -75,21 +75,21 @@ module _ (text ws ws′ : List ℕ) where
     columns = columns j;
   }
     where
-      labels : listed (columnLabelIn ws′ t) (getD ws′ (24 + t) 0) ≡ listed (columnLabelIn ws t) (getD ws (24 + t) 0)
+      labels : tabulated (columnLabelIn ws′ t) (getD ws′ (24 + t) 0) ≡ tabulated (columnLabelIn ws t) (getD ws (24 + t) 0)
       labels =
-          ap (listed (columnLabelIn ws′ t)) (s .width)
-          ∙ listed-same (columnLabelIn ws′ t) (columnLabelIn ws t) (getD ws (24 + t) 0) (λ c l. s .columnLabel c (omega (arith, l, n)))
+          ap (tabulated (columnLabelIn ws′ t)) (s .width)
+          ∙ tabulated-same (columnLabelIn ws′ t) (columnLabelIn ws t) (getD ws (24 + t) 0) (λ c l. s .columnLabel c (omega (arith, l, n)))
 
-      columns : listed (columnIn text ws′ t) (getD ws′ (24 + t) 0) ≡ listed (columnIn text ws t) (getD ws (24 + t) 0)
+      columns : tabulated (columnIn text ws′ t) (getD ws′ (24 + t) 0) ≡ tabulated (columnIn text ws t) (getD ws (24 + t) 0)
       columns =
-          ap (listed (columnIn text ws′ t)) (s .width)
-          ∙ listed-same (columnIn text ws′ t) (columnIn text ws t) (getD ws (24 + t) 0) (λ c l. column-same t c (s .columnName c (omega (arith, l, n))) (s .columnKind c (omega (arith, l, n))))
+          ap (tabulated (columnIn text ws′ t)) (s .width)
+          ∙ tabulated-same (columnIn text ws′ t) (columnIn text ws t) (getD ws (24 + t) 0) (λ c l. column-same t c (s .columnName c (omega (arith, l, n))) (s .columnKind c (omega (arith, l, n))))
 
   tables-same : (k : ℕ) (ts : List Table) → ((t : ℕ) → t < k → SameTable ws ws′ t) → Tables text ws k ts → Tables text ws′ k ts
   tables-same k ts s h = record {
     few = h .few;
     narrow = λ t l. subst (λ (n : ℕ). n ≤ 16) (sym (s t l .width)) (h .narrow t l);
-    are = listed-same (tableIn text ws′) (tableIn text ws) k (λ t l. table-same t (s t l) (h .narrow t l)) ∙ h .are;
+    are = tabulated-same (tableIn text ws′) (tableIn text ws) k (λ t l. table-same t (s t l) (h .narrow t l)) ∙ h .are;
   }
 
 -- ---- a column is stored
@@ -120,7 +120,7 @@ module _ (ws : List ℕ) (t c pos kind label : ℕ) (long : length ws ≡ 416) (
     grown = λ text cs ls l m h. record {
       few = omega (arith, s);
       columns =
-          listed-pushed (columnIn text ws t) (columnIn text w3 t) c cs (record { name = wordAt text pos; kind = type }) (h .columns)
+          tabulated-pushed (columnIn text ws t) (columnIn text w3 t) c cs (record { name = wordAt text pos; kind = type }) (h .columns)
           (λ n b. column-same text ws w3 t n (elsewhere (32 + 16 * t + n) (λ d p e. omega (arith, e, p, b, s))) (elsewhere (160 + 16 * t + n) (λ d p e. omega (arith, e, p, b, s))))
           (column-is text ws w3 t c pos type
           (getD-set-other w2 (288 + 16 * t + c) (32 + 16 * t + c) label 0 (λ e. omega (arith, e))
@@ -131,7 +131,7 @@ module _ (ws : List ℕ) (t c pos kind label : ℕ) (long : length ws ≡ 416) (
           ∙ getD-set-same w1 (160 + 16 * t + c) kind 0 (omega (arith, long, inside, s, length-set ws (32 + 16 * t + c) pos)))
           ∙ is));
       labels =
-          listed-pushed (columnLabelIn ws t) (columnLabelIn w3 t) c ls label (h .labels)
+          tabulated-pushed (columnLabelIn ws t) (columnLabelIn w3 t) c ls label (h .labels)
           (λ n b. elsewhere (288 + 16 * t + n) (λ d p e. omega (arith, e, p, b, s)))
           (getD-set-same w2 (288 + 16 * t + c) label 0 (omega (arith, long, inside, s, length-set ws (32 + 16 * t + c) pos, length-set w1 (160 + 16 * t + c) kind)));
     };
@@ -162,16 +162,16 @@ table-counted text ws k pos number label c scheme ts cs ls l h f en es el ec is 
   few = omega (arith, l);
   narrow = below-more (λ t. getD ws (24 + t) 0 ≤ 16) k (h .narrow) (omega (arith, ec, f .few));
   are =
-      listed-pushed (tableIn text ws) (tableIn text ws) k ts (record { name = wordAt text pos; scheme = scheme; columns = cs }) (h .are) (λ t b. refl)
+      tabulated-pushed (tableIn text ws) (tableIn text ws) k ts (record { name = wordAt text pos; scheme = scheme; columns = cs }) (h .are) (λ t b. refl)
       ((λ j. record { name = wordAt text (en j); scheme = schemeOfCell (es j) (el j) (labels j); columns = columns j })
       ∙ ap (λ x. record { name = wordAt text pos; scheme = x; columns = cs }) is);
 }
   where
-    labels : listed (columnLabelIn ws k) (getD ws (24 + k) 0) ≡ ls
-    labels = ap (listed (columnLabelIn ws k)) ec ∙ f .labels
+    labels : tabulated (columnLabelIn ws k) (getD ws (24 + k) 0) ≡ ls
+    labels = ap (tabulated (columnLabelIn ws k)) ec ∙ f .labels
 
-    columns : listed (columnIn text ws k) (getD ws (24 + k) 0) ≡ cs
-    columns = ap (listed (columnIn text ws k)) ec ∙ f .columns
+    columns : tabulated (columnIn text ws k) (getD ws (24 + k) 0) ≡ cs
+    columns = ap (tabulated (columnIn text ws k)) ec ∙ f .columns
 
 module _ (ws : List ℕ) (k pos number label c : ℕ) (long : length ws ≡ 416) (inside : k < 8) where
   abbrev w4 : List ℕ
@@ -201,10 +201,10 @@ module _ (ws : List ℕ) (k pos number label c : ℕ) (long : length ws ≡ 416)
   filling-same text cs ls f = record {
     few = f .few;
     columns =
-        listed-same (columnIn text w4 k) (columnIn text ws k) c
+        tabulated-same (columnIn text w4 k) (columnIn text ws k) c
         (λ n l. column-same text ws w4 k n (besides (32 + 16 * k + n) (λ b m e. omega (arith, e, m, inside))) (besides (160 + 16 * k + n) (λ b m e. omega (arith, e, m, inside))))
         ∙ f .columns;
-    labels = listed-same (columnLabelIn w4 k) (columnLabelIn ws k) c (λ n l. besides (288 + 16 * k + n) (λ b m e. omega (arith, e, m, inside))) ∙ f .labels;
+    labels = tabulated-same (columnLabelIn w4 k) (columnLabelIn ws k) c (λ n l. besides (288 + 16 * k + n) (λ b m e. omega (arith, e, m, inside))) ∙ f .labels;
   }
 
   pub table-added : (text : List ℕ) (scheme : Scheme ℕ) (ts : List Table) (cs : List Column) (ls : List ℕ) → schemeOfCell number label ls ≡ scheme → Tables text ws k ts → Filling text ws k c cs ls
@@ -234,29 +234,29 @@ module _ (ws : List ℕ) (k pos number label c : ℕ) (long : length ws ≡ 416)
 
 -- before any table
 pub no-tables : (text ws : List ℕ) → Tables text ws 0 []
-unfolding listed
+unfolding tabulated
 no-tables text ws = record { few = omega arith; narrow = λ t l. absurd (omega (arith, l)); are = refl }
 
 -- before any column of a table
 pub table-empty : (text ws : List ℕ) (t : ℕ) → Filling text ws t 0 [] []
-unfolding listed
+unfolding tabulated
 table-empty text ws t = record { few = omega arith; columns = refl; labels = refl }
 
 -- ---- looking one up
 
 -- a table
 pub table-found : {text ws : List ℕ} {k : ℕ} {ts : List Table} (w : Word) → Tables text ws k ts
-    → findIndex (λ p. isCalled w (wordAt text p)) (listed (λ i. getD ws (0 + i) 0) k) ≡ findIndex (λ x. isCalled w (x .name)) ts
+    → findIndex (λ p. isCalled w (wordAt text p)) (tabulated (λ i. getD ws (0 + i) 0) k) ≡ findIndex (λ x. isCalled w (x .name)) ts
 unfolding tableIn
 table-found {text} {ws} {k} {ts} w h = found-first (isCalled w) (λ x. x .name) text ws (tableIn text ws) k ts (λ i. refl) (h .are)
 
 -- a column of a table, among as many as the code reads
 pub column-found : (text ws : List ℕ) (k t n : ℕ) (ts : List Table) (w : Word) → Tables text ws k ts → t < k → Cut 16 t 8 (getD ws (24 + t) 0) n
-    → findIndex (λ p. isCalled w (wordAt text p)) (listed (λ i. getD ws (32 + 16 * t + i) 0) n) ≡ columnOf (listed (columnIn text ws t) (getD ws (24 + t) 0)) w
+    → findIndex (λ p. isCalled w (wordAt text p)) (tabulated (λ i. getD ws (32 + 16 * t + i) 0) n) ≡ columnOf (tabulated (columnIn text ws t) (getD ws (24 + t) 0)) w
 unfolding columnIn columnOf
 column-found text ws k t n ts w h l cut =
-    found-from (isCalled w) (λ x. x .name) text ws (columnIn text ws t) n (32 + 16 * t) (listed (columnIn text ws t) (getD ws (24 + t) 0)) (λ i. refl)
-    (ap (listed (columnIn text ws t)) (cut .is (omega (arith, l, h .few)) (h .narrow t l)))
+    found-from (isCalled w) (λ x. x .name) text ws (columnIn text ws t) n (32 + 16 * t) (tabulated (columnIn text ws t) (getD ws (24 + t) 0)) (λ i. refl)
+    (ap (tabulated (columnIn text ws t)) (cut .is (omega (arith, l, h .few)) (h .narrow t l)))
 
 pub below-wider : (r : Found) (n m : ℕ) → n ≤ m → FoundBelow r n → FoundBelow r m
 below-wider found.Nothing n m l b = tt
@@ -265,17 +265,17 @@ below-wider (found.At i) n m l b = omega (arith, l, b)
 -- ---- what stands at a table
 
 pub tables-counted : (text ws : List ℕ) (k : ℕ) (ts : List Table) → Tables text ws k ts → length ts ≡ k
-tables-counted text ws k ts h = ap length (sym (h .are)) ∙ length-listed (tableIn text ws) k
+tables-counted text ws k ts h = ap length (sym (h .are)) ∙ length-tabulated (tableIn text ws) k
 
 pub table-at : (text ws : List ℕ) (k : ℕ) (ts : List Table) → Tables text ws k ts → (t : ℕ) → t < k → getElem? ts t ≡ some (tableIn text ws t)
-table-at text ws k ts h t l = ap (λ xs. getElem? xs t) (sym (h .are)) ∙ listed-at (tableIn text ws) k t l
+table-at text ws k ts h t l = ap (λ xs. getElem? xs t) (sym (h .are)) ∙ tabulated-at (tableIn text ws) k t l
 
 module _ (text ws : List ℕ) (k t : ℕ) (d : Policy) (h : Tables text ws k (d .tables)) (l : t < k) where
   pub scheme-at : schemeAt d t ≡ schemeIn ws t
   unfolding schemeAt tableIn
   scheme-at = ap (λ o. Option·getD (Option·map (λ x. x .scheme) o) unlabelled) (table-at text ws k (d .tables) h t l)
 
-  pub columns-at : columnsAt d t ≡ listed (columnIn text ws t) (getD ws (24 + t) 0)
+  pub columns-at : columnsAt d t ≡ tabulated (columnIn text ws t) (getD ws (24 + t) 0)
   unfolding columnsAt tableIn
   columns-at = ap (λ o. Option·getD (Option·map (λ x. x .columns) o) []) (table-at text ws k (d .tables) h t l)
 
@@ -283,27 +283,27 @@ module _ (text ws : List ℕ) (k t : ℕ) (d : Policy) (h : Tables text ws k (d 
   table-inside = omega (arith, l, h .few)
 
   columns-count : length (columnsAt d t) ≡ getD ws (24 + t) 0
-  columns-count = ap length columns-at ∙ length-listed (columnIn text ws t) (getD ws (24 + t) 0)
+  columns-count = ap length columns-at ∙ length-tabulated (columnIn text ws t) (getD ws (24 + t) 0)
 
   -- what the code reads of the table: each law takes what the function of that name gives
   pub width-read : (n : ℕ) → Cut 16 t 8 (columnCountIn ws t) n → n ≡ length (columnsAt d t)
   width-read n w = w .is table-inside (h .narrow t l) ∙ sym columns-count
 
   pub scheme-read : (s : coded.Scheme) → (t < 8 → schemeIn ws t ≡ schemeBy s (tableLabelIn ws t) (columnLabelsIn ws t))
-      → schemeAt d t ≡ schemeBy s (tableLabelIn ws t) (listed (columnLabelIn ws t) (length (columnsAt d t)))
+      → schemeAt d t ≡ schemeBy s (tableLabelIn ws t) (tabulated (columnLabelIn ws t) (length (columnsAt d t)))
   scheme-read s is =
-      scheme-at ∙ is table-inside ∙ ap (λ n. schemeBy s (tableLabelIn ws t) (listed (columnLabelIn ws t) n)) (sym columns-count)
+      scheme-at ∙ is table-inside ∙ ap (λ n. schemeBy s (tableLabelIn ws t) (tabulated (columnLabelIn ws t) n)) (sym columns-count)
 
   module _ (c : ℕ) (b : c < length (columnsAt d t)) where
     pub column-inside : c < 16
     column-inside = omega (arith, b, columns-count, h .narrow t l)
 
     pub column-at : getElem? (columnsAt d t) c ≡ some (columnIn text ws t c)
-    column-at = ap (λ xs. getElem? xs c) columns-at ∙ listed-at (columnIn text ws t) (getD ws (24 + t) 0) c (omega (arith, b, columns-count))
+    column-at = ap (λ xs. getElem? xs c) columns-at ∙ tabulated-at (columnIn text ws t) (getD ws (24 + t) 0) c (omega (arith, b, columns-count))
 
     pub column-kind-read : (r : Kind) → (t < 8 → c < 16 → r ≡ columnKindIn ws t c) → Option·map (λ x. x .kind) (getElem? (columnsAt d t) c) ≡ some r
     unfolding columnIn
     column-kind-read r is = ap (Option·map (λ x. x .kind)) column-at ∙ ap some (sym (is table-inside column-inside))
 
-    pub column-label-read : (x : ℕ) → (t < 8 → c < 16 → x ≡ columnLabelIn ws t c) → getElem? (listed (columnLabelIn ws t) (length (columnsAt d t))) c ≡ some x
-    column-label-read x is = listed-at (columnLabelIn ws t) (length (columnsAt d t)) c b ∙ ap some (sym (is table-inside column-inside))
+    pub column-label-read : (x : ℕ) → (t < 8 → c < 16 → x ≡ columnLabelIn ws t c) → getElem? (tabulated (columnLabelIn ws t) (length (columnsAt d t))) c ≡ some x
+    column-label-read x is = tabulated-at (columnLabelIn ws t) (length (columnsAt d t)) c b ∙ ap some (sym (is table-inside column-inside))

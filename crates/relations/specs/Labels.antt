@@ -9,7 +9,7 @@ use mathlib.Core.Path.{_≡_}
 use Rattle.condition.specs.Kinds.{numbers}
 use Rattle.document.specs.Open.{labelOpen}
 use Rattle.document.specs.Policy.{Label, Policy}
-use Rattle.workspace.specs.Listed.{listed}
+use Rattle.workspace.specs.Tabulated.{tabulated}
 use Rattle.lists.specs.Lists.{member, there}
 use Rattle.purpose.specs.Members.{members, words}
 use Rattle.text.specs.Words.{wordAt}
@@ -24,14 +24,14 @@ pub record SetStored (was sets : List ℕ) (i : ℕ) (s : List ℕ) : Type 0 whe
   pub others : (j : ℕ) → (j ≡ i → ⊥) → setIn sets j ≡ setIn was j
 
 -- the words hold the numbers of the list
-pub record Holds (ws xs : List ℕ) : Type 0 where
+pub record SetHolds (ws xs : List ℕ) : Type 0 where
   pub same : (i : ℕ) → member i (members ws) ≡ member i xs
 
 pub record Labels (text ws sets : List ℕ) (k : ℕ) (ls : List Label) : Type 0 where
   pub few : k ≤ 64
-  pub named : listed (λ i. wordAt text (getD ws i 0)) k ≡ map (λ l. l .name) ls
-  pub allowed : (i : ℕ) (l : Label) → getElem? ls i ≡ some l → Holds (setIn sets i) (l .marks .allowed)
-  pub denied : (i : ℕ) (l : Label) → getElem? ls i ≡ some l → Holds (setIn sets (64 + i)) (l .marks .denied)
+  pub named : tabulated (λ i. wordAt text (getD ws i 0)) k ≡ map (λ l. l .name) ls
+  pub allowed : (i : ℕ) (l : Label) → getElem? ls i ≡ some l → SetHolds (setIn sets i) (l .marks .allowed)
+  pub denied : (i : ℕ) (l : Label) → getElem? ls i ≡ some l → SetHolds (setIn sets (64 + i)) (l .marks .denied)
 
 -- the truths say of each label whether it is open to the purpose p; a label that is not there is closed
 pub record Opened (d : Policy) (p : ℕ) (truths : List Bool) : Type 0 where

@@ -5,7 +5,7 @@ use lib.ListN.{getD}
 use mathlib.Core.List.{List, [], _++_, _∷_}
 use mathlib.Core.Path.{_≡_}
 use Rattle.document.specs.Policy.{Row}
-use Rattle.workspace.specs.Listed.{listed}
+use Rattle.workspace.specs.Tabulated.{tabulated}
 use Rattle.text.specs.Numbers.{Value}
 use Rattle.text.specs.Words.{writtenAt}
 
@@ -35,7 +35,7 @@ rowLabelIn ws r c = getD ws (19456 + 16 * r + c) 0
 
 -- the labels of row r
 abbrev pub labelsIn : List ℕ → ℕ → List ℕ
-labelsIn ws r = listed (rowLabelIn ws r) (labelCountIn ws r)
+labelsIn ws r = tabulated (rowLabelIn ws r) (labelCountIn ws r)
 
 -- the table of row r
 abbrev pub rowTableIn : List ℕ → ℕ → ℕ
@@ -44,7 +44,7 @@ rowTableIn ws r = getD ws r 0
 unfoldable pub rowIn : List ℕ → List ℕ → ℕ → Row
 rowIn text ws r = record {
   table = rowTableIn ws r;
-  values = listed (valueIn text ws r) (valueCountIn ws r);
+  values = tabulated (valueIn text ws r) (valueCountIn ws r);
   labels = labelsIn ws r;
 }
 
@@ -52,14 +52,14 @@ pub record Rows (text ws : List ℕ) (k : ℕ) (rs : List Row) : Type 0 where
   pub few : k ≤ 1024
   pub narrow : (r : ℕ) → r < k → valueCountIn ws r ≤ 16
   pub marked : (r : ℕ) → r < k → labelCountIn ws r ≤ labelRoom
-  pub are : listed (rowIn text ws) k ≡ rs
+  pub are : tabulated (rowIn text ws) k ≡ rs
 
 -- the first c values and the first m labels of row r, whatever its numbers of them say: a row that is being written
 pub record FillingRow (text ws : List ℕ) (r c m : ℕ) (vs : List Value) (ls : List ℕ) : Type 0 where
   pub few : c ≤ 16
   pub fewLabels : m ≤ labelRoom
-  pub values : listed (valueIn text ws r) c ≡ vs
-  pub labels : listed (rowLabelIn ws r) m ≡ ls
+  pub values : tabulated (valueIn text ws r) c ≡ vs
+  pub labels : tabulated (rowLabelIn ws r) m ≡ ls
 
 -- value c of row r is stored: the rows before it stay, and the row has one value more
 pub record ValueStored (before after : List ℕ) (r c pos : ℕ) : Type 0 where

@@ -7,7 +7,7 @@ use mathlib.Core.Path.{_≡_}
 use Rattle.condition.specs.Kinds.{Kind}
 use Rattle.document.specs.Policy.{Column, Table}
 use Rattle.form.specs.Form.{Scheme, byCell, byColumn, byRow, byTable, unlabelled}
-use Rattle.workspace.specs.Listed.{listed}
+use Rattle.workspace.specs.Tabulated.{tabulated}
 use Rattle.text.specs.Words.{wordAt}
 use Rattle.form.specs.declared.lines.Scheme as coded
 use Rattle.form.specs.declared.lines.Scheme.the-variants as scheme
@@ -35,7 +35,7 @@ columnLabelIn ws t c = getD ws (288 + 16 * t + c) 0
 
 -- the labels of the columns of table t
 abbrev pub columnLabelsIn : List ℕ → ℕ → List ℕ
-columnLabelsIn ws t = listed (columnLabelIn ws t) (columnCountIn ws t)
+columnLabelsIn ws t = tabulated (columnLabelIn ws t) (columnCountIn ws t)
 
 -- the scheme by its number, the label of the table, and those of the columns
 unfoldable pub schemeOfCell : ℕ → ℕ → List ℕ → Scheme ℕ
@@ -58,7 +58,7 @@ schemeIn ws t = schemeOfCell (getD ws (8 + t) 0) (tableLabelIn ws t) (columnLabe
 
 -- the columns of table t
 abbrev pub columnsIn : List ℕ → List ℕ → ℕ → List Column
-columnsIn text ws t = listed (columnIn text ws t) (columnCountIn ws t)
+columnsIn text ws t = tabulated (columnIn text ws t) (columnCountIn ws t)
 
 unfoldable pub tableIn : List ℕ → List ℕ → ℕ → Table
 tableIn text ws t = record { name = wordAt text (getD ws t 0); scheme = schemeIn ws t; columns = columnsIn text ws t }
@@ -66,13 +66,13 @@ tableIn text ws t = record { name = wordAt text (getD ws t 0); scheme = schemeIn
 pub record Tables (text ws : List ℕ) (k : ℕ) (ts : List Table) : Type 0 where
   pub few : k ≤ 8
   pub narrow : (t : ℕ) → t < k → columnCountIn ws t ≤ 16
-  pub are : listed (tableIn text ws) k ≡ ts
+  pub are : tabulated (tableIn text ws) k ≡ ts
 
 -- the first c columns of table t and their labels, whatever its number of columns says: a table that is being written
 pub record Filling (text ws : List ℕ) (t c : ℕ) (cs : List Column) (ls : List ℕ) : Type 0 where
   pub few : c ≤ 16
-  pub columns : listed (columnIn text ws t) c ≡ cs
-  pub labels : listed (columnLabelIn ws t) c ≡ ls
+  pub columns : tabulated (columnIn text ws t) c ≡ cs
+  pub labels : tabulated (columnLabelIn ws t) c ≡ ls
 
 -- column c of table t is stored: the tables before it stay, and the table has one column more
 pub record ColumnStored (before after : List ℕ) (t c pos : ℕ) (kind : Kind) (label : ℕ) : Type 0 where

@@ -19,7 +19,7 @@ ghost use mathlib.Core.Path.{_≡_};
 ghost use Rattle.document.specs.Open.{labelOpen};
 ghost use Rattle.document.specs.Policy.{Label, Policy, treeOf};
 ghost use Rattle.workspace.specs.Found.{FoundBelow, foundAs};
-ghost use Rattle.relations.specs.Labels.{Holds, Labels, Opened, SetStored, setIn};
+ghost use Rattle.relations.specs.Labels.{Labels, Opened, SetHolds, SetStored, setIn};
 ghost use Rattle.lists.specs.Lists.{findIndex};
 ghost use Rattle.purpose.specs.Compliance.{opens};
 ghost use Rattle.purpose.specs.Meaning.{ClosureOf};
@@ -104,7 +104,7 @@ pub fn add_label(
     allowed: [u64; WORDS],
     denied: [u64; WORDS],
 )
-    ensures { λ _. ⌜ ((text : List ℕ) (ls : List Label) (xs ys : List ℕ) → Labels text (now (ws .entry)) (now (sets .entry)) k ls → k < 64 → Holds allowed xs → Holds denied ys → Labels text (now (ws .exit)) (now (sets .exit)) (k + 1) (ls ++ (record { name = wordAt text pos; marks = record { allowed = xs; denied = ys } } ∷ []))) ⌝ }
+    ensures { λ _. ⌜ ((text : List ℕ) (ls : List Label) (xs ys : List ℕ) → Labels text (now (ws .entry)) (now (sets .entry)) k ls → k < 64 → SetHolds allowed xs → SetHolds denied ys → Labels text (now (ws .exit)) (now (sets .exit)) (k + 1) (ls ++ (record { name = wordAt text pos; marks = record { allowed = xs; denied = ys } } ∷ []))) ⌝ }
 {
     if k < LABELS {
         put(ws, k, pos);

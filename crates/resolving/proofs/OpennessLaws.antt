@@ -9,13 +9,13 @@ use native.Mathlib.Omega.{arith}
 use Rattle.document.specs.Lookup.{columnOf, columnsAt, schemeAt}
 use Rattle.document.specs.Open.{columnOpen, labelOpen, tableOpen}
 use Rattle.document.specs.Policy.{Policy}
-use Rattle.workspace.proofs.ListedLaws.{length-listed}
+use Rattle.workspace.proofs.TabulatedLaws.{length-tabulated}
 use Rattle.relations.proofs.TableLaws.{column-label-read, scheme-read, width-read}
 use Rattle.relations.specs.Labels.{Opened}
 use Rattle.relations.specs.Tables.{Cut, Tables, columnCountIn, columnLabelIn, columnLabelsIn, schemeBy, schemeIn, tableLabelIn}
-use Rattle.workspace.specs.Listed.{listed}
+use Rattle.workspace.specs.Tabulated.{tabulated}
 use Rattle.form.specs.declared.lines.Scheme as coded
-use Rattle.lists.specs.Lists.{holdsOf, known}
+use Rattle.lists.specs.Lists.{holdsOf, orZero}
 use Rattle.query.specs.Naming.{wordsAt}
 use Rattle.resolving.proofs.TakenLaws.{mapped-at}
 use Rattle.text.proofs.FirstOffending.{first-missing, none-missing}
@@ -35,11 +35,11 @@ no-label d p = refl
 
 -- the labels of the columns of table t, as the array holds them
 abbrev pub labelsIn : List ℕ → ℕ → Policy → List ℕ
-labelsIn ws t d = listed (columnLabelIn ws t) (length (columnsAt d t))
+labelsIn ws t d = tabulated (columnLabelIn ws t) (length (columnsAt d t))
 
 -- the label of the column of this name is open
 abbrev pub openAt : List ℕ → ℕ → Policy → ℕ → Word → Bool
-openAt ws t d p w = labelOpen d p (getElem? (labelsIn ws t d) (known (columnOf (columnsAt d t) w)))
+openAt ws t d p w = labelOpen d p (getElem? (labelsIn ws t d) (orZero (columnOf (columnsAt d t) w)))
 
 module _ (text ws : List ℕ) (k t : ℕ) (d : Policy) (p : ℕ) (h : Tables text ws k (d .tables)) (l : t < k) where
   -- a column's label, if the table has the column
@@ -51,7 +51,7 @@ module _ (text ws : List ℕ) (k t : ℕ) (d : Policy) (p : ℕ) (h : Tables tex
 
     pub column-lacking : n ≤ c → false ≡ labelOpen d p (getElem? (labelsIn ws t d) c)
     column-lacking over =
-        sym (ap (labelOpen d p) (past-end (labelsIn ws t d) c (omega (arith, over, width-read text ws k t d h l n cut, length-listed (columnLabelIn ws t) (length (columnsAt d t))))) ∙ no-label d p)
+        sym (ap (labelOpen d p) (past-end (labelsIn ws t d) c (omega (arith, over, width-read text ws k t d h l n cut, length-tabulated (columnLabelIn ws t) (length (columnsAt d t))))) ∙ no-label d p)
 
   -- what the scheme that the code reads leaves open
   module _ (s scheme : coded.Scheme) (is : t < 8 → schemeIn ws t ≡ schemeBy s (tableLabelIn ws t) (columnLabelsIn ws t)) (e : s ≡ scheme) where
@@ -62,9 +62,9 @@ module _ (text ws : List ℕ) (k t : ℕ) (d : Policy) (p : ℕ) (h : Tables tex
     table-by = ap (tableOpen (labelOpen d p)) scheme-is
 
     pub columns-by : (words : List Word)
-        → missing (λ w. columnOpen (labelOpen d p) (schemeAt d t) (known (columnOf (columnsAt d t) w))) words
-        ≡ missing (λ w. columnOpen (labelOpen d p) (schemeBy scheme (tableLabelIn ws t) (labelsIn ws t d)) (known (columnOf (columnsAt d t) w))) words
-    columns-by words = ap (λ z. missing (λ w. columnOpen (labelOpen d p) z (known (columnOf (columnsAt d t) w))) words) scheme-is
+        → missing (λ w. columnOpen (labelOpen d p) (schemeAt d t) (orZero (columnOf (columnsAt d t) w))) words
+        ≡ missing (λ w. columnOpen (labelOpen d p) (schemeBy scheme (tableLabelIn ws t) (labelsIn ws t d)) (orZero (columnOf (columnsAt d t) w))) words
+    columns-by words = ap (λ z. missing (λ w. columnOpen (labelOpen d p) z (orZero (columnOf (columnsAt d t) w))) words) scheme-is
 
 -- ---- the first closed column
 
@@ -77,7 +77,7 @@ pub record Named (tables : List ℕ) (t : ℕ) (opened : List Bool) (places : Li
   pub longPlaces : n ≤ length places
   pub longColumns : n ≤ length columns
   pub labels : Opened d p opened
-  pub are : take n columns ≡ map (λ w. known (columnOf (columnsAt d t) w)) (wordsAt s n places)
+  pub are : take n columns ≡ map (λ w. orZero (columnOf (columnsAt d t) w)) (wordsAt s n places)
 
 module _ {tables : List ℕ} {t : ℕ} {opened : List Bool} {places : List ℕ} {n : ℕ} {columns : List ℕ} {d : Policy} {p : ℕ} {s : List ℕ} (g : Named tables t opened places n columns d p s) where
   -- what the code finds at a column's number
@@ -87,7 +87,7 @@ module _ {tables : List ℕ} {t : ℕ} {opened : List Bool} {places : List ℕ} 
   open-found i l b is =
       is d (g .text) (g .k) p (g .held) (g .inside) (g .labels)
       ∙ ap (λ c. labelOpen d p (getElem? (labelsIn tables t d) c))
-      (mapped-at (λ (w : Word). known (columnOf (columnsAt d t) w)) (wordOf s) columns places n i l (omega (arith, l, g .longColumns)) (omega (arith, l, g .longPlaces)) (g .are))
+      (mapped-at (λ (w : Word). orZero (columnOf (columnsAt d t) w)) (wordOf s) columns places n i l (omega (arith, l, g .longColumns)) (omega (arith, l, g .longPlaces)) (g .are))
 
   pub first-closed : (i : ℕ) → i < n → ((j : ℕ) → j < i → openAt tables t d p (wordOf s (getD places j 0)) ≡ true) → openAt tables t d p (wordOf s (getD places i 0)) ≡ false
       → some (wordOf s (getD places i 0)) ≡ missing (openAt tables t d p) (wordsAt s n places)

@@ -11,7 +11,7 @@ use native.Mathlib.Omega.{arith}
 use Rattle.document.specs.Lookup.{columnOf}
 use Rattle.document.specs.Policy.{Column}
 use Rattle.lists.proofs.ListLaws.{map-append}
-use Rattle.lists.specs.Lists.{known, there}
+use Rattle.lists.specs.Lists.{orZero, there}
 use Rattle.query.specs.Naming.{wordsAt}
 use Rattle.resolving.specs.Resolved.{Resolves}
 use Rattle.text.proofs.OffendingLaws.{missing-here, missing-next, missing-nil}
@@ -25,7 +25,7 @@ has cs w = there (columnOf cs w)
 
 -- the number of the column of this name
 abbrev number : List Column → Word → ℕ
-number cs w = known (columnOf cs w)
+number cs w = orZero (columnOf cs w)
 
 -- the words from place i on
 abbrev pending : List ℕ → ℕ → List ℕ → ℕ → List Word
@@ -54,14 +54,14 @@ module _ (cs : List Column) (s : List ℕ) (n : ℕ) (places numbers : List ℕ)
     module _ (l : i < n) (fits : n ≤ length places) where
       -- it names a column, whose number is stored
       pub resolving-more : n ≤ length numbers → (m : ℕ) → some m ≡ columnOf cs (wordOf s (getD places i 0)) → Resolving cs s n places (set numbers i m) (i + 1)
-      unfolding known there
+      unfolding orZero there
       resolving-more room m e = record {
         rest = r .rest ∙ ap (missing (has cs)) (next l fits) ∙ missing-next (has cs) (wordOf s (getD places i 0)) (pending s n places (i + 1)) (ap there (sym e));
         front =
             ap (λ (j : ℕ). take j (set numbers i m)) (add-one i)
             ∙ take-suc-set numbers i m (omega arith)
             ∙ ap (λ (xs : List ℕ). xs ++ (m ∷ [])) (r .front)
-            ∙ ap (λ (x : ℕ). map (number cs) (wordsAt s i places) ++ (x ∷ [])) (ap known e)
+            ∙ ap (λ (x : ℕ). map (number cs) (wordsAt s i places) ++ (x ∷ [])) (ap orZero e)
             ∙ sym (map-append (number cs) (wordsAt s i places) (wordOf s (getD places i 0) ∷ []))
             ∙ ap (map (number cs)) (sym (map-append (wordOf s) (take i places) (getD places i 0 ∷ [])))
             ∙ ap (λ (xs : List ℕ). map (number cs) (map (wordOf s) xs)) (sym (take-suc places i 0 (omega arith)))

@@ -16,7 +16,7 @@ use Rattle.document.specs.Policy.{Column, Policy}
 use Rattle.relations.proofs.TableLaws.{column-kind-read}
 use Rattle.relations.specs.Tables.{Tables, columnKindIn}
 use Rattle.lists.proofs.ListLaws.{all-here, findIndex-found, getElem?-map, map-map, there-some}
-use Rattle.lists.specs.Lists.{known, there}
+use Rattle.lists.specs.Lists.{orZero, there}
 use Rattle.resolving.proofs.TakenLaws.{mapped-at, taken-at}
 use Rattle.resolving.specs.Resolved.{Compares}
 use Rattle.text.proofs.FirstOffending.{first-of, none-of}
@@ -44,11 +44,11 @@ wrongAt d t s p = mistyped (columnKind (columnsAt d t) (comparedAt s p .of)) (co
 
 module _ {tables : List ℕ} {t : ℕ} {s ops : List ℕ} {m : ℕ} {columns : List ℕ} {base : ℕ} {d : Policy} (g : Given tables t s ops m columns base d) where
   module _ (i c : ℕ) (l : i < m) (is : c ≡ base + i) where
-    number-at : getD columns c 0 ≡ known (columnOf (columnsAt d t) (comparedAt s (getD ops i 0) .of))
+    number-at : getD columns c 0 ≡ orZero (columnOf (columnsAt d t) (comparedAt s (getD ops i 0) .of))
     number-at =
         ap (λ n. getD columns n 0) is
         ∙ sym (getD-drop base columns i 0)
-        ∙ mapped-at (λ (x : Compared). known (columnOf (columnsAt d t) (x .of))) (comparedAt s) (drop base columns) ops m i l (omega (arith, length-drop base columns, g .longColumns, l)) (omega (arith, g .longOps, l)) (g .compares .are)
+        ∙ mapped-at (λ (x : Compared). orZero (columnOf (columnsAt d t) (x .of))) (comparedAt s) (drop base columns) ops m i l (omega (arith, length-drop base columns, g .longColumns, l)) (omega (arith, g .longOps, l)) (g .compares .are)
 
     there-at : there (columnOf (columnsAt d t) (comparedAt s (getD ops i 0) .of)) ≡ true
     there-at =

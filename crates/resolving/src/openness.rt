@@ -19,8 +19,8 @@ ghost use Rattle.document.specs.Open.{columnOpen, labelOpen, tableOpen};
 ghost use Rattle.document.specs.Policy.{Policy};
 ghost use Rattle.relations.specs.Labels.{Opened};
 ghost use Rattle.relations.specs.Tables.{Tables, columnLabelIn};
-ghost use Rattle.workspace.specs.Listed.{listed};
-ghost use Rattle.lists.specs.Lists.{known};
+ghost use Rattle.workspace.specs.Tabulated.{tabulated};
+ghost use Rattle.lists.specs.Lists.{orZero};
 ghost use Rattle.query.specs.Naming.{wordsAt};
 ghost use Rattle.text.specs.CodeEnds.{offendingOf};
 ghost use Rattle.text.specs.Offending.{leftmost, missing, unless};
@@ -42,7 +42,7 @@ fn table_open(tables: &[usize; TABLE_CELLS], t: usize, opened: &[bool]) -> bool
 
 // Whether the label of column c is open; a column that the table lacks has none.
 fn column_open(tables: &[usize; TABLE_CELLS], t: usize, opened: &[bool], c: usize) -> bool
-    ensures { λ r. ⌜ ((d : Policy) (text : List ℕ) (k p : ℕ) → Tables text (now (tables .entry)) k (d .tables) → t < k → Opened d p (now (opened .entry)) → r ≡ labelOpen d p (getElem? (listed (columnLabelIn (now (tables .entry)) t) (length (columnsAt d t))) c)) ⌝ }
+    ensures { λ r. ⌜ ((d : Policy) (text : List ℕ) (k p : ℕ) → Tables text (now (tables .entry)) k (d .tables) → t < k → Opened d p (now (opened .entry)) → r ≡ labelOpen d p (getElem? (tabulated (columnLabelIn (now (tables .entry)) t) (length (columnsAt d t))) c)) ⌝ }
 {
     if c < table_width(tables, t) {
         return opened_at(opened, column_label(tables, t, c));
@@ -59,7 +59,7 @@ fn first_closed(
     n: usize,
     columns: &[usize],
 ) -> Offending
-    ensures { λ x. ⌜ ((d : Policy) (text s : List ℕ) (k p : ℕ) → Tables text (now (tables .entry)) k (d .tables) → t < k → n ≤ length (now (places .entry)) → n ≤ length (now (columns .entry)) → Opened d p (now (opened .entry)) → take n (now (columns .entry)) ≡ map (λ w. known (columnOf (columnsAt d t) w)) (wordsAt s n (now (places .entry))) → offendingOf s x ≡ missing (λ w. labelOpen d p (getElem? (listed (columnLabelIn (now (tables .entry)) t) (length (columnsAt d t))) (known (columnOf (columnsAt d t) w)))) (wordsAt s n (now (places .entry)))) ⌝ }
+    ensures { λ x. ⌜ ((d : Policy) (text s : List ℕ) (k p : ℕ) → Tables text (now (tables .entry)) k (d .tables) → t < k → n ≤ length (now (places .entry)) → n ≤ length (now (columns .entry)) → Opened d p (now (opened .entry)) → take n (now (columns .entry)) ≡ map (λ w. orZero (columnOf (columnsAt d t) w)) (wordsAt s n (now (places .entry))) → offendingOf s x ≡ missing (λ w. labelOpen d p (getElem? (tabulated (columnLabelIn (now (tables .entry)) t) (length (columnsAt d t))) (orZero (columnOf (columnsAt d t) w)))) (wordsAt s n (now (places .entry)))) ⌝ }
 {
     let mut i = 0;
     while i < n {
@@ -86,7 +86,7 @@ fn closed_column(
     n: usize,
     columns: &[usize],
 ) -> Offending
-    ensures { λ x. ⌜ ((d : Policy) (text s : List ℕ) (k p : ℕ) → Tables text (now (tables .entry)) k (d .tables) → t < k → n ≤ length (now (places .entry)) → n ≤ length (now (columns .entry)) → Opened d p (now (opened .entry)) → take n (now (columns .entry)) ≡ map (λ w. known (columnOf (columnsAt d t) w)) (wordsAt s n (now (places .entry))) → offendingOf s x ≡ missing (λ w. columnOpen (labelOpen d p) (schemeAt d t) (known (columnOf (columnsAt d t) w))) (wordsAt s n (now (places .entry)))) ⌝ }
+    ensures { λ x. ⌜ ((d : Policy) (text s : List ℕ) (k p : ℕ) → Tables text (now (tables .entry)) k (d .tables) → t < k → n ≤ length (now (places .entry)) → n ≤ length (now (columns .entry)) → Opened d p (now (opened .entry)) → take n (now (columns .entry)) ≡ map (λ w. orZero (columnOf (columnsAt d t) w)) (wordsAt s n (now (places .entry))) → offendingOf s x ≡ missing (λ w. columnOpen (labelOpen d p) (schemeAt d t) (orZero (columnOf (columnsAt d t) w))) (wordsAt s n (now (places .entry)))) ⌝ }
 {
     let scheme = table_scheme(tables, t);
     match scheme {
@@ -109,7 +109,7 @@ pub fn closed_part(
     n: usize,
     columns: &[usize; NAMED],
 ) -> Offending
-    ensures { λ x. ⌜ ((d : Policy) (text : List ℕ) (k p : ℕ) → Tables text (now (tables .entry)) k (d .tables) → t < k → n ≤ 80 → Opened d p (now (opened .entry)) → take n (now (columns .entry)) ≡ map (λ w. known (columnOf (columnsAt d t) w)) (wordsAt (now (query .entry)) n (now (places .entry))) → offendingOf (now (query .entry)) x ≡ leftmost (unless (tableOpen (labelOpen d p) (schemeAt d t)) (wordOf (now (query .entry)) at) ∷ missing (λ w. columnOpen (labelOpen d p) (schemeAt d t) (known (columnOf (columnsAt d t) w))) (wordsAt (now (query .entry)) n (now (places .entry))) ∷ [])) ⌝ }
+    ensures { λ x. ⌜ ((d : Policy) (text : List ℕ) (k p : ℕ) → Tables text (now (tables .entry)) k (d .tables) → t < k → n ≤ 80 → Opened d p (now (opened .entry)) → take n (now (columns .entry)) ≡ map (λ w. orZero (columnOf (columnsAt d t) w)) (wordsAt (now (query .entry)) n (now (places .entry))) → offendingOf (now (query .entry)) x ≡ leftmost (unless (tableOpen (labelOpen d p) (schemeAt d t)) (wordOf (now (query .entry)) at) ∷ missing (λ w. columnOpen (labelOpen d p) (schemeAt d t) (orZero (columnOf (columnsAt d t) w))) (wordsAt (now (query .entry)) n (now (places .entry))) ∷ [])) ⌝ }
 {
     if !table_open(tables, t, opened) {
         return Offending::At(at);

@@ -14,7 +14,7 @@ use Rattle.document.specs.ValueFaults.{misfit, rowValues}
 use Rattle.form.specs.Form.{Item, row}
 use Rattle.lists.proofs.ListLaws.{holdsOf-some, there-some}
 use Rattle.lists.proofs.Tests.{not-false}
-use Rattle.lists.specs.Lists.{allOf, known, there}
+use Rattle.lists.specs.Lists.{allOf, orZero, there}
 use Rattle.text.proofs.OffendingLaws.{leftmost-head, leftmost-tail, missing-none, unless-none}
 use Rattle.text.proofs.RefusalLaws.{refuseAt-accepted, refuseIf-accepted, then-accepted}
 use Rattle.text.specs.Refusal.{accepted, document}
@@ -22,7 +22,7 @@ use Rattle.text.specs.Words.{Word}
 
 -- the table is known and so is each label; the items have a value for each column
 pub record RowAccepted (d : Doc) (w : Word) (is : List Item) : Type 0 where
-  pub table : tableOf (d .policy) w ≡ some (known (tableOf (d .policy) w))
+  pub table : tableOf (d .policy) w ≡ some (orZero (tableOf (d .policy) w))
   pub labels : allOf (λ v. there (labelOf (d .policy) v)) (rowLabels (schemeOf (d .policy) w) is) ≡ true
   pub words : List Word
   pub values : rowValues (schemeOf (d .policy) w) is ≡ some words

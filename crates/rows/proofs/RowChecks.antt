@@ -13,7 +13,7 @@ use Rattle.document.specs.NameFaults.{bracketLabels}
 use Rattle.document.specs.Policy.{Column, Policy}
 use Rattle.document.specs.TypeFaults.{mistypedValue}
 use Rattle.rows.proofs.RowItems.{values-more, values-stop}
-use Rattle.rows.specs.RowWords.{labelAt, valueAt, valuesAt}
+use Rattle.rows.specs.RowWords.{itemValueAt, labelAt, valuesAt}
 use Rattle.form.proofs.WalkSteps.{item-bracket, item-plain, items-more, items-stop}
 use Rattle.form.specs.Form.{Item, labelled, plain}
 use Rattle.form.specs.Walks.{cellLabelIn, firstIn, itemAt, itemEndAt, itemsAt}
@@ -105,8 +105,8 @@ module _ (text ws : List ℕ) (k t : ℕ) (d : Policy) (h : Tables text ws k (d 
   unfolding columnIn
   kind-is = sym (kind (table-inside text ws k t d h l) (column-inside text ws k t d h l c inside))
 
-  value-is : valueAt s (i + 1) ≡ wordOf s v
-  unfolding valueAt firstIn
+  value-is : itemValueAt s (i + 1) ≡ wordOf s v
+  unfolding itemValueAt firstIn
   value-is = ap (writtenOf s) (sym place) ∙ (λ j. record { at = v; bytes = written-word s v j })
 
   types-step : mistypedValue (drop c (columnsAt d t)) (valuesAt s i) ≡ leftmost (unless b (wordOf s v) ∷ mistypedValue (drop (c + 1) (columnsAt d t)) (valuesAt s (itemEndAt s (i + 1))) ∷ [])

@@ -9,7 +9,7 @@ use mathlib.Core.Option.{Option, Option·map, Option·none-ne-some, Option·some
 use mathlib.Core.Path.{_∙_, _≡_, ap, refl, sym}
 use native.Mathlib.Omega.{arith}
 use Rattle.document.specs.ValueFaults.{bracketValues, plainValues, valuesBehindLabel}
-use Rattle.rows.specs.RowWords.{shapedValues, valueAt, valuesAt}
+use Rattle.rows.specs.RowWords.{itemValueAt, shapedValues, valuesAt}
 use Rattle.form.proofs.WalkLaws.{item-onward, walk-more, walk-stop}
 use Rattle.form.proofs.WalkSteps.{item-bracket, item-plain, items-more, items-stop}
 use Rattle.form.specs.Form.{Item, labelled, plain}
@@ -24,13 +24,13 @@ use Rattle.text.specs.Words.{Word, writtenOf}
 
 module _ (s : List ℕ) (at : ℕ) where
   -- without a bracket, the value stands where the item stands
-  pub value-plain : eqb (getD s at 0) 40 ≡ false → writtenOf s at ≡ valueAt s at
-  unfolding valueAt firstIn
+  pub value-plain : eqb (getD s at 0) 40 ≡ false → writtenOf s at ≡ itemValueAt s at
+  unfolding itemValueAt firstIn
   value-plain e = ap (writtenOf s) (sym (past-other 40 s at (eqb-false _ _ e)))
 
   -- an item of the shape that is wanted adds its value
-  pub shaped-more : (b : Bool) (is : List Item) → eqb (getD s at 0) 40 ≡ b → shapedValues b (itemAt s at ∷ is) ≡ Option·map (λ ws. valueAt s at ∷ ws) (shapedValues b is)
-  unfolding shapedValues bracketValues plainValues valueAt
+  pub shaped-more : (b : Bool) (is : List Item) → eqb (getD s at 0) 40 ≡ b → shapedValues b (itemAt s at ∷ is) ≡ Option·map (λ ws. itemValueAt s at ∷ ws) (shapedValues b is)
+  unfolding shapedValues bracketValues plainValues itemValueAt
   shaped-more true is e = ap (λ i. bracketValues (i ∷ is)) (item-bracket s at e)
   shaped-more false is e = ap (λ i. plainValues (i ∷ is)) (item-plain s at e) ∙ ap (λ w. Option·map (λ ws. w ∷ ws) (plainValues is)) (value-plain e)
 
@@ -79,7 +79,7 @@ module _ (s : List ℕ) (i n width : ℕ) (b : Bool) where
   fits-more h e =
       ap (λ is. countFits n width (shapedValues b is)) (items-more s i h)
       ∙ ap (countFits n width) (shaped-more s (i + 1) b (itemsAt s (itemEndAt s (i + 1))) e)
-      ∙ count-more n width (valueAt s (i + 1)) (shapedValues b (itemsAt s (itemEndAt s (i + 1))))
+      ∙ count-more n width (itemValueAt s (i + 1)) (shapedValues b (itemsAt s (itemEndAt s (i + 1))))
 
   pub fits-wrong : getD s i 0 ≡ 32 → eqb (getD s (i + 1) 0) 40 ≡ not b → countFits n width (shapedValues b (itemsAt s i)) ≡ false
   unfolding holdsOf
@@ -97,29 +97,29 @@ module _ (s : List ℕ) (i n width : ℕ) (b : Bool) where
 -- ---- the values by position
 
 module _ (s : List ℕ) (at : ℕ) where
-  pub values-more : getD s at 0 ≡ 32 → valuesAt s at ≡ valueAt s (at + 1) ∷ valuesAt s (itemEndAt s (at + 1))
+  pub values-more : getD s at 0 ≡ 32 → valuesAt s at ≡ itemValueAt s (at + 1) ∷ valuesAt s (itemEndAt s (at + 1))
   unfolding valuesAt
-  values-more h = walk-more valueAt itemEndAt s (item-onward s) at h
+  values-more h = walk-more itemValueAt itemEndAt s (item-onward s) at h
 
   pub values-stop : (getD s at 0 ≡ 32 → ⊥) → valuesAt s at ≡ []
   unfolding valuesAt
-  values-stop h = walk-stop valueAt itemEndAt s (item-onward s) at h
+  values-stop h = walk-stop itemValueAt itemEndAt s (item-onward s) at h
 
 -- items that are all of the shape have these values
 shaped-step : (b : Bool) (s : List ℕ) (p : ℕ) (is : List Item) (vs ws : List Word) → eqb (getD s p 0) 40 ≡ b → shapedValues b (itemAt s p ∷ is) ≡ some ws
-    → ((us : List Word) → shapedValues b is ≡ some us → vs ≡ us) → valueAt s p ∷ vs ≡ ws
+    → ((us : List Word) → shapedValues b is ≡ some us → vs ≡ us) → itemValueAt s p ∷ vs ≡ ws
 shaped-step b s p is vs ws e h rest =
-    let m = map-inv (λ us. valueAt s p ∷ us) (shapedValues b is) ws (sym (shaped-more s p b is e) ∙ h) in
-    ap (λ us. valueAt s p ∷ us) (rest (m .0) (m .1)) ∙ sym (m .2)
+    let m = map-inv (λ us. itemValueAt s p ∷ us) (shapedValues b is) ws (sym (shaped-more s p b is e) ∙ h) in
+    ap (λ us. itemValueAt s p ∷ us) (rest (m .0) (m .1)) ∙ sym (m .2)
 
-shaped-up-to : (b : Bool) (s : List ℕ) (n at : ℕ) (ws : List Word) → shapedValues b (listUpTo itemAt itemEndAt n s at) ≡ some ws → listUpTo valueAt itemEndAt n s at ≡ ws
+shaped-up-to : (b : Bool) (s : List ℕ) (n at : ℕ) (ws : List Word) → shapedValues b (listUpTo itemAt itemEndAt n s at) ≡ some ws → listUpTo itemValueAt itemEndAt n s at ≡ ws
 unfolding listUpTo
 shaped-up-to b s zero at ws h = Option·some-injective _ _ (sym (shaped-nil b) ∙ h)
 shaped-up-to b s (suc n) at ws h = go (eqb (getD s at 0) 32) (eqb (getD s (at + 1) 0) 40) refl b h (shaped-up-to b s n (itemEndAt s (at + 1)))
   where
     go : (t o : Bool) → eqb (getD s (at + 1) 0) 40 ≡ o → (b : Bool) → shapedValues b (cond t (itemAt s (at + 1) ∷ listUpTo itemAt itemEndAt n s (itemEndAt s (at + 1))) []) ≡ some ws
-        → ((vs : List Word) → shapedValues b (listUpTo itemAt itemEndAt n s (itemEndAt s (at + 1))) ≡ some vs → listUpTo valueAt itemEndAt n s (itemEndAt s (at + 1)) ≡ vs)
-        → cond t (valueAt s (at + 1) ∷ listUpTo valueAt itemEndAt n s (itemEndAt s (at + 1))) [] ≡ ws
+        → ((vs : List Word) → shapedValues b (listUpTo itemAt itemEndAt n s (itemEndAt s (at + 1))) ≡ some vs → listUpTo itemValueAt itemEndAt n s (itemEndAt s (at + 1)) ≡ vs)
+        → cond t (itemValueAt s (at + 1) ∷ listUpTo itemValueAt itemEndAt n s (itemEndAt s (at + 1))) [] ≡ ws
     go false o e b h rest = Option·some-injective _ _ (sym (shaped-nil b) ∙ h)
     go true true e true h rest = shaped-step true s (at + 1) _ _ ws e h rest
     go true false e false h rest = shaped-step false s (at + 1) _ _ ws e h rest

@@ -23,14 +23,14 @@ use Rattle.form.specs.Form.{Item, Scheme, row}
 use Rattle.relations.proofs.TableLaws.{scheme-read, width-read}
 use Rattle.workspace.specs.Found.{FoundBelow, foundAs}
 use Rattle.relations.specs.Tables.{Cut, Tables, columnCountIn, columnLabelIn, columnLabelsIn, schemeBy, schemeIn, tableLabelIn}
-use Rattle.workspace.specs.Listed.{listed}
+use Rattle.workspace.specs.Tabulated.{tabulated}
 use Rattle.workspace.specs.declared.found.Found.{Found}
 use Rattle.workspace.specs.declared.found.Found.the-variants as found
 use Rattle.text.specs.declared.offending.Offending.{Offending}
 use Rattle.text.specs.declared.offending.Offending.the-variants as offending
 use Rattle.form.specs.declared.lines.Scheme as coded
 use Rattle.lists.proofs.ListLaws.{holdsOf-some}
-use Rattle.lists.specs.Lists.{known, there}
+use Rattle.lists.specs.Lists.{orZero, there}
 use Rattle.text.proofs.OffendingLaws.{leftmost-fail, leftmost-on}
 use Rattle.text.specs.CodeEnds.{offendingOf}
 use Rattle.text.specs.Offending.{leftmost, missing, unless}
@@ -65,12 +65,12 @@ module _ (d : Doc) (line : List ℕ) (w : Word) (is : List Item) (k : ℕ) (coun
     -- the table is known
     module _ (x : ℕ) (e : tableOf (d .policy) w ≡ some x) (scheme : Scheme ℕ) (s : schemeAt (d .policy) x ≡ scheme) where
       scheme-is : schemeOf (d .policy) w ≡ scheme
-      unfolding schemeOf known
-      scheme-is = ap (λ o. schemeAt (d .policy) (known o)) e ∙ s
+      unfolding schemeOf orZero
+      scheme-is = ap (λ o. schemeAt (d .policy) (orZero o)) e ∙ s
 
       columns-are : columnsOf (d .policy) w ≡ columnsAt (d .policy) x
-      unfolding columnsOf known
-      columns-are = ap (λ o. columnsAt (d .policy) (known o)) e
+      unfolding columnsOf orZero
+      columns-are = ap (λ o. columnsAt (d .policy) (orZero o)) e
 
       unknown-is : unknown (d .policy) (row w is) ≡ missing (λ v. there (labelOf (d .policy) v)) (rowLabels scheme is)
       unfolding unknown there
@@ -118,7 +118,7 @@ module _ (text tables line : List ℕ) (n k t : ℕ) (is : List Item) (d : Doc) 
     (s : coded.Scheme) (reads : x < 8 → schemeIn tables x ≡ schemeBy s (tableLabelIn tables x) (columnLabelsIn tables x))
     (u : Offending) (label : (l : ℕ) (ls : List ℕ) → offendingOf line u ≡ missing (λ w. there (labelOf (d .policy) w)) (rowLabels (schemeBy s l ls) is)) where
   abbrev schemeRead : Scheme ℕ
-  schemeRead = schemeBy s (tableLabelIn tables x) (listed (columnLabelIn tables x) (length (columnsAt (d .policy) x)))
+  schemeRead = schemeBy s (tableLabelIn tables x) (tabulated (columnLabelIn tables x) (length (columnsAt (d .policy) x)))
 
   inside : x < n
   inside = below-at r x n told below
@@ -130,7 +130,7 @@ module _ (text tables line : List ℕ) (n k t : ℕ) (is : List Item) (d : Doc) 
   scheme-of = scheme-read text tables n x (d .policy) h inside s reads
 
   label-is : offendingOf line u ≡ missing (λ w. there (labelOf (d .policy) w)) (rowLabels schemeRead is)
-  label-is = label (tableLabelIn tables x) (listed (columnLabelIn tables x) (length (columnsAt (d .policy) x)))
+  label-is = label (tableLabelIn tables x) (tabulated (columnLabelIn tables x) (length (columnsAt (d .policy) x)))
 
   pub found-unknown : (p : ℕ) → u ≡ offending.At p → checkForm d line (row (wordOf line t) is) ≡ refused (pointing 5 document (wordOf line p))
   found-unknown p e = row-unknown d line (wordOf line t) is k counted room x table-is schemeRead scheme-of (wordOf line p) (sym label-is ∙ ap (offendingOf line) e)
@@ -142,7 +142,7 @@ module _ (text tables line : List ℕ) (n k t : ℕ) (is : List Item) (d : Doc) 
 
     fits-is : width-fits (length (columnsAt (d .policy) x)) (rowValues schemeRead is) ≡ b
     fits-is =
-        sym (fits (tableLabelIn tables x) (listed (columnLabelIn tables x) (length (columnsAt (d .policy) x)))
+        sym (fits (tableLabelIn tables x) (tabulated (columnLabelIn tables x) (length (columnsAt (d .policy) x)))
         ∙ ap (λ m. width-fits m (rowValues schemeRead is)) (width-read text tables n x (d .policy) h inside width wide))
 
     pub found-misfit : b ≡ false → checkForm d line (row (wordOf line t) is) ≡ refused (pointingAll 7 document line)
@@ -156,7 +156,7 @@ module _ (text tables line : List ℕ) (n k t : ℕ) (is : List Item) (d : Doc) 
       types-of : offendingOf line m ≡ mistypedValue (columnsAt (d .policy) x) (found-values .0)
       types-of =
           types inside
-          ∙ ap (mistypedValue (columnsAt (d .policy) x)) (values (tableLabelIn tables x) (listed (columnLabelIn tables x) (length (columnsAt (d .policy) x))) (found-values .0) (found-values .1))
+          ∙ ap (mistypedValue (columnsAt (d .policy) x)) (values (tableLabelIn tables x) (tabulated (columnLabelIn tables x) (length (columnsAt (d .policy) x))) (found-values .0) (found-values .1))
 
       pub found-mistyped : (p : ℕ) → m ≡ offending.At p → checkForm d line (row (wordOf line t) is) ≡ refused (pointing 8 document (wordOf line p))
       found-mistyped p e =

@@ -15,16 +15,16 @@ use Rattle.document.specs.Policy.{Doc, Policy, Row, Table}
 use Rattle.document.specs.ValueFaults.{bracketValues, misfit, plainValues, rowValues, valuesBehindLabel}
 use Rattle.form.specs.Form.{Item, Scheme, row}
 use Rattle.form.specs.Walks.{cellsAt, itemsAt, plainAt}
-use Rattle.workspace.proofs.ListedLaws.{length-listed}
+use Rattle.workspace.proofs.TabulatedLaws.{length-tabulated}
 use Rattle.relations.proofs.RowLaws.{row-empty, rows-counted}
 use Rattle.relations.proofs.TableLaws.{columns-at, scheme-read, tables-counted}
 use Rattle.relations.specs.Rows.{FillingRow, LabelStored, Rows}
 use Rattle.relations.specs.Tables.{Tables, columnCountIn, columnIn, columnLabelIn, columnLabelsIn, schemeBy, schemeIn, tableLabelIn}
-use Rattle.workspace.specs.Listed.{listed}
+use Rattle.workspace.specs.Tabulated.{tabulated}
 use Rattle.form.specs.declared.lines.Scheme as coded
 use Rattle.lists.proofs.ListLaws.{findIndex-found, holdsOf-some, map-map, there-some}
 use Rattle.lists.proofs.Tests.{not-false}
-use Rattle.lists.specs.Lists.{known, there}
+use Rattle.lists.specs.Lists.{orZero, there}
 use Rattle.stepping.proofs.PassLaws.{Passed, passed}
 use Rattle.rows.proofs.StoredItems.{bracket-labels, bracket-values, leading, plain-values}
 use Rattle.stepping.specs.Stored.{Passes, RowFilled}
@@ -51,9 +51,9 @@ module _ {text before mid after : List ℕ} {k table n : ℕ} (line : List ℕ) 
       (more rs _ _ (f .kept rs N) small (f .filling))
 
   pub cells-stored : (d : Policy) → bracketValues (itemsAt line is) ≡ some ws
-      → (length (cellsAt line is) ≤ 16 → RowFilled text before mid k n n (map (λ g. g .0 .bytes) (cellsAt line is)) (map (λ g. known (labelOf d (g .1))) (cellsAt line is)))
+      → (length (cellsAt line is) ≤ 16 → RowFilled text before mid k n n (map (λ g. g .0 .bytes) (cellsAt line is)) (map (λ g. orZero (labelOf d (g .1))) (cellsAt line is)))
       → AddsRow text mid after k table n n
-      → Rows text after (k + 1) (rs ++ (record { table = table; values = map (λ w. w .bytes) ws; labels = map (λ w. known (labelOf d w)) (bracketLabels (itemsAt line is)) } ∷ []))
+      → Rows text after (k + 1) (rs ++ (record { table = table; values = map (λ w. w .bytes) ws; labels = map (λ w. orZero (labelOf d w)) (bracketLabels (itemsAt line is)) } ∷ []))
   cells-stored d h filled more =
       let e : ws ≡ map (λ (g : Word × Word). g .0) (cellsAt line is) = bracket-values line is ws h in
       let f = filled (subst (λ m. m ≤ 16) (ap length e ∙ length-map (cellsAt line is) (λ (g : Word × Word). g .0)) few) in
@@ -61,15 +61,15 @@ module _ {text before mid after : List ℕ} {k table n : ℕ} (line : List ℕ) 
       (λ j. record {
         table = table;
         values = sym (ap (map (λ (w : Word). w .bytes)) e ∙ map-map (λ (w : Word). w .bytes) (λ (g : Word × Word). g .0) (cellsAt line is)) j;
-        labels = sym (ap (map (λ (w : Word). known (labelOf d w))) (bracket-labels line is ws h) ∙ map-map (λ (w : Word). known (labelOf d w)) (λ (g : Word × Word). g .1) (cellsAt line is)) j;
+        labels = sym (ap (map (λ (w : Word). orZero (labelOf d w))) (bracket-labels line is ws h) ∙ map-map (λ (w : Word). orZero (labelOf d w)) (λ (g : Word × Word). g .1) (cellsAt line is)) j;
       })
       (more rs _ _ (f .kept rs N) small (f .filling))
 
-  pub leading-stored : {marked : List ℕ} (d : Policy) (label e : ℕ) → valuesBehindLabel (itemsAt line is) ≡ some ws → getD line is 0 ≡ 32 → label ≡ known (labelOf d (wordOf line (is + 1)))
+  pub leading-stored : {marked : List ℕ} (d : Policy) (label e : ℕ) → valuesBehindLabel (itemsAt line is) ≡ some ws → getD line is 0 ≡ 32 → label ≡ orZero (labelOf d (wordOf line (is + 1)))
       → LabelStored before marked k 0 label → e ≡ is + 1 + length (wordAt line (is + 1))
       → (length (plainAt line e) ≤ 16 → FillingRow text marked k 0 1 [] (label ∷ []) → RowFilled text marked mid k n 1 (map (λ w. w .bytes) (plainAt line e)) (label ∷ []))
       → AddsRow text mid after k table n 1
-      → Rows text after (k + 1) (rs ++ (record { table = table; values = map (λ w. w .bytes) ws; labels = map (λ w. known (labelOf d w)) (leadingName (itemsAt line is)) } ∷ []))
+      → Rows text after (k + 1) (rs ++ (record { table = table; values = map (λ w. w .bytes) ws; labels = map (λ w. orZero (labelOf d w)) (leadingName (itemsAt line is)) } ∷ []))
   unfolding wordEndAt
   leading-stored d label e h space named s ends filled more =
       let g = leading line is ws h space in
@@ -79,7 +79,7 @@ module _ {text before mid after : List ℕ} {k table n : ℕ} (line : List ℕ) 
       (λ j. record {
         table = table;
         values = map (λ (w : Word). w .bytes) (sym v j);
-        labels = (ap (λ m. m ∷ []) named ∙ sym (ap (map (λ (w : Word). known (labelOf d w))) (g .label))) j;
+        labels = (ap (λ m. m ∷ []) named ∙ sym (ap (map (λ (w : Word). orZero (labelOf d w))) (g .label))) j;
       })
       (more rs _ _ (f .kept rs (s .kept text k rs (omega arith) N)) small (f .filling))
 
@@ -97,21 +97,21 @@ module _ {text tables rows : List ℕ} {count k : ℕ} (d : Doc) (line : List �
   p : Passed d (row t items)
   p = passed d line (row t items) ok
 
-  table-there : known (tableOf (d .policy) t) < count
+  table-there : orZero (tableOf (d .policy) t) < count
   unfolding unknown tableOf
   table-there =
-      subst (λ n. known (tableOf (d .policy) t) < n) (tables-counted text tables count (d .policy .tables) T)
-      (findIndex-found (λ (x : Table). isCalled t (x .name)) (d .policy .tables) (known (tableOf (d .policy) t)) (there-some (tableOf (d .policy) t) (unless-none (there (tableOf (d .policy) t)) t (leftmost-head _ _ (p .knows)))) .1)
+      subst (λ n. orZero (tableOf (d .policy) t) < n) (tables-counted text tables count (d .policy .tables) T)
+      (findIndex-found (λ (x : Table). isCalled t (x .name)) (d .policy .tables) (orZero (tableOf (d .policy) t)) (there-some (tableOf (d .policy) t) (unless-none (there (tableOf (d .policy) t)) t (leftmost-head _ _ (p .knows)))) .1)
 
-  pub row-fits : (n : ℕ) (r s : coded.Scheme) → n ≡ known (tableOf (d .policy) t) → r ≡ s → (n < 8 → schemeIn tables n ≡ schemeBy r (tableLabelIn tables n) (columnLabelsIn tables n))
-      → RowFits d t items k (schemeBy s (tableLabelIn tables (known (tableOf (d .policy) t))) (listed (columnLabelIn tables (known (tableOf (d .policy) t))) (length (columnsAt (d .policy) (known (tableOf (d .policy) t))))))
+  pub row-fits : (n : ℕ) (r s : coded.Scheme) → n ≡ orZero (tableOf (d .policy) t) → r ≡ s → (n < 8 → schemeIn tables n ≡ schemeBy r (tableLabelIn tables n) (columnLabelsIn tables n))
+      → RowFits d t items k (schemeBy s (tableLabelIn tables (orZero (tableOf (d .policy) t))) (tabulated (columnLabelIn tables (orZero (tableOf (d .policy) t))) (length (columnsAt (d .policy) (orZero (tableOf (d .policy) t))))))
   unfolding misfit overBound schemeOf columnsOf
   row-fits n r s e same told =
-      let m : ℕ = known (tableOf (d .policy) t) in
+      let m : ℕ = orZero (tableOf (d .policy) t) in
       let q = holdsOf-some (λ (ws : List Word). eqb (length ws) (length (columnsOf (d .policy) t))) (rowValues (schemeOf (d .policy) t) items) (not-false _ (p .fits)) in
       let scheme = scheme-read text tables count m (d .policy) T table-there s (subst (λ (x : ℕ × coded.Scheme). x .0 < 8 → schemeIn tables (x .0) ≡ schemeBy (x .1) (tableLabelIn tables (x .0)) (columnLabelsIn tables (x .0))) (λ j. (e j, same j)) told) in
       let wide : length (q .0) ≡ length (columnsAt (d .policy) m) = eqb-true _ _ (q .2) in
-      let counted : length (columnsAt (d .policy) m) ≡ columnCountIn tables m = ap length (columns-at text tables count m (d .policy) T table-there) ∙ length-listed (columnIn text tables m) (columnCountIn tables m) in
+      let counted : length (columnsAt (d .policy) m) ≡ columnCountIn tables m = ap length (columns-at text tables count m (d .policy) T table-there) ∙ length-tabulated (columnIn text tables m) (columnCountIn tables m) in
       record {
         small = subst (λ i. i < 1024) (rows-counted text rows k (d .rows) N) (leb-false 1024 _ (p .room));
         words = q .0;
@@ -121,8 +121,8 @@ module _ {text tables rows : List ℕ} {count k : ℕ} (d : Doc) (line : List �
       }
 
 -- with the labels that the scheme says
-pub row-stored : {text rows′ : List ℕ} {k : ℕ} (d : Doc) (t : Word) (items : List Item) (s : Scheme ℕ) (n : ℕ) (f : RowFits d t items k s) → n ≡ known (tableOf (d .policy) t)
-    → Rows text rows′ (k + 1) (d .rows ++ (record { table = n; values = map (λ w. w .bytes) (f .words); labels = map (λ w. known (labelOf (d .policy) w)) (rowLabels s items) } ∷ []))
+pub row-stored : {text rows′ : List ℕ} {k : ℕ} (d : Doc) (t : Word) (items : List Item) (s : Scheme ℕ) (n : ℕ) (f : RowFits d t items k s) → n ≡ orZero (tableOf (d .policy) t)
+    → Rows text rows′ (k + 1) (d .rows ++ (record { table = n; values = map (λ w. w .bytes) (f .words); labels = map (λ w. orZero (labelOf (d .policy) w)) (rowLabels s items) } ∷ []))
     → Rows text rows′ (k + 1) (add d (row t items) .rows)
 unfolding add rowsGiven rowMeant
 row-stored {text} {rows′} {k} d t items s n f e h =
@@ -130,6 +130,6 @@ row-stored {text} {rows′} {k} d t items s n f e h =
     (λ j. record {
       table = e j;
       values = map (λ (w : Word). w .bytes) (sym (ap (λ o. Option·getD o []) (ap (λ x. rowValues x items) (f .is) ∙ f .values)) j);
-      labels = map (λ (w : Word). known (labelOf (d .policy) w)) (rowLabels (sym (f .is) j) items);
+      labels = map (λ (w : Word). orZero (labelOf (d .policy) w)) (rowLabels (sym (f .is) j) items);
     })
     h

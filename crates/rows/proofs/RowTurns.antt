@@ -9,10 +9,10 @@ use Rattle.document.specs.Lookup.{labelOf}
 use Rattle.document.specs.Policy.{Policy, Row}
 use Rattle.form.proofs.WalkSteps.{cells-more, plain-more}
 use Rattle.form.specs.Walks.{cellAt, cellEndAt, cellLabelIn, cellsAt, firstIn, plainAt}
-use Rattle.workspace.proofs.ListedLaws.{length-listed}
+use Rattle.workspace.proofs.TabulatedLaws.{length-tabulated}
 use Rattle.relations.proofs.RowLaws.{row-empty}
 use Rattle.relations.specs.Rows.{FillingRow, LabelStored, Rows, ValueStored, labelRoom, rowLabelIn, valueIn}
-use Rattle.lists.specs.Lists.{known}
+use Rattle.lists.specs.Lists.{orZero}
 use Rattle.stepping.proofs.PlaceLaws.{written-placed}
 use Rattle.stepping.specs.Stored.{LineAt, RowFilled}
 use Rattle.text.proofs.WalkingLaws.{past-within}
@@ -66,7 +66,7 @@ value-added {text} {before} {ws} {after} {k} {c} {m} {pos} {all} {left} x g smal
 pub rowed-value : {text before ws after : List ℕ} {k c m pos : ℕ} {all left : List Value} {labels behind : List ℕ} (x : Value) → Rowed text before ws k c m all (x ∷ left) labels behind → k < 1024 → length all ≤ 16
     → ValueStored ws after k c pos → writtenAt text pos ≡ x → Rowed text before after k (c + 1) m all left labels behind
 rowed-value {text} {before} {ws} {after} {k} {c} {m} {pos} {all} {left} x g small few s n =
-    let long : length (g .passed) ≡ c = sym (ap length (g .filling .values)) ∙ length-listed (valueIn text ws k) c in
+    let long : length (g .passed) ≡ c = sym (ap length (g .filling .values)) ∙ length-tabulated (valueIn text ws k) c in
     value-added x g small (omega (arith, ap length (g .values), length-append (g .passed) (x ∷ left), long, few)) s n
 
 -- one label more, likewise
@@ -84,7 +84,7 @@ label-added {text} {before} {ws} {after} {k} {c} {m} {label} {all} {left} {label
 pub rowed-label : {text before ws after : List ℕ} {k c m label : ℕ} {all left : List Value} {labels behind : List ℕ} (y : ℕ) → Rowed text before ws k c m all left labels (y ∷ behind) → k < 1024 → length labels ≤ 16
     → LabelStored ws after k m label → label ≡ y → Rowed text before after k c (m + 1) all left labels behind
 rowed-label {text} {before} {ws} {after} {k} {c} {m} {label} {all} {left} {labels} {behind} y g small few s n =
-    let long : length (g .marked) ≡ m = sym (ap length (g .filling .labels)) ∙ length-listed (rowLabelIn ws k) m in
+    let long : length (g .marked) ≡ m = sym (ap length (g .filling .labels)) ∙ length-tabulated (rowLabelIn ws k) m in
     label-added y g small (omega (arith, ap length (g .labelled), length-append (g .marked) (y ∷ behind), long, few)) s n
 
 pub rowed-all : {text before after : List ℕ} {k c m : ℕ} {all left : List Value} {labels behind : List ℕ} → Rowed text before after k c m all left labels behind → left ≡ [] → behind ≡ [] → RowFilled text before after k c m all labels
@@ -107,17 +107,17 @@ module _ {text : List ℕ} {at : ℕ} {line : List ℕ} (l : LineAt text at line
       (plain-more line j space ∙ ap (λ n. writtenOf line (j + 1) ∷ plainAt line n) (sym ends)) g)
       small (subst (λ n. n ≤ 16) (sym (length-map (plainAt line is) (λ (w : Word). w .bytes))) few) s (written-placed l (j + 1) pos (omega arith) placed)
 
-  pub cell-turn : {before ws mid after : List ℕ} {k c : ℕ} (d : Policy) (is w q label : ℕ) → w ≡ firstIn line (j + 1) → q ≡ cellLabelIn line (j + 1) → (at + w ≤ length text → pos ≡ at + w) → label ≡ known (labelOf d (wordOf line q))
+  pub cell-turn : {before ws mid after : List ℕ} {k c : ℕ} (d : Policy) (is w q label : ℕ) → w ≡ firstIn line (j + 1) → q ≡ cellLabelIn line (j + 1) → (at + w ≤ length text → pos ≡ at + w) → label ≡ orZero (labelOf d (wordOf line q))
       → e ≡ cellEndAt line (j + 1) → ValueStored ws mid k c pos → LabelStored mid after k c label → k < 1024 → length (cellsAt line is) ≤ 16
-      → Rowed text before ws k c c (map (λ g. g .0 .bytes) (cellsAt line is)) (map (λ g. g .0 .bytes) (cellsAt line j)) (map (λ g. known (labelOf d (g .1))) (cellsAt line is)) (map (λ g. known (labelOf d (g .1))) (cellsAt line j))
-      → Rowed text before after k (c + 1) (c + 1) (map (λ g. g .0 .bytes) (cellsAt line is)) (map (λ g. g .0 .bytes) (cellsAt line e)) (map (λ g. known (labelOf d (g .1))) (cellsAt line is)) (map (λ g. known (labelOf d (g .1))) (cellsAt line e))
+      → Rowed text before ws k c c (map (λ g. g .0 .bytes) (cellsAt line is)) (map (λ g. g .0 .bytes) (cellsAt line j)) (map (λ g. orZero (labelOf d (g .1))) (cellsAt line is)) (map (λ g. orZero (labelOf d (g .1))) (cellsAt line j))
+      → Rowed text before after k (c + 1) (c + 1) (map (λ g. g .0 .bytes) (cellsAt line is)) (map (λ g. g .0 .bytes) (cellsAt line e)) (map (λ g. orZero (labelOf d (g .1))) (cellsAt line is)) (map (λ g. orZero (labelOf d (g .1))) (cellsAt line e))
   unfolding cellAt firstIn
   cell-turn {before} {ws} {mid} {after} {k} {c} d is w q label first second placed named ends s t small few g =
       let within : w ≤ length line = subst (λ n. n ≤ length line) (sym first) (past-within 40 line (j + 1) (omega arith)) in
-      rowed-label (known (labelOf d (wordOf line (cellLabelIn line (j + 1)))))
+      rowed-label (orZero (labelOf d (wordOf line (cellLabelIn line (j + 1)))))
       (rowed-value (writtenAt line (firstIn line (j + 1)))
-      (subst (λ (xs : List (Word × Word)). Rowed text before ws k c c (map (λ g. g .0 .bytes) (cellsAt line is)) (map (λ g. g .0 .bytes) xs) (map (λ g. known (labelOf d (g .1))) (cellsAt line is)) (map (λ g. known (labelOf d (g .1))) xs))
+      (subst (λ (xs : List (Word × Word)). Rowed text before ws k c c (map (λ g. g .0 .bytes) (cellsAt line is)) (map (λ g. g .0 .bytes) xs) (map (λ g. orZero (labelOf d (g .1))) (cellsAt line is)) (map (λ g. orZero (labelOf d (g .1))) xs))
       (cells-more line j space ∙ ap (λ n. cellAt line (j + 1) ∷ cellsAt line n) (sym ends)) g)
       small (subst (λ n. n ≤ 16) (sym (length-map (cellsAt line is) (λ (g : Word × Word). g .0 .bytes))) few) s (written-placed l w pos within placed ∙ ap (writtenAt line) first))
-      small (subst (λ n. n ≤ 16) (sym (length-map (cellsAt line is) (λ (g : Word × Word). known (labelOf d (g .1))))) few) t
-      (named ∙ ap (λ n. known (labelOf d (wordOf line n))) second)
+      small (subst (λ n. n ≤ 16) (sym (length-map (cellsAt line is) (λ (g : Word × Word). orZero (labelOf d (g .1))))) few) t
+      (named ∙ ap (λ n. orZero (labelOf d (wordOf line n))) second)

@@ -9,12 +9,12 @@ use Rattle.form.specs.Walks.{cellLabelIn, firstIn, itemEndAt, listAt}
 use Rattle.text.specs.Words.{Word, wordOf, writtenOf}
 
 -- the value of the item at a position: it stands there, or behind the bracket that opens there
-unfoldable pub valueAt : List ℕ → ℕ → Word
-valueAt s at = writtenOf s (firstIn s at)
+unfoldable pub itemValueAt : List ℕ → ℕ → Word
+itemValueAt s at = writtenOf s (firstIn s at)
 
 -- the values of the items from a position on
 unfoldable pub valuesAt : List ℕ → ℕ → List Word
-valuesAt s at = listAt valueAt itemEndAt s at
+valuesAt s at = listAt itemValueAt itemEndAt s at
 
 -- the label of the bracket at a position
 unfoldable pub labelAt : List ℕ → ℕ → Word

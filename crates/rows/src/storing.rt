@@ -32,7 +32,7 @@ ghost use Rattle.form.specs.Walks.{cellsAt, itemsAt, plainAt};
 ghost use Rattle.relations.specs.Labels.{Labels};
 ghost use Rattle.relations.specs.Rows.{FillingRow, Rows};
 ghost use Rattle.relations.specs.Tables.{Tables};
-ghost use Rattle.lists.specs.Lists.{known};
+ghost use Rattle.lists.specs.Lists.{orZero};
 ghost use Rattle.stepping.specs.Stored.{LineAt, Passes, RowFilled};
 ghost use Rattle.text.specs.Words.{Word, wordOf};
 
@@ -70,7 +70,7 @@ fn store_cells(
     line: &[u8],
     is: usize,
 ) -> usize
-    ensures { λ r. ⌜ ((d : Policy) (sets : List ℕ) → LineAt (now (text .entry)) at (now (line .entry)) → Labels (now (text .entry)) (now (labels .entry)) sets «labels_count» (d .labels) → k < 1024 → length (cellsAt (now (line .entry)) is) ≤ 16 → RowFilled (now (text .entry)) (now (rows .entry)) (now (rows .exit)) k r r (map (λ g. g .0 .bytes) (cellsAt (now (line .entry)) is)) (map (λ g. known (labelOf d (g .1))) (cellsAt (now (line .entry)) is))) ⌝ }
+    ensures { λ r. ⌜ ((d : Policy) (sets : List ℕ) → LineAt (now (text .entry)) at (now (line .entry)) → Labels (now (text .entry)) (now (labels .entry)) sets «labels_count» (d .labels) → k < 1024 → length (cellsAt (now (line .entry)) is) ≤ 16 → RowFilled (now (text .entry)) (now (rows .entry)) (now (rows .exit)) k r r (map (λ g. g .0 .bytes) (cellsAt (now (line .entry)) is)) (map (λ g. orZero (labelOf d (g .1))) (cellsAt (now (line .entry)) is))) ⌝ }
 {
     let mut c: usize = 0;
     let mut j = is;
@@ -115,7 +115,7 @@ fn store_by_row(
     table: usize,
     is: usize,
 )
-    ensures { λ _. ⌜ ((d : Policy) (sets : List ℕ) (rs : List Row) (ws : List Word) → LineAt (now (text .entry)) at (now (line .entry)) → Labels (now (text .entry)) (now (labels .entry)) sets «labels_count» (d .labels) → Rows (now (text .entry)) (now (rows .entry)) k rs → k < 1024 → valuesBehindLabel (itemsAt (now (line .entry)) is) ≡ some ws → length ws ≤ 16 → Rows (now (text .entry)) (now (rows .exit)) (k + 1) (rs ++ (record { table = table; values = map (λ w. w .bytes) ws; labels = map (λ w. known (labelOf d w)) (leadingName (itemsAt (now (line .entry)) is)) } ∷ []))) ⌝ }
+    ensures { λ _. ⌜ ((d : Policy) (sets : List ℕ) (rs : List Row) (ws : List Word) → LineAt (now (text .entry)) at (now (line .entry)) → Labels (now (text .entry)) (now (labels .entry)) sets «labels_count» (d .labels) → Rows (now (text .entry)) (now (rows .entry)) k rs → k < 1024 → valuesBehindLabel (itemsAt (now (line .entry)) is) ≡ some ws → length ws ≤ 16 → Rows (now (text .entry)) (now (rows .exit)) (k + 1) (rs ++ (record { table = table; values = map (λ w. w .bytes) ws; labels = map (λ w. orZero (labelOf d w)) (leadingName (itemsAt (now (line .entry)) is)) } ∷ []))) ⌝ }
 {
     if byte_at(line, is) == b' ' {
         let w = is + 1;
@@ -138,7 +138,7 @@ fn store_by_cell(
     table: usize,
     is: usize,
 )
-    ensures { λ _. ⌜ ((d : Policy) (sets : List ℕ) (rs : List Row) (ws : List Word) → LineAt (now (text .entry)) at (now (line .entry)) → Labels (now (text .entry)) (now (labels .entry)) sets «labels_count» (d .labels) → Rows (now (text .entry)) (now (rows .entry)) k rs → k < 1024 → bracketValues (itemsAt (now (line .entry)) is) ≡ some ws → length ws ≤ 16 → Rows (now (text .entry)) (now (rows .exit)) (k + 1) (rs ++ (record { table = table; values = map (λ w. w .bytes) ws; labels = map (λ w. known (labelOf d w)) (bracketLabels (itemsAt (now (line .entry)) is)) } ∷ []))) ⌝ }
+    ensures { λ _. ⌜ ((d : Policy) (sets : List ℕ) (rs : List Row) (ws : List Word) → LineAt (now (text .entry)) at (now (line .entry)) → Labels (now (text .entry)) (now (labels .entry)) sets «labels_count» (d .labels) → Rows (now (text .entry)) (now (rows .entry)) k rs → k < 1024 → bracketValues (itemsAt (now (line .entry)) is) ≡ some ws → length ws ≤ 16 → Rows (now (text .entry)) (now (rows .exit)) (k + 1) (rs ++ (record { table = table; values = map (λ w. w .bytes) ws; labels = map (λ w. orZero (labelOf d w)) (bracketLabels (itemsAt (now (line .entry)) is)) } ∷ []))) ⌝ }
 {
     let n = store_cells(text, labels, labels_count, rows, k, at, line, is);
     add_row(rows, k, table, n, n);

@@ -10,7 +10,7 @@ use Rattle.answering.specs.Answering.{Writes, measuredOf}
 use Rattle.document.specs.Lookup.{purposeOf}
 use Rattle.document.specs.Policy.{Doc}
 use Rattle.workspace.specs.Found.{foundAs}
-use Rattle.lists.specs.Lists.{known}
+use Rattle.lists.specs.Lists.{orZero}
 use Rattle.query.specs.Authority.{Clock, firstGrant, inRange}
 use Rattle.query.specs.Query.{closedPart, mistypedQuery, unknownColumn, unknownParty}
 use Rattle.query.specs.QueryForm.{QueryForm, queryOf}
@@ -112,11 +112,11 @@ module _ (d : Doc) (c : Clock) (q : QueryForm) where
 
   -- 14
   module _ (u : ℕ) where
-    pub granted-refused : none ≡ firstGrant (d .policy) c u (known (purposeOf (d .policy) (q .purpose))) → ifGranted d c q u ≡ refused (pointing 14 query (q .purpose))
+    pub granted-refused : none ≡ firstGrant (d .policy) c u (orZero (purposeOf (d .policy) (q .purpose))) → ifGranted d c q u ≡ refused (pointing 14 query (q .purpose))
     unfolding ifGranted
     granted-refused e = lacks (pointing 14 query (q .purpose)) (λ g. ifKnown d q g) e
 
-    pub granted-is : {g : ℕ} → some g ≡ firstGrant (d .policy) c u (known (purposeOf (d .policy) (q .purpose))) → ifGranted d c q u ≡ ifKnown d q g
+    pub granted-is : {g : ℕ} → some g ≡ firstGrant (d .policy) c u (orZero (purposeOf (d .policy) (q .purpose))) → ifGranted d c q u ≡ ifKnown d q g
     unfolding ifGranted
     granted-is e = has (pointing 14 query (q .purpose)) (λ g. ifKnown d q g) e
 

@@ -12,10 +12,10 @@ use denote.Enum.Declared.{tagOf}
 use Rattle.authority.specs.Authorities.{Authorities}
 use Rattle.document.specs.Lookup.{purposeOf}
 use Rattle.document.specs.Policy.{Doc, Node, Policy, treeOf}
-use Rattle.workspace.proofs.ListedLaws.{length-listed}
+use Rattle.workspace.proofs.TabulatedLaws.{length-tabulated}
 use Rattle.relations.specs.Labels.{Opened}
 use Rattle.principals.specs.Nodes.{Nodes, nodeIn}
-use Rattle.lists.specs.Lists.{known}
+use Rattle.lists.specs.Lists.{orZero}
 use Rattle.purpose.specs.Compliance.{inTree}
 use Rattle.purpose.specs.Members.{limit}
 use Rattle.query.specs.QueryForm.{queryOf}
@@ -40,18 +40,18 @@ module _ {text ps rs bs us cs gs ms ts ws : List ℕ} {c : Counts} {d : Doc} (h 
 
   -- so much as the answer needs
   pub granted : {os : List Bool} {s : List ℕ} {q : Question} {p : ℕ} → IsQuery s q → purposeOf (d .policy) (formAt s q .purpose) ≡ some p → Opened (d .policy) p os → Granted text ts ws c os s q d
-  unfolding known
-  granted {os} i e o = record { small = h .small; tables = h .indexed .tables; rows = h .indexed .rows; opened = subst (λ n. Opened (d .policy) n os) (sym (ap known e)) o; query = i }
+  unfolding orZero
+  granted {os} i e o = record { small = h .small; tables = h .indexed .tables; rows = h .indexed .rows; opened = subst (λ n. Opened (d .policy) n os) (sym (ap orZero e)) o; query = i }
 
 -- the number of a purpose that was found lies in the tree
 pub in-tree : {text ws : List ℕ} {k p : ℕ} {ns : List Node} → Nodes limit text ws k ns → p < k → inTree (treeOf ns) p ≡ true
 unfolding treeOf
-in-tree {text} {ws} {k} {p} {ns} h b = lt-ltb p _ (subst (λ n. p < n) (sym (length-map ns (λ (x : Node). x .parent) ∙ ap length (sym (h .are)) ∙ length-listed (nodeIn limit text ws) k)) b)
+in-tree {text} {ws} {k} {p} {ns} h b = lt-ltb p _ (subst (λ n. p < n) (sym (length-map ns (λ (x : Node). x .parent) ∙ ap length (sym (h .are)) ∙ length-tabulated (nodeIn limit text ws) k)) b)
 
 -- the number of the purpose is the one that its word names
-pub purpose-number : {o : Option ℕ} {p : ℕ} → o ≡ some p → p ≡ known o
-unfolding known
-purpose-number e = sym (ap known e)
+pub purpose-number : {o : Option ℕ} {p : ℕ} → o ≡ some p → p ≡ orZero o
+unfolding orZero
+purpose-number e = sym (ap orZero e)
 
 -- ---- what reading and looking up answered
 

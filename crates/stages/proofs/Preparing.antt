@@ -18,7 +18,7 @@ use Rattle.workspace.specs.Found.{FoundBelow, foundAs}
 use Rattle.relations.specs.Labels.{Opened}
 use Rattle.judging.specs.Prepared.{Prepared, wantedBy}
 use Rattle.lists.proofs.ListLaws.{all-map, all-parts, map-append, map-map}
-use Rattle.lists.specs.Lists.{allOf, known, there}
+use Rattle.lists.specs.Lists.{allOf, orZero, there}
 use Rattle.query.proofs.BodiesRead.{wanted-count, wanted-there}
 use Rattle.query.proofs.NamedColumns.{columnNumber, named-words}
 use Rattle.query.specs.Naming.{NamesPlaced, TestsPlaced, wordsAt}
@@ -69,9 +69,9 @@ pub table-found : (d : Policy) (q : QueryForm) {x : Found} {t k : ℕ} → x ≡
 table-found d q {k} e h b = record { is = sym (number-found e h); inside = subst (λ r. FoundBelow r k) e b }
 
 module _ {d : Policy} {q : QueryForm} {t k : ℕ} (table : InTable d q t k) where
-  number-is : known (tableOf d (q .table)) ≡ t
-  unfolding known
-  number-is = ap known (table .is)
+  number-is : orZero (tableOf d (q .table)) ≡ t
+  unfolding orZero
+  number-is = ap orZero (table .is)
 
   columns-are : columnsOf d (q .table) ≡ columnsAt d t
   unfolding columnsOf
@@ -98,16 +98,16 @@ module _ {d : Policy} {s : List ℕ} (q : Question) {t k n : ℕ} {places ops nu
   pub resolves-known : x ≡ offending.Nothing → ColumnsKnown d (formAt s q) t numbers
   resolves-known e = record {
     number = n;
-    numbered = r .numbered e ∙ ap (map (λ w. known (columnOf (columnsAt d t) w))) (placed .words);
+    numbered = r .numbered e ∙ ap (map (λ w. orZero (columnOf (columnsAt d t) w))) (placed .words);
     allThere = missing-none (λ w. there (columnOf (columnsAt d t) w)) (namedWords (formAt s q)) (sym (no-word s e resolves-unknown ∙ column-unknown table));
   }
 
   -- what is closed to purpose p, where y is the table's scheme and ys are its columns
   abbrev closed : ℕ → Scheme ℕ → List Column → List Word → Option Word
-  closed p y ys ws = leftmost (unless (tableOpen (labelOpen d p) y) (wordOf s (q .head .table)) ∷ missing (λ w. columnOpen (labelOpen d p) y (known (columnOf ys w))) ws ∷ [])
+  closed p y ys ws = leftmost (unless (tableOpen (labelOpen d p) y) (wordOf s (q .head .table)) ∷ missing (λ w. columnOpen (labelOpen d p) y (orZero (columnOf ys w))) ws ∷ [])
 
   abbrev purpose-of : ℕ
-  purpose-of = known (purposeOf d (formAt s q .purpose))
+  purpose-of = orZero (purposeOf d (formAt s q .purpose))
 
   parts-are : closed purpose-of (schemeAt d t) (columnsAt d t) (wordsAt s n places) ≡ closedPart d (formAt s q)
   unfolding closedPart openFor formAt
@@ -118,12 +118,12 @@ module _ {d : Policy} {s : List ℕ} (q : Question) {t k n : ℕ} {places ops nu
 
   -- 17: what is closed is what the definition says
   pub parts-judged : x ≡ offending.Nothing → (y : Offending) {os : List Bool} → Opened d purpose-of os
-      → (n ≤ 80 → Opened d purpose-of os → take n numbers ≡ map (λ w. known (columnOf (columnsAt d t) w)) (wordsAt s n places) → offendingOf s y ≡ closed purpose-of (schemeAt d t) (columnsAt d t) (wordsAt s n places))
+      → (n ≤ 80 → Opened d purpose-of os → take n numbers ≡ map (λ w. orZero (columnOf (columnsAt d t) w)) (wordsAt s n places) → offendingOf s y ≡ closed purpose-of (schemeAt d t) (columnsAt d t) (wordsAt s n places))
       → offendingOf s y ≡ closedPart d (formAt s q)
   parts-judged e y o f = f (placed .small) o (r .numbered e) ∙ parts-are
 
 -- what is asked for, by the numbers of the columns
-wanted-by : (cs : Option (List Word)) (ys : List Column) (b : Bool) (ns : List ℕ) → there cs ≡ b → ns ≡ map (λ w. known (columnOf ys w)) (Option·getD cs []) → wantedOf ys cs ≡ wantedBy b ns
+wanted-by : (cs : Option (List Word)) (ys : List Column) (b : Bool) (ns : List ℕ) → there cs ≡ b → ns ≡ map (λ w. orZero (columnOf ys w)) (Option·getD cs []) → wantedOf ys cs ≡ wantedBy b ns
 unfolding wantedOf wantedBy there
 wanted-by none ys b ns e h = ap (λ v. wantedBy v ns) e
 wanted-by (some ws) ys b ns e h = ap select (sym h) ∙ ap (λ v. wantedBy v ns) e
@@ -134,7 +134,7 @@ module _ {d : Policy} {s : List ℕ} (q : Question) {t k : ℕ} {numbers ops : L
     (columns : ColumnsKnown d (formAt s q) t numbers) (tests : TestsPlaced s (q .test) ops) where
   -- the number of the column that a word names
   abbrev K : Word → ℕ
-  K w = known (columnOf (columnsAt d t) w)
+  K w = orZero (columnOf (columnsAt d t) w)
 
   abbrev chosen : ℕ
   chosen = chosenCount (q .wanted)

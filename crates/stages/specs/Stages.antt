@@ -12,7 +12,7 @@ use Rattle.relations.specs.Labels.{Opened}
 use Rattle.relations.specs.Rows.{Rows}
 use Rattle.relations.specs.Tables.{Tables}
 use Rattle.index.specs.Workspace.{Indexed}
-use Rattle.lists.specs.Lists.{allOf, known, there}
+use Rattle.lists.specs.Lists.{allOf, orZero, there}
 use Rattle.query.specs.Naming.{TestsPlaced}
 use Rattle.query.specs.QueryForm.{QueryForm, namedWords}
 use Rattle.query.specs.QueryPlaces.{IsQuery, formAt}
@@ -32,7 +32,7 @@ pub record Granted (text ts ws : List ℕ) (c : Counts) (os : List Bool) (s : Li
   pub small : length text ≤ 60000
   pub tables : Tables text ts (c .tables) (d .policy .tables)
   pub rows : Rows text ws (c .rows) (d .rows)
-  pub opened : Opened (d .policy) (known (purposeOf (d .policy) (formAt s q .purpose))) os
+  pub opened : Opened (d .policy) (orZero (purposeOf (d .policy) (formAt s q .purpose))) os
   pub query : IsQuery s q
 
 -- t is the query's table, of k
@@ -43,7 +43,7 @@ pub record InTable (d : Policy) (q : QueryForm) (t k : ℕ) : Type 0 where
 -- table t has all the columns that the query names, and these are their numbers
 pub record ColumnsKnown (d : Policy) (q : QueryForm) (t : ℕ) (numbers : List ℕ) : Type 0 where
   pub number : ℕ
-  pub numbered : take number numbers ≡ map (λ w. known (columnOf (columnsAt d t) w)) (namedWords q)
+  pub numbered : take number numbers ≡ map (λ w. orZero (columnOf (columnsAt d t) w)) (namedWords q)
   pub allThere : allOf (λ w. there (columnOf (columnsAt d t) w)) (namedWords q) ≡ true
 
 -- the query is ready for the rows of table t: its columns have these numbers, and its operators stand at the places ops

@@ -10,7 +10,7 @@ use Rattle.answering.specs.Answering.{bufferAfter}
 use Rattle.document.specs.Lookup.{purposeOf, userOf}
 use Rattle.document.specs.Policy.{Doc}
 use Rattle.stages.specs.Figures.{answeredAs, inFigures}
-use Rattle.lists.specs.Lists.{known}
+use Rattle.lists.specs.Lists.{orZero}
 use Rattle.query.specs.Authority.{Clock, firstGrant, inRange}
 use Rattle.query.specs.Query.{closedPart, mistypedQuery, resolved, unknownColumn, unknownParty}
 use Rattle.query.specs.QueryForm.{QueryForm, queryOf}
@@ -43,7 +43,7 @@ ifKnown d q g = do
 -- 14 on, for the user form of number u
 unfoldable pub ifGranted : Doc → Clock → QueryForm → ℕ → Outcome
 ifGranted d c q u = do
-  g ← need (firstGrant (d .policy) c u (known (purposeOf (d .policy) (q .purpose)))) (pointing 14 query (q .purpose))
+  g ← need (firstGrant (d .policy) c u (orZero (purposeOf (d .policy) (q .purpose)))) (pointing 14 query (q .purpose))
   ifKnown d q g
 
 -- 13 on

@@ -9,11 +9,11 @@ use Rattle.document.specs.Lookup.{labelOf}
 use Rattle.document.specs.Meaning.{columnMeant}
 use Rattle.document.specs.Policy.{Column, Policy, Table}
 use Rattle.form.proofs.WalkSteps.{column-labels-more, columns-more, labelled-columns-more}
-use Rattle.form.specs.Walks.{columnAt, columnLabelAt, columnLabelsAt, columnsAt, firstIn, kindAt, labelledColumnsAt, pairEndAt, secondIn, thirdIn, tripleEndAt}
-use Rattle.workspace.proofs.ListedLaws.{length-listed}
+use Rattle.form.specs.Walks.{columnAt, columnFormsAt, columnLabelAt, columnLabelsAt, firstIn, kindAt, labelledColumnsAt, pairEndAt, secondIn, thirdIn, tripleEndAt}
+use Rattle.workspace.proofs.TabulatedLaws.{length-tabulated}
 use Rattle.relations.proofs.TableLaws.{table-empty}
 use Rattle.relations.specs.Tables.{ColumnStored, Filling, Tables, columnIn}
-use Rattle.lists.specs.Lists.{known}
+use Rattle.lists.specs.Lists.{orZero}
 use Rattle.stepping.proofs.PlaceLaws.{word-placed}
 use Rattle.stepping.specs.Stored.{ColumnsFilled, LineAt}
 use Rattle.text.proofs.WalkingLaws.{past-within}
@@ -43,7 +43,7 @@ pub columned-more : {text before ws after : List ℕ} {k c pos label : ℕ} {kin
     → Columned text before ws k c all (x ∷ left) labels (y ∷ behind) → k < 8 → length all ≤ 16 → ColumnStored ws after k c pos kind label
     → wordAt text pos ≡ x .name → kind ≡ x .kind → label ≡ y → Columned text before after k (c + 1) all left labels behind
 columned-more {text} {before} {ws} {after} {k} {c} {pos} {label} {kind} {all} {left} {labels} {behind} x y g small few s n t u =
-    let long : length (g .passed) ≡ c = sym (ap length (g .filling .columns)) ∙ length-listed (columnIn text ws k) c in
+    let long : length (g .passed) ≡ c = sym (ap length (g .filling .columns)) ∙ length-tabulated (columnIn text ws k) c in
     let inside : c < 16 = omega (arith, ap length (g .columns), length-append (g .passed) (x ∷ left), long, few) in
     record {
       kept = λ ts h. s .kept text k ts (omega arith) (g .kept ts h);
@@ -96,26 +96,26 @@ module _ {text : List ℕ} {at : ℕ} {line : List ℕ} (l : LineAt text at line
   unfolding columnMeant columnAt
   kind-is = kind ∙ ap (kindAt line) (second-is line (j + 1) w q e first second)
 
-  pub plain-turn : {before ws after : List ℕ} {k c : ℕ} (cs : ℕ) → e ≡ past 41 line (q + length (wordAt line q)) → ColumnStored ws after k c pos type 0 → k < 8 → length (columnsAt line cs) ≤ 16
-      → Columned text before ws k c (map columnMeant (columnsAt line cs)) (map columnMeant (columnsAt line j)) (map (λ x. 0) (columnsAt line cs)) (map (λ x. 0) (columnsAt line j))
-      → Columned text before after k (c + 1) (map columnMeant (columnsAt line cs)) (map columnMeant (columnsAt line e)) (map (λ x. 0) (columnsAt line cs)) (map (λ x. 0) (columnsAt line e))
+  pub plain-turn : {before ws after : List ℕ} {k c : ℕ} (cs : ℕ) → e ≡ past 41 line (q + length (wordAt line q)) → ColumnStored ws after k c pos type 0 → k < 8 → length (columnFormsAt line cs) ≤ 16
+      → Columned text before ws k c (map columnMeant (columnFormsAt line cs)) (map columnMeant (columnFormsAt line j)) (map (λ x. 0) (columnFormsAt line cs)) (map (λ x. 0) (columnFormsAt line j))
+      → Columned text before after k (c + 1) (map columnMeant (columnFormsAt line cs)) (map columnMeant (columnFormsAt line e)) (map (λ x. 0) (columnFormsAt line cs)) (map (λ x. 0) (columnFormsAt line e))
   plain-turn {before} {ws} {after} {k} {c} cs ends s small few g =
       columned-more (columnMeant (columnAt line (j + 1))) 0
-      (subst (λ xs. Columned text before ws k c (map columnMeant (columnsAt line cs)) (map columnMeant xs) (map (λ x. 0) (columnsAt line cs)) (map (λ x. 0) xs))
-      (columns-more line j space ∙ ap (λ n. columnAt line (j + 1) ∷ columnsAt line n) (sym (pair-ends line (j + 1) w q e first second ends))) g)
-      small (subst (λ n. n ≤ 16) (sym (length-map (columnsAt line cs) columnMeant)) few) s name-is kind-is refl
+      (subst (λ xs. Columned text before ws k c (map columnMeant (columnFormsAt line cs)) (map columnMeant xs) (map (λ x. 0) (columnFormsAt line cs)) (map (λ x. 0) xs))
+      (columns-more line j space ∙ ap (λ n. columnAt line (j + 1) ∷ columnFormsAt line n) (sym (pair-ends line (j + 1) w q e first second ends))) g)
+      small (subst (λ n. n ≤ 16) (sym (length-map (columnFormsAt line cs) columnMeant)) few) s name-is kind-is refl
 
-  pub labelled-turn : {before ws after : List ℕ} {k c : ℕ} (d : Policy) (cs m label : ℕ) → m ≡ nextWord line q → e ≡ past 41 line (m + length (wordAt line m)) → label ≡ known (labelOf d (wordOf line m))
+  pub labelled-turn : {before ws after : List ℕ} {k c : ℕ} (d : Policy) (cs m label : ℕ) → m ≡ nextWord line q → e ≡ past 41 line (m + length (wordAt line m)) → label ≡ orZero (labelOf d (wordOf line m))
       → ColumnStored ws after k c pos type label → k < 8 → length (labelledColumnsAt line cs) ≤ 16
-      → Columned text before ws k c (map columnMeant (labelledColumnsAt line cs)) (map columnMeant (labelledColumnsAt line j)) (map (λ v. known (labelOf d v)) (columnLabelsAt line cs)) (map (λ v. known (labelOf d v)) (columnLabelsAt line j))
-      → Columned text before after k (c + 1) (map columnMeant (labelledColumnsAt line cs)) (map columnMeant (labelledColumnsAt line e)) (map (λ v. known (labelOf d v)) (columnLabelsAt line cs)) (map (λ v. known (labelOf d v)) (columnLabelsAt line e))
+      → Columned text before ws k c (map columnMeant (labelledColumnsAt line cs)) (map columnMeant (labelledColumnsAt line j)) (map (λ v. orZero (labelOf d v)) (columnLabelsAt line cs)) (map (λ v. orZero (labelOf d v)) (columnLabelsAt line j))
+      → Columned text before after k (c + 1) (map columnMeant (labelledColumnsAt line cs)) (map columnMeant (labelledColumnsAt line e)) (map (λ v. orZero (labelOf d v)) (columnLabelsAt line cs)) (map (λ v. orZero (labelOf d v)) (columnLabelsAt line e))
   unfolding columnLabelAt
   labelled-turn {before} {ws} {after} {k} {c} d cs m label third ends is s small few g =
       let t : e ≡ tripleEndAt line (j + 1) = triple-ends line (j + 1) w q e first second m third ends in
-      columned-more (columnMeant (columnAt line (j + 1))) (known (labelOf d (columnLabelAt line (j + 1))))
-      (subst (λ ys. Columned text before ws k c (map columnMeant (labelledColumnsAt line cs)) (columnMeant (columnAt line (j + 1)) ∷ map columnMeant (labelledColumnsAt line e)) (map (λ v. known (labelOf d v)) (columnLabelsAt line cs)) (map (λ v. known (labelOf d v)) ys))
+      columned-more (columnMeant (columnAt line (j + 1))) (orZero (labelOf d (columnLabelAt line (j + 1))))
+      (subst (λ ys. Columned text before ws k c (map columnMeant (labelledColumnsAt line cs)) (columnMeant (columnAt line (j + 1)) ∷ map columnMeant (labelledColumnsAt line e)) (map (λ v. orZero (labelOf d v)) (columnLabelsAt line cs)) (map (λ v. orZero (labelOf d v)) ys))
       (column-labels-more line j space ∙ ap (λ n. columnLabelAt line (j + 1) ∷ columnLabelsAt line n) (sym t))
-      (subst (λ xs. Columned text before ws k c (map columnMeant (labelledColumnsAt line cs)) (map columnMeant xs) (map (λ v. known (labelOf d v)) (columnLabelsAt line cs)) (map (λ v. known (labelOf d v)) (columnLabelsAt line j)))
+      (subst (λ xs. Columned text before ws k c (map columnMeant (labelledColumnsAt line cs)) (map columnMeant xs) (map (λ v. orZero (labelOf d v)) (columnLabelsAt line cs)) (map (λ v. orZero (labelOf d v)) (columnLabelsAt line j)))
       (labelled-columns-more line j space ∙ ap (λ n. columnAt line (j + 1) ∷ labelledColumnsAt line n) (sym t)) g))
       small (subst (λ n. n ≤ 16) (sym (length-map (labelledColumnsAt line cs) columnMeant)) few) s name-is kind-is
-      (is ∙ ap (λ n. known (labelOf d (wordOf line n))) (third-is line (j + 1) w q e first second m third))
+      (is ∙ ap (λ n. orZero (labelOf d (wordOf line n))) (third-is line (j + 1) w q e first second m third))

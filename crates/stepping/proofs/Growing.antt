@@ -19,7 +19,7 @@ use Rattle.document.specs.Meaning.{add, define, rowsGiven}
 use Rattle.document.specs.Policy.{Doc, Grant, Policy, Row, User}
 use Rattle.form.specs.Form.{ColumnForm, Form, GivenForm, Item, Scheme, attr, condRole, grant, label, purpose, role, row, table, user}
 use Rattle.principals.proofs.IndexLaws.{conds-grown, conds-same, users-length, users-none, users-same}
-use Rattle.workspace.proofs.ListedLaws.{length-listed}
+use Rattle.workspace.proofs.TabulatedLaws.{length-tabulated}
 use Rattle.principals.specs.Attributes.{Attributes}
 use Rattle.principals.specs.CondRoles.{CondRoles}
 use Rattle.principals.specs.Grants.{Grants, grantIn}
@@ -223,7 +223,7 @@ module _ {text ps rs bs us cs gs ls ms ts ws : List ℕ} {c : Counts} {d : Doc} 
 
 -- how many grants and rows there are
 pub grants-count : {gs : List ℕ} {k : ℕ} {xs : List Grant} → Grants gs k xs → k ≡ length xs
-grants-count {gs} {k} n = sym (length-listed (grantIn gs) k) ∙ ap length (n .are)
+grants-count {gs} {k} n = sym (length-tabulated (grantIn gs) k) ∙ ap length (n .are)
 
 pub rows-count : {text ws : List ℕ} {k : ℕ} {xs : List Row} → Rows text ws k xs → k ≡ length xs
-rows-count {text} {ws} {k} n = sym (length-listed (rowIn text ws) k) ∙ ap length (n .are)
+rows-count {text} {ws} {k} n = sym (length-tabulated (rowIn text ws) k) ∙ ap length (n .are)

@@ -18,18 +18,18 @@ use Rattle.document.specs.NameFaults.{unknown, usableFor}
 use Rattle.document.specs.Policy.{Attribute, CondRole, Doc, Grant, Node, Policy, User}
 use Rattle.form.specs.Form.{GivenForm, attr, condRole, grant, purpose, role, user}
 use Rattle.form.specs.Walks.{givensAt}
-use Rattle.workspace.proofs.ListedLaws.{length-listed}
+use Rattle.workspace.proofs.TabulatedLaws.{length-tabulated}
 use Rattle.principals.proofs.IndexLaws.{attributes-length, conds-length, conds-same, nodes-length, users-length, users-same}
 use Rattle.workspace.specs.Hash.{hashOf, printOf}
 use Rattle.principals.specs.Attributes.{Attributes}
 use Rattle.workspace.specs.Cells.{lineIn}
-use Rattle.principals.specs.CondRoles.{CondRoles, attributesKnown, conditionAt, conditionRead, conditionReads}
+use Rattle.principals.specs.CondRoles.{CondRoles, attributesKnown, conditionInLine, conditionRead, conditionReads}
 use Rattle.principals.specs.Grants.{Grants, grantIn}
 use Rattle.principals.specs.Nodes.{Nodes}
 use Rattle.principals.specs.Users.{Users}
 use Rattle.lists.proofs.ListLaws.{all-map, there-some}
 use Rattle.lists.proofs.Tests.{and-left, neither-left}
-use Rattle.lists.specs.Lists.{allOf, holdsOf, known, listed, there}
+use Rattle.lists.specs.Lists.{allOf, holdsOf, listed, orZero, there}
 use Rattle.purpose.specs.Members.{limit}
 use Rattle.stepping.proofs.PassLaws.{Passed, passed}
 use Rattle.stepping.proofs.PlaceLaws.{line-placed, word-placed}
@@ -40,8 +40,8 @@ use Rattle.text.specs.Reader.{from}
 use Rattle.text.specs.Words.{Word, wordAt, wordOf}
 
 -- the number of a known name, whatever stands for an unknown one
-known-else : (o : Option ℕ) (m : ℕ) → there o ≡ true → Option·getD o m ≡ known o
-unfolding known there
+known-else : (o : Option ℕ) (m : ℕ) → there o ≡ true → Option·getD o m ≡ orZero o
+unfolding orZero there
 known-else none m h = absurd (true≢false (sym h))
 known-else (some n) m h = refl
 
@@ -54,12 +54,12 @@ holds-there f g (some i) x = refl
 -- ---- purposes and roles
 
 -- the parent of a line that names it
-pub purpose-parent : (d : Doc) (line : List ℕ) (n w : Word) → Passes d line (purpose n (some w)) → known (purposeOf (d .policy) w) ≡ Option·getD (bind (some w) (purposeOf (d .policy))) (length (d .policy .purposes))
+pub purpose-parent : (d : Doc) (line : List ℕ) (n w : Word) → Passes d line (purpose n (some w)) → orZero (purposeOf (d .policy) w) ≡ Option·getD (bind (some w) (purposeOf (d .policy))) (length (d .policy .purposes))
 unfolding unknown listed allOf bind purposeOf
 purpose-parent d line n w ok =
     sym (known-else (purposeOf (d .policy) w) (length (d .policy .purposes)) (and-left _ _ (missing-none (λ (v : Word). there (purposeOf (d .policy) v)) (w ∷ []) (passed d line (purpose n (some w)) ok .knows))))
 
-pub role-parent : (d : Doc) (line : List ℕ) (n w : Word) → Passes d line (role n (some w)) → known (roleOf (d .policy) w) ≡ Option·getD (bind (some w) (roleOf (d .policy))) (length (d .policy .roles))
+pub role-parent : (d : Doc) (line : List ℕ) (n w : Word) → Passes d line (role n (some w)) → orZero (roleOf (d .policy) w) ≡ Option·getD (bind (some w) (roleOf (d .policy))) (length (d .policy .roles))
 unfolding unknown listed allOf bind roleOf
 role-parent d line n w ok =
     sym (known-else (roleOf (d .policy) w) (length (d .policy .roles)) (and-left _ _ (missing-none (λ (v : Word). there (roleOf (d .policy) v)) (w ∷ []) (passed d line (role n (some w)) ok .knows))))
@@ -95,7 +95,7 @@ module _ {text : List ℕ} {at : ℕ} {line : List ℕ} (l : LineAt text at line
   -- ---- attributes, users, conditional roles
 
   pub attr-stored : {ws ws′ : List ℕ} {k : ℕ} (r : Word) (number : ℕ) (kind : Kind) → Attributes text ws k (d .policy .attributes) → Passes d line (attr r (wordOf line n) kind)
-      → number ≡ known (roleOf (d .policy) r)
+      → number ≡ orZero (roleOf (d .policy) r)
       → ((k < 32) → Attributes text ws′ (k + 1) (d .policy .attributes ++ (record { name = wordAt text pos; role = some number; kind = kind } ∷ [])))
       → Attributes text ws′ (k + 1) (add d (attr r (wordOf line n) kind) .policy .attributes)
   unfolding add define overBound unknown
@@ -107,7 +107,7 @@ module _ {text : List ℕ} {at : ℕ} {line : List ℕ} (l : LineAt text at line
       (more (omega (arith, room, attributes-length N)))
 
   pub user-stored : {ws ws′ : List ℕ} {k : ℕ} (r : Word) (gs number end : ℕ) → Users (d .policy) text ws k (d .policy .users) → Passes d line (user (wordOf line n) r (givensAt line gs))
-      → number ≡ known (roleOf (d .policy) r) → (at + length line ≤ length text → end ≡ at + length line)
+      → number ≡ orZero (roleOf (d .policy) r) → (at + length line ≤ length text → end ≡ at + length line)
       → ((k < 256) → Users (d .policy) text ws′ (k + 1) (d .policy .users ++ (record { name = wordAt text pos; role = number; values = map (givenOf (d .policy)) (givensAt (lineIn text at end) gs) } ∷ [])))
       → Users (add d (user (wordOf line n) r (givensAt line gs)) .policy) text ws′ (k + 1) (add d (user (wordOf line n) r (givensAt line gs)) .policy .users)
   unfolding add define overBound
@@ -119,8 +119,8 @@ module _ {text : List ℕ} {at : ℕ} {line : List ℕ} (l : LineAt text at line
       (more (subst (λ (m : ℕ). m < 256) (users-length N) room)))
 
   pub cond-stored : {ws ws′ : List ℕ} {k : ℕ} (r : Word) (t number end : ℕ) → CondRoles (d .policy) text ws k (d .policy .condRoles) → Passes d line (condRole (wordOf line n) r (conditionRead (conditionInForm (from line t))))
-      → number ≡ known (roleOf (d .policy) r) → (at + length line ≤ length text → end ≡ at + length line) → there (conditionInForm (from line t)) ≡ true
-      → ((k < 64) → attributesKnown (d .policy) (conditionAt text at end t) ≡ true → conditionReads text at end t ≡ true → CondRoles (d .policy) text ws′ (k + 1) (d .policy .condRoles ++ (record { name = wordAt text pos; role = number; condition = mapCond (attributeComparison (d .policy)) (conditionAt text at end t) } ∷ [])))
+      → number ≡ orZero (roleOf (d .policy) r) → (at + length line ≤ length text → end ≡ at + length line) → there (conditionInForm (from line t)) ≡ true
+      → ((k < 64) → attributesKnown (d .policy) (conditionInLine text at end t) ≡ true → conditionReads text at end t ≡ true → CondRoles (d .policy) text ws′ (k + 1) (d .policy .condRoles ++ (record { name = wordAt text pos; role = number; condition = mapCond (attributeComparison (d .policy)) (conditionInLine text at end t) } ∷ [])))
       → CondRoles (add d (condRole (wordOf line n) r (conditionRead (conditionInForm (from line t)))) .policy) text ws′ (k + 1) (add d (condRole (wordOf line n) r (conditionRead (conditionInForm (from line t)))) .policy .condRoles)
   unfolding add define overBound unknown
   cond-stored {ws} {ws′} {k} r t number end N ok q f read more =
@@ -134,24 +134,24 @@ module _ {text : List ℕ} {at : ℕ} {line : List ℕ} (l : LineAt text at line
       reads : conditionReads text at end t ≡ there (conditionInForm (from line t))
       reads = unfold conditionReads in ap (λ s. there (conditionInForm (from s t))) (line-placed l end f)
 
-      same : conditionAt text at end t ≡ conditionRead (conditionInForm (from line t))
-      same = unfold conditionAt in ap (λ s. conditionRead (conditionInForm (from s t))) (line-placed l end f)
+      same : conditionInLine text at end t ≡ conditionRead (conditionInForm (from line t))
+      same = unfold conditionInLine in ap (λ s. conditionRead (conditionInForm (from s t))) (line-placed l end f)
 
       usable : (m : ℕ) (w : Word) → usableFor (d .policy) m w ≡ true → there (attributeOf (d .policy) w) ≡ true
       usable m w = unfold usableFor attributeNamed in holds-there _ _ (attributeOf (d .policy) w)
 
-      compared : missing (usableFor (d .policy) (known (roleOf (d .policy) r))) (map (λ (x : Compared). x .of) (comparisons (conditionRead (conditionInForm (from line t))))) ≡ none → attributesKnown (d .policy) (conditionRead (conditionInForm (from line t))) ≡ true
+      compared : missing (usableFor (d .policy) (orZero (roleOf (d .policy) r))) (map (λ (x : Compared). x .of) (comparisons (conditionRead (conditionInForm (from line t))))) ≡ none → attributesKnown (d .policy) (conditionRead (conditionInForm (from line t))) ≡ true
       compared x = unfold attributesKnown in
           sym (all-map (λ (w : Word). there (attributeOf (d .policy) w)) (λ (x : Compared). x .of) (comparisons (conditionRead (conditionInForm (from line t)))))
-          ∙ missing-none _ _ (missing-mono _ _ (usable (known (roleOf (d .policy) r))) _ x)
+          ∙ missing-none _ _ (missing-mono _ _ (usable (orZero (roleOf (d .policy) r))) _ x)
 
 -- ---- grants
 
 grants-length : {ws : List ℕ} {k : ℕ} {gs : List Grant} → Grants ws k gs → length gs ≡ k
-grants-length {ws} {k} N = ap length (sym (N .are)) ∙ length-listed (grantIn ws) k
+grants-length {ws} {k} N = ap length (sym (N .are)) ∙ length-tabulated (grantIn ws) k
 
 pub grant-stored : {ws ws′ : List ℕ} {k : ℕ} (line : List ℕ) (d : Doc) (p c : Word) (granted holder : ℕ) → Grants ws k (d .policy .grants) → Passes d line (grant p c)
-    → granted ≡ known (purposeOf (d .policy) p) → holder ≡ known (condRoleOf (d .policy) c)
+    → granted ≡ orZero (purposeOf (d .policy) p) → holder ≡ orZero (condRoleOf (d .policy) c)
     → ((k < 128) → Grants ws′ (k + 1) (d .policy .grants ++ (record { purpose = granted; condRole = holder } ∷ [])))
     → Grants ws′ (k + 1) (add d (grant p c) .policy .grants)
 unfolding add define overBound

@@ -7,7 +7,7 @@ use Rattle.document.specs.Check.{checkForm}
 use Rattle.document.specs.Meaning.{add}
 use Rattle.document.specs.Policy.{Doc}
 use Rattle.form.specs.Form.{Form}
-use Rattle.text.specs.Reasons.{numberOf}
+use Rattle.text.specs.Reasons.{reasonNumber}
 use Rattle.text.specs.Refusal.{Refusal, Result, accepted, document, pointing, pointingAll, refused}
 use Rattle.text.specs.Words.{wordOf}
 use Rattle.stepping.specs.declared.fault.Fault.{Fault}
@@ -17,8 +17,8 @@ use Rattle.stepping.specs.declared.fault.Verdict.the-variants.{Faulty, F
 
 -- the refusal that a fault stands for, its part placed within the line
 abbrev pub refusalIn : List ℕ → Fault → Refusal
-refusalIn line (Whole x) = pointingAll (numberOf x) document line
-refusalIn line (Item x at) = pointing (numberOf x) document (wordOf line at)
+refusalIn line (Whole x) = pointingAll (reasonNumber x) document line
+refusalIn line (Item x at) = pointing (reasonNumber x) document (wordOf line at)
 
 -- the document with the form added, or the refusal
 abbrev pub judged : Doc → List ℕ → Form → Verdict → Result Doc

@@ -24,7 +24,7 @@ use Rattle.stepping.specs.declared.fault.Verdict.{Verdict}
 use Rattle.stepping.specs.declared.fault.Verdict.the-variants.{Faulty, Fine}
 use Rattle.form.specs.Form.{Form, label}
 use Rattle.form.specs.Walks.{namesAt}
-use Rattle.workspace.proofs.ListedLaws.{length-listed}
+use Rattle.workspace.proofs.TabulatedLaws.{length-tabulated}
 use Rattle.workspace.specs.Found.{foundAs}
 use Rattle.relations.specs.Labels.{Labels}
 use Rattle.principals.specs.Nodes.{Nodes}
@@ -42,7 +42,7 @@ use Rattle.text.specs.declared.refusals.Reason.the-variants.{NameTaken, NameUnk
 
 labels-length : {text ws sets : List ℕ} {k : ℕ} {ls : List Label} → Labels text ws sets k ls → length ls ≡ k
 labels-length {text} {ws} {k = k} {ls} h =
-    sym (length-map ls (λ l. l .name)) ∙ ap length (sym (h .named)) ∙ length-listed (λ i. wordAt text (getD ws i 0)) k
+    sym (length-map ls (λ l. l .name)) ∙ ap length (sym (h .named)) ∙ length-tabulated (λ i. wordAt text (getD ws i 0)) k
 
 module _ (text ws : List ℕ) (m : ℕ) (labels : List ℕ) (k : ℕ) (line : List ℕ) (l a x : ℕ) where
   abbrev Held : Doc → Type 0

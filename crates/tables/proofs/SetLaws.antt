@@ -14,10 +14,10 @@ use Rattle.form.specs.Form.{label}
 use Rattle.form.specs.Walks.{namesAt}
 use Rattle.relations.proofs.LabelLaws.{holds-insert-behind, holds-none, labels-long}
 use Rattle.workspace.specs.Found.{FoundBelow, foundAs}
-use Rattle.relations.specs.Labels.{Holds, Labels}
+use Rattle.relations.specs.Labels.{Labels, SetHolds}
 use Rattle.workspace.specs.declared.found.Found.{Found}
 use Rattle.workspace.specs.declared.found.Found.the-variants as found
-use Rattle.lists.specs.Lists.{known}
+use Rattle.lists.specs.Lists.{orZero}
 use Rattle.purpose.specs.Compliance.{Same}
 use Rattle.purpose.specs.Members.{including, limit, members}
 use Rattle.stepping.proofs.PassLaws.{passed}
@@ -29,7 +29,7 @@ use Rattle.text.specs.Words.{Word, wordAt, wordOf}
 -- the words hold the numbers of the names that were passed, and those of the names from j on are left
 pub record Gathered (f : Word → ℕ) (line : List ℕ) (at j : ℕ) (ws : List ℕ) : Type 0 where
   pub taken : List ℕ
-  pub holds : Holds ws taken
+  pub holds : SetHolds ws taken
   pub all : map f (namesAt line at) ≡ taken ++ map f (namesAt line j)
 
 module _ (f : Word → ℕ) (line : List ℕ) (at : ℕ) where
@@ -48,19 +48,19 @@ module _ (f : Word → ℕ) (line : List ℕ) (at : ℕ) where
         ∙ sym (append-assoc (g .taken) (p ∷ []) (map f (namesAt line e)));
   }
 
-  pub gathered-all : (j : ℕ) (ws : List ℕ) → Gathered f line at j ws → (getD line j 0 ≡ 32 → ⊥) → Holds ws (map f (namesAt line at))
-  gathered-all j ws g h = subst (Holds ws) (sym (g .all ∙ ap (λ x. g .taken ++ map f x) (names-stop line j h) ∙ append-nil (g .taken))) (g .holds)
+  pub gathered-all : (j : ℕ) (ws : List ℕ) → Gathered f line at j ws → (getD line j 0 ≡ 32 → ⊥) → SetHolds ws (map f (namesAt line at))
+  gathered-all j ws g h = subst (SetHolds ws) (sym (g .all ∙ ap (λ x. g .taken ++ map f x) (names-stop line j h) ∙ append-nil (g .taken))) (g .holds)
 
 -- a number that was found is one that a tree may have
-pub found-small : (r : Found) (k : ℕ) → FoundBelow r k → k ≤ limit → known (foundAs r) < limit
-unfolding known
+pub found-small : (r : Found) (k : ℕ) → FoundBelow r k → k ≤ limit → orZero (foundAs r) < limit
+unfolding orZero
 found-small found.Nothing k b l = omega arith
 found-small (found.At n) k b l = omega (arith, b, l)
 
 -- the label that is stored is what the line adds
 pub label-stored : {text : List ℕ} {at : ℕ} {line : List ℕ} {ws ws′ sets sets′ : List ℕ} {k : ℕ} (l : LineAt text at line) (d : Doc) (n pos : ℕ) → n ≤ length line → (at + n ≤ length text → pos ≡ at + n)
     → (ps qs : List Word) → Labels text ws sets k (d .policy .labels) → Passes d line (label (wordOf line n) ps qs)
-    → ((k < 64) → Labels text ws′ sets′ (k + 1) (d .policy .labels ++ (record { name = wordAt text pos; marks = record { allowed = map (λ w. known (purposeOf (d .policy) w)) ps; denied = map (λ w. known (purposeOf (d .policy) w)) qs } } ∷ [])))
+    → ((k < 64) → Labels text ws′ sets′ (k + 1) (d .policy .labels ++ (record { name = wordAt text pos; marks = record { allowed = map (λ w. orZero (purposeOf (d .policy) w)) ps; denied = map (λ w. orZero (purposeOf (d .policy) w)) qs } } ∷ [])))
     → Labels text ws′ sets′ (k + 1) (add d (label (wordOf line n) ps qs) .policy .labels)
 unfolding add define overBound marksOf
 label-stored {text} {at} {line} {ws} {ws′} {sets} {sets′} {k} l d n pos h e ps qs N ok more =

@@ -11,14 +11,14 @@ use Rattle.document.specs.Lookup.{labelOf}
 use Rattle.document.specs.Meaning.{add, columnMeant, define}
 use Rattle.document.specs.Policy.{Column, Doc, Table}
 use Rattle.form.specs.Form.{ColumnForm, byTable, mapScheme}
-use Rattle.form.specs.Walks.{columnLabelsAt, columnsAt, labelledColumnsAt}
+use Rattle.form.specs.Walks.{columnFormsAt, columnLabelsAt, labelledColumnsAt}
 use Rattle.relations.proofs.TableLaws.{tables-counted}
 use Rattle.relations.specs.Tables.{Filling, Tables, schemeBy}
 use Rattle.form.specs.TableWords.{columnWords, labelsColumns, schemeWords, tableLine}
 use Rattle.form.specs.declared.lines.Scheme as coded
 use Rattle.form.specs.declared.lines.Scheme.the-variants as code
 use Rattle.lists.proofs.Tests.{neither-left, neither-right, true-not-false}
-use Rattle.lists.specs.Lists.{known}
+use Rattle.lists.specs.Lists.{orZero}
 use Rattle.stepping.proofs.PassLaws.{Passed, passed}
 use Rattle.stepping.proofs.PlaceLaws.{word-placed}
 use Rattle.stepping.specs.Stored.{ColumnsFilled, LineAt, Passes}
@@ -34,7 +34,7 @@ module _ (f : Word → ℕ) (line : List ℕ) (l cs : ℕ) where
   labelled-columns code.ByRow h = true-not-false h refl
   labelled-columns code.ByCell h = true-not-false h refl
 
-  pub plain-columns : (s : coded.Scheme) → labelsColumns s ≡ false → columnWords line s cs ≡ columnsAt line cs
+  pub plain-columns : (s : coded.Scheme) → labelsColumns s ≡ false → columnWords line s cs ≡ columnFormsAt line cs
   unfolding columnWords
   plain-columns code.Unlabelled h = refl
   plain-columns code.ByTable h = refl
@@ -60,7 +60,7 @@ module _ (f : Word → ℕ) (line : List ℕ) (l cs : ℕ) where
 
 module _ {text : List ℕ} {at : ℕ} {line : List ℕ} (p : LineAt text at line) (d : Doc) (t pos : ℕ) (h : t ≤ length line) (e : at + t ≤ length text → pos ≡ at + t) (s : coded.Scheme) (l cs : ℕ) where
   pub table-stored : {before mid after : List ℕ} {k width : ℕ} (label : ℕ) (fs : List ColumnForm) (ls : List ℕ) → Tables text before k (d .policy .tables) → Passes d line (tableLine line t s l cs)
-      → columnWords line s cs ≡ fs → schemeBy s label ls ≡ mapScheme (λ w. known (labelOf (d .policy) w)) (schemeWords line s l cs)
+      → columnWords line s cs ≡ fs → schemeBy s label ls ≡ mapScheme (λ w. orZero (labelOf (d .policy) w)) (schemeWords line s l cs)
       → (k < 8 → length fs ≤ 16 → ColumnsFilled text before mid k width (map columnMeant fs) ls)
       → ((ts : List Table) (xs : List Column) (ys : List ℕ) → Tables text mid k ts → k < 8 → Filling text mid k width xs ys → Tables text after (k + 1) (ts ++ (record { name = wordAt text pos; scheme = schemeBy s label ys; columns = xs } ∷ [])))
       → Tables text after (k + 1) (add d (tableLine line t s l cs) .policy .tables)

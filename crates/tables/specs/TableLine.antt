@@ -7,7 +7,7 @@ use mathlib.Core.Path.{_≡_}
 use Rattle.document.specs.Policy.{Doc}
 use Rattle.stepping.specs.Judged.{Judges}
 use Rattle.form.specs.Form.{ColumnForm}
-use Rattle.form.specs.Walks.{columnsAt, labelledColumnsAt, pairEndAt, tripleEndAt}
+use Rattle.form.specs.Walks.{columnFormsAt, labelledColumnsAt, pairEndAt, tripleEndAt}
 use Rattle.form.specs.TableWords.{columnWords, tableLine}
 use Rattle.stepping.specs.declared.fault.Verdict.{Verdict}
 use Rattle.stepping.specs.declared.fault.Verdict.the-variants.{Fine}
@@ -16,7 +16,7 @@ use Rattle.form.specs.declared.lines.Scheme as coded
 -- the columns from a position on, in brackets of three words or of two
 unfoldable pub columnsBy : Bool → List ℕ → ℕ → List ColumnForm
 columnsBy true s at = labelledColumnsAt s at
-columnsBy false s at = columnsAt s at
+columnsBy false s at = columnFormsAt s at
 
 -- where such a bracket ends
 unfoldable pub bracketEndBy : Bool → List ℕ → ℕ → ℕ

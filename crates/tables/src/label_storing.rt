@@ -19,9 +19,9 @@ ghost use Rattle.document.specs.Meaning.{add};
 ghost use Rattle.document.specs.Policy.{Doc, Policy};
 ghost use Rattle.form.specs.Form.{label};
 ghost use Rattle.form.specs.Walks.{namesAt};
-ghost use Rattle.relations.specs.Labels.{Holds, Labels};
+ghost use Rattle.relations.specs.Labels.{Labels, SetHolds};
 ghost use Rattle.principals.specs.Nodes.{Nodes};
-ghost use Rattle.lists.specs.Lists.{known};
+ghost use Rattle.lists.specs.Lists.{orZero};
 ghost use Rattle.purpose.specs.Members.{limit};
 ghost use Rattle.stepping.specs.Stored.{LineAt, Passes};
 ghost use Rattle.text.specs.Words.{wordOf};
@@ -34,7 +34,7 @@ pub fn set_of(
     line: &[u8],
     at: usize,
 ) -> [u64; WORDS]
-    ensures { λ r. ⌜ ((d : Policy) → Nodes limit (now (text .entry)) (now (purposes .entry)) k (d .purposes) → Holds r (map (λ w. known (purposeOf d w)) (namesAt (now (line .entry)) at))) ⌝ }
+    ensures { λ r. ⌜ ((d : Policy) → Nodes limit (now (text .entry)) (now (purposes .entry)) k (d .purposes) → SetHolds r (map (λ w. orZero (purposeOf d w)) (namesAt (now (line .entry)) at))) ⌝ }
 {
     let mut r = no_members();
     let mut j = at;

@@ -22,11 +22,11 @@ ghost use Rattle.condition.specs.Answers.{kindOf};
 ghost use Rattle.document.specs.Lookup.{labelOf};
 ghost use Rattle.document.specs.Meaning.{add, columnMeant};
 ghost use Rattle.document.specs.Policy.{Doc, Policy};
-ghost use Rattle.form.specs.Walks.{columnLabelsAt, columnsAt, kindAt, labelledColumnsAt};
+ghost use Rattle.form.specs.Walks.{columnFormsAt, columnLabelsAt, kindAt, labelledColumnsAt};
 ghost use Rattle.relations.specs.Labels.{Labels};
 ghost use Rattle.relations.specs.Tables.{Tables};
 ghost use Rattle.form.specs.TableWords.{tableLine};
-ghost use Rattle.lists.specs.Lists.{known};
+ghost use Rattle.lists.specs.Lists.{orZero};
 ghost use Rattle.stepping.specs.Stored.{ColumnsFilled, LineAt, Passes};
 
 // The type that the word at a place of the line names.
@@ -48,7 +48,7 @@ fn store_columns(
     line: &[u8],
     cs: usize,
 ) -> usize
-    ensures { λ r. ⌜ (LineAt (now (text .entry)) at (now (line .entry)) → k < 8 → length (columnsAt (now (line .entry)) cs) ≤ 16 → ColumnsFilled (now (text .entry)) (now (tables .entry)) (now (tables .exit)) k r (map columnMeant (columnsAt (now (line .entry)) cs)) (map (λ x. 0) (columnsAt (now (line .entry)) cs))) ⌝ }
+    ensures { λ r. ⌜ (LineAt (now (text .entry)) at (now (line .entry)) → k < 8 → length (columnFormsAt (now (line .entry)) cs) ≤ 16 → ColumnsFilled (now (text .entry)) (now (tables .entry)) (now (tables .exit)) k r (map columnMeant (columnFormsAt (now (line .entry)) cs)) (map (λ x. 0) (columnFormsAt (now (line .entry)) cs))) ⌝ }
 {
     let mut c: usize = 0;
     let mut j = cs;
@@ -75,7 +75,7 @@ fn store_labelled_columns(
     line: &[u8],
     cs: usize,
 ) -> usize
-    ensures { λ r. ⌜ ((d : Policy) (sets : List ℕ) → LineAt (now (text .entry)) at (now (line .entry)) → Labels (now (text .entry)) (now (labels .entry)) sets «labels_count» (d .labels) → k < 8 → length (labelledColumnsAt (now (line .entry)) cs) ≤ 16 → ColumnsFilled (now (text .entry)) (now (tables .entry)) (now (tables .exit)) k r (map columnMeant (labelledColumnsAt (now (line .entry)) cs)) (map (λ w. known (labelOf d w)) (columnLabelsAt (now (line .entry)) cs))) ⌝ }
+    ensures { λ r. ⌜ ((d : Policy) (sets : List ℕ) → LineAt (now (text .entry)) at (now (line .entry)) → Labels (now (text .entry)) (now (labels .entry)) sets «labels_count» (d .labels) → k < 8 → length (labelledColumnsAt (now (line .entry)) cs) ≤ 16 → ColumnsFilled (now (text .entry)) (now (tables .entry)) (now (tables .exit)) k r (map columnMeant (labelledColumnsAt (now (line .entry)) cs)) (map (λ w. orZero (labelOf d w)) (columnLabelsAt (now (line .entry)) cs))) ⌝ }
 {
     let mut c: usize = 0;
     let mut j = cs;

@@ -16,7 +16,7 @@ use Rattle.text.proofs.Spaces.{optional-here, optional-not}
 use Rattle.text.proofs.WordLaws.{word-more, word-read, word-refused, word-stop}
 use Rattle.text.specs.Brackets.{optional}
 use Rattle.text.specs.Bytes.{isDigit, isNameByte}
-use Rattle.text.specs.CodeEnds.{amountOf, endedAt, limited, numberOf, optionalOf, wordEnd}
+use Rattle.text.specs.CodeEnds.{amountOf, endOfNumber, endedAt, limited, optionalOf, wordEnd}
 use Rattle.text.specs.Names.{isName}
 use Rattle.text.specs.Numbers.{digitsFrom, rank, rankDown, rankUp}
 use Rattle.text.specs.Reader.{Left, andThen, from, give}
@@ -132,7 +132,7 @@ amount-nothing (some m) h = let z : _≡_ {A = ℕ} 0 1 = cc in absurd (omega ar
 
 module _ (s : List ℕ) (at : ℕ) where
   -- an end and a rank: the word has that rank, and ends there
-  pub number-at : (e k : ℕ) → numberOf (readNumber (from s at)) ≡ number.At e k → (rank (wordAt s at) ≡ some k) × (e ≡ at + length (wordAt s at))
+  pub number-at : (e k : ℕ) → endOfNumber (readNumber (from s at)) ≡ number.At e k → (rank (wordAt s at) ≡ some k) × (e ≡ at + length (wordAt s at))
   number-at e k h = go (rank (wordAt s at)) refl
     where
       go : (o : Option ℕ) → rank (wordAt s at) ≡ o → (rank (wordAt s at) ≡ some k) × (e ≡ at + length (wordAt s at))
@@ -147,11 +147,11 @@ module _ (s : List ℕ) (at : ℕ) where
           (q ∙ ap some n, f)
 
   -- so an end and a rank that are the word's are the answer
-  pub number-ended : {e k : ℕ} → e ≡ at + length (wordAt s at) → rank (wordAt s at) ≡ some k → number.At e k ≡ numberOf (readNumber (from s at))
+  pub number-ended : {e k : ℕ} → e ≡ at + length (wordAt s at) → rank (wordAt s at) ≡ some k → number.At e k ≡ endOfNumber (readNumber (from s at))
   number-ended {e} {k} q h = rw (number-read s at k h) (ap (λ (f : ℕ). number.At f k) q)
 
   -- none: it has none
-  pub number-nothing : numberOf (readNumber (from s at)) ≡ number.Nothing → rank (wordAt s at) ≡ none
+  pub number-nothing : endOfNumber (readNumber (from s at)) ≡ number.Nothing → rank (wordAt s at) ≡ none
   number-nothing h = go (rank (wordAt s at)) refl
     where
       go : (o : Option ℕ) → rank (wordAt s at) ≡ o → rank (wordAt s at) ≡ none
@@ -215,18 +215,18 @@ numberAnswer = record {
   apart = λ e k h. number-apart e k h;
 }
 
-number-answer : (o : Option (ℕ × Left)) → numberOf o ≡ answerOf numberAnswer (λ (k : ℕ). k) o
+number-answer : (o : Option (ℕ × Left)) → endOfNumber o ≡ answerOf numberAnswer (λ (k : ℕ). k) o
 number-answer none = refl
 number-answer (some r) = refl
 
 module _ (s : List ℕ) (at : ℕ) where
   -- an end and a rank: the reader of numbers read the rank, and left the text from the end on
-  pub number-to : (e k : ℕ) → numberOf (readNumber (from s at)) ≡ number.At e k → readNumber (from s at) ≡ some (k, from s e)
+  pub number-to : (e k : ℕ) → endOfNumber (readNumber (from s at)) ≡ number.At e k → readNumber (from s at) ≡ some (k, from s e)
   number-to e k h =
       let r = read-at numberAnswer readNumber (λ n. n) (λ n. 1) eats-number s at e k (sym (number-answer (readNumber (from s at))) ∙ h) in
       r .is ∙ ap (λ (n : ℕ). some (n, from s e)) (r .made)
 
-  pub number-none : numberOf (readNumber (from s at)) ≡ number.Nothing → readNumber (from s at) ≡ none
+  pub number-none : endOfNumber (readNumber (from s at)) ≡ number.Nothing → readNumber (from s at) ≡ none
   number-none h = read-refused numberAnswer readNumber (λ n. n) (λ n. 1) eats-number s at (sym (number-answer (readNumber (from s at))) ∙ h)
 
 -- ---- an optional name

@@ -53,9 +53,9 @@ endedAt e amount.Nothing = number.Nothing
 endedAt e (amount.Is n) = number.At e n
 
 -- where the reader of a number ends, and the number's rank; or that it refuses
-abbrev pub numberOf : Option (ℕ × Left) → Number
-numberOf none = number.Nothing
-numberOf (some r) = number.At (r .1 .at) (r .0)
+abbrev pub endOfNumber : Option (ℕ × Left) → Number
+endOfNumber none = number.Nothing
+endOfNumber (some r) = number.At (r .1 .at) (r .0)
 
 -- the word of a text at the place that the code's answer names, if it names one
 abbrev pub offendingOf : List ℕ → Offending → Option Word

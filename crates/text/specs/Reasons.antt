@@ -8,28 +8,28 @@ use Rattle.text.specs.declared.refusals.Source.the-variants.{Document, F
 use Rattle.text.specs.declared.refusals.Refusal.{Refusal}
 
 -- the number of a reason
-abbrev pub numberOf : Reason → ℕ
-numberOf TooLong = 1
-numberOf WrongForm = 2
-numberOf OverBound = 3
-numberOf NameTaken = 4
-numberOf NameUnknown = 5
-numberOf SecondRoot = 6
-numberOf WrongValues = 7
-numberOf WrongType = 8
-numberOf LateAttribute = 9
-numberOf ClockOutOfRange = 10
-numberOf NotAQuery = 11
-numberOf UnknownParty = 12
-numberOf RoleNotGiven = 13
-numberOf NotAuthorised = 14
-numberOf UnknownColumn = 15
-numberOf MistypedQuery = 16
-numberOf Closed = 17
-numberOf BufferTooShort = 18
-numberOf MalformedRecord = 19
-numberOf UnfitField = 20
-numberOf ImportTooShort = 21
+abbrev pub reasonNumber : Reason → ℕ
+reasonNumber TooLong = 1
+reasonNumber WrongForm = 2
+reasonNumber OverBound = 3
+reasonNumber NameTaken = 4
+reasonNumber NameUnknown = 5
+reasonNumber SecondRoot = 6
+reasonNumber WrongValues = 7
+reasonNumber WrongType = 8
+reasonNumber LateAttribute = 9
+reasonNumber ClockOutOfRange = 10
+reasonNumber NotAQuery = 11
+reasonNumber UnknownParty = 12
+reasonNumber RoleNotGiven = 13
+reasonNumber NotAuthorised = 14
+reasonNumber UnknownColumn = 15
+reasonNumber MistypedQuery = 16
+reasonNumber Closed = 17
+reasonNumber BufferTooShort = 18
+reasonNumber MalformedRecord = 19
+reasonNumber UnfitField = 20
+reasonNumber ImportTooShort = 21
 
 -- the text that a refusal points into
 abbrev pub sourceOf : Source → meant.Source
@@ -39,4 +39,4 @@ sourceOf File = meant.file
 
 -- the refusal that the code's answer stands for
 abbrev pub refusalOf : Refusal → meant.Refusal
-refusalOf r = record { number = numberOf (r .reason); source = sourceOf (r .source); start = r .start; len = r .len }
+refusalOf r = record { number = reasonNumber (r .reason); source = sourceOf (r .source); start = r .start; len = r .len }

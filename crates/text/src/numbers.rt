@@ -8,7 +8,7 @@ ghost use mathlib.Core.Path.{_≡_};
 ghost use Rattle.text.specs.Reader.{from};
 ghost use Rattle.text.specs.Words.{wordAt, readNumber};
 ghost use Rattle.text.specs.Numbers.{digitsFrom, noLeadingZero, magnitude, rank};
-ghost use Rattle.text.specs.CodeEnds.{limited, endedAt, amountOf, numberOf};
+ghost use Rattle.text.specs.CodeEnds.{limited, endedAt, amountOf, endOfNumber};
 
 // A number, where there is one.
 pub enum Amount {
@@ -83,7 +83,7 @@ pub fn magnitude_at(s: &[u8], at: usize) -> Amount
 
 // The end of the number at a position, and its rank.
 pub fn read_number(s: &[u8], at: usize) -> Number
-    ensures { λ r. ⌜ r ≡ numberOf (readNumber (from (now (s .entry)) at)) ⌝ }
+    ensures { λ r. ⌜ r ≡ endOfNumber (readNumber (from (now (s .entry)) at)) ⌝ }
 {
     if byte_at(s, at) == b'-' {
         let m = read_magnitude(s, at + 1);

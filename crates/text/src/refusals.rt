@@ -1,6 +1,6 @@
 // Refusals: why, in which text, and which part of it.
 ghost use mathlib.Core.Path.{_≡_};
-ghost use Rattle.text.specs.Reasons.{numberOf};
+ghost use Rattle.text.specs.Reasons.{reasonNumber};
 
 // Why a document, a query or a file is refused; each case has its number in the paper.
 pub enum Reason {
@@ -44,7 +44,7 @@ pub struct Refusal {
 
 // The number of a reason.
 pub fn number(r: Reason) -> usize
-    ensures { λ n. ⌜ n ≡ numberOf r ⌝ }
+    ensures { λ n. ⌜ n ≡ reasonNumber r ⌝ }
 {
     match r {
         Reason::TooLong => 1,

@@ -19,7 +19,7 @@ use Rattle.form.specs.Walks.{cellAt, cellEndAt, cellLabelIn, cellsAt, firstIn, 
 use Rattle.relations.proofs.TableLaws.{column-inside}
 use Rattle.relations.specs.Rows.{LabelStored, ValueStored}
 use Rattle.relations.specs.Tables.{Tables, columnKindIn}
-use Rattle.lists.specs.Lists.{known, there}
+use Rattle.lists.specs.Lists.{orZero, there}
 use Rattle.walks.proofs.Typed.{ItemsPassed, all-passed, items-turn, none-passed, typed-at, typed-value}
 use Rattle.walks.specs.Walked.{CellsTaken, LabelTaken, LabelWalked, typedEnd}
 use Rattle.stepping.proofs.PlaceLaws.{written-placed}
@@ -48,7 +48,7 @@ use Rattle.text.specs.declared.words.End.the-variants.{At}
 
 pub label-taken : {before after line : List ℕ} {d : Policy} {k m at e y : ℕ} → getD line at 0 ≡ 32 → wordEnd (name (from line (at + 1))) ≡ At e
     → (e ≡ at + 1 + length (wordAt line (at + 1)) → some y ≡ labelOf d (wordOf line (at + 1))) → LabelStored before after k m y → LabelTaken before after line d k m at e
-unfolding wordEndAt there known
+unfolding wordEndAt there orZero
 label-taken {before} {after} {line} {d} {k} {m} {at} {e} {y} space read to s =
     let w = word-at line (at + 1) isName e read in
     let found = to (w .1) in
@@ -57,7 +57,7 @@ label-taken {before} {after} {line} {d} {k} {m} {at} {e} {y} space read to s =
       named = w .0;
       end = w .1;
       found = sym (ap there found);
-      stored = subst (λ z. LabelStored before after k m z) (ap known found) s;
+      stored = subst (λ z. LabelStored before after k m z) (ap orZero found) s;
     }
 
 -- the code says where it ends
@@ -70,7 +70,7 @@ label-at {before} {after} {line} {d} {k} {m} {at} q h = subst (λ z. LabelWalked
 pub record CellsPassed (text before after line : List ℕ) (k n c : ℕ) (d : Policy) (cs : List Column) (is j : ℕ) : Type 0 where
   pub items : ItemsPassed true line n c cs is j
   pub labelled : missing (λ w. there (labelOf d w)) (bracketLabels (itemsAt line is)) ≡ missing (λ w. there (labelOf d w)) (bracketLabels (itemsAt line j))
-  pub rowed : Rowed text before after k c c (map (λ g. g .0 .bytes) (cellsAt line is)) (map (λ g. g .0 .bytes) (cellsAt line j)) (map (λ g. known (labelOf d (g .1))) (cellsAt line is)) (map (λ g. known (labelOf d (g .1))) (cellsAt line j))
+  pub rowed : Rowed text before after k c c (map (λ g. g .0 .bytes) (cellsAt line is)) (map (λ g. g .0 .bytes) (cellsAt line j)) (map (λ g. orZero (labelOf d (g .1))) (cellsAt line is)) (map (λ g. orZero (labelOf d (g .1))) (cellsAt line j))
 
 pub no-cells-passed : (text ws line : List ℕ) (k n : ℕ) (d : Policy) (cs : List Column) (is : ℕ) → CellsPassed text ws ws line k n 0 d cs is is
 no-cells-passed text ws line k n d cs is = record {
@@ -85,7 +85,7 @@ all-cells-passed {text} {before} {after} {line} {k} {n} {c} {d} {cs} {is} {j} q 
     record {
       walked = all-passed (g .items);
       labelled = g .labelled;
-      filled = λ z. rowed-all (g .rowed) (ap (map (λ g. g .0 .bytes)) z) (ap (map (λ g. known (labelOf d (g .1)))) z);
+      filled = λ z. rowed-all (g .rowed) (ap (map (λ g. g .0 .bytes)) z) (ap (map (λ g. orZero (labelOf d (g .1)))) z);
     }
 
 -- ---- one cell: where its words stand, and that it is read as an item
@@ -116,18 +116,18 @@ module _ (line : List ℕ) (j e f : ℕ) (opened : getD line (j + 1) 0 ≡ 40) (
       (sym (ap wordEnd (byte-at-read line f 41 closed))))
 
   cell-stored : {text : List ℕ} {at : ℕ} (l : LineAt text at line) {before ws mid after : List ℕ} {k c : ℕ} (d : Policy) (is pos : ℕ) → getD line j 0 ≡ 32 → (at + (j + 2) ≤ length text → pos ≡ at + (j + 2))
-      → ValueStored ws mid k c pos → LabelStored mid after k c (known (labelOf d (wordOf line (e + 1)))) → k < 1024 → c < 16
-      → Rowed text before ws k c c (map (λ g. g .0 .bytes) (cellsAt line is)) (map (λ g. g .0 .bytes) (cellsAt line j)) (map (λ g. known (labelOf d (g .1))) (cellsAt line is)) (map (λ g. known (labelOf d (g .1))) (cellsAt line j))
-      → Rowed text before after k (c + 1) (c + 1) (map (λ g. g .0 .bytes) (cellsAt line is)) (map (λ g. g .0 .bytes) (cellsAt line (f + 1))) (map (λ g. known (labelOf d (g .1))) (cellsAt line is)) (map (λ g. known (labelOf d (g .1))) (cellsAt line (f + 1)))
+      → ValueStored ws mid k c pos → LabelStored mid after k c (orZero (labelOf d (wordOf line (e + 1)))) → k < 1024 → c < 16
+      → Rowed text before ws k c c (map (λ g. g .0 .bytes) (cellsAt line is)) (map (λ g. g .0 .bytes) (cellsAt line j)) (map (λ g. orZero (labelOf d (g .1))) (cellsAt line is)) (map (λ g. orZero (labelOf d (g .1))) (cellsAt line j))
+      → Rowed text before after k (c + 1) (c + 1) (map (λ g. g .0 .bytes) (cellsAt line is)) (map (λ g. g .0 .bytes) (cellsAt line (f + 1))) (map (λ g. orZero (labelOf d (g .1))) (cellsAt line is)) (map (λ g. orZero (labelOf d (g .1))) (cellsAt line (f + 1)))
   unfolding cellAt firstIn
   cell-stored {text} {at} l {before} {ws} {mid} {after} {k} {c} d is pos space placed s t small inside g =
       let begins : j + 1 < length line = before-end line (j + 1) (λ z. absurd (omega (arith, opened, z))) in
-      label-added (known (labelOf d (wordOf line (cellLabelIn line (j + 1)))))
+      label-added (orZero (labelOf d (wordOf line (cellLabelIn line (j + 1)))))
       (value-added (writtenAt line (firstIn line (j + 1)))
-      (subst (λ (xs : List (Word × Word)). Rowed text before ws k c c (map (λ g. g .0 .bytes) (cellsAt line is)) (map (λ g. g .0 .bytes) xs) (map (λ g. known (labelOf d (g .1))) (cellsAt line is)) (map (λ g. known (labelOf d (g .1))) xs))
+      (subst (λ (xs : List (Word × Word)). Rowed text before ws k c c (map (λ g. g .0 .bytes) (cellsAt line is)) (map (λ g. g .0 .bytes) xs) (map (λ g. orZero (labelOf d (g .1))) (cellsAt line is)) (map (λ g. orZero (labelOf d (g .1))) xs))
       (cells-more line j space ∙ ap (λ n. cellAt line (j + 1) ∷ cellsAt line n) (sym pair-at)) g)
       small inside s (written-placed l (j + 2) pos (omega arith) placed ∙ ap (writtenAt line) first-at))
-      small (omega (arith, inside)) t (ap (λ n. known (labelOf d (wordOf line n))) second-at)
+      small (omega (arith, inside)) t (ap (λ n. orZero (labelOf d (wordOf line n))) second-at)
 
 -- ---- one cell more
 

@@ -30,13 +30,13 @@ use Rattle.relations.proofs.TableLaws.{scheme-read}
 use Rattle.workspace.specs.Found.{FoundBelow, foundAs}
 use Rattle.relations.specs.Rows.{Rows}
 use Rattle.relations.specs.Tables.{Tables, columnLabelIn, columnLabelsIn, schemeBy, schemeIn, tableLabelIn}
-use Rattle.workspace.specs.Listed.{listed}
+use Rattle.workspace.specs.Tabulated.{tabulated}
 use Rattle.workspace.specs.declared.found.Found.{Found}
 use Rattle.workspace.specs.declared.found.Found.the-variants as found
 use Rattle.form.specs.declared.lines.Scheme as coded
 use Rattle.lists.proofs.ListLaws.{holdsOf-some}
 use Rattle.lists.proofs.Tests.{eqb-self}
-use Rattle.lists.specs.Lists.{known, there}
+use Rattle.lists.specs.Lists.{orZero, there}
 use Rattle.walks.proofs.RowLines.{no-items, no-space}
 use Rattle.walks.proofs.Typed.{typed-bare, typed-plain}
 use Rattle.walks.specs.Taken.{ItemsClose, ItemsTaken, NoLabels, closesAt, rowAt}
@@ -84,21 +84,21 @@ module _ (d : Doc) (line : List ℕ) (is k x : ℕ) (counted : k ≡ length (d .
       (ap (mistypedValue (columnsAt (d .policy) x)) (sym (shaped-at b line j (values-of .0) (sym shaped ∙ values-of .1))) ∙ walked-typed w shut)
 
   row-of : RowFits d (wordOf line 5) (itemsAt line is) k s
-  unfolding schemeOf known
+  unfolding schemeOf orZero
   row-of = record {
     small = room;
     words = values-of .0;
     values = values-of .1;
     few = omega (arith, eqb-true (length (values-of .0)) (length (columnsAt (d .policy) x)) (values-of .2), wide, few);
-    is = ap (λ o. schemeAt (d .policy) (known o)) table ∙ scheme;
+    is = ap (λ o. schemeAt (d .policy) (orZero o)) table ∙ scheme;
   }
 
   -- it is taken if its words are stored
   taken-so : {text after : List ℕ} → ItemsClose line is
-      → ((f : RowFits d (wordOf line 5) (itemsAt line is) k s) → Rows text after (k + 1) (d .rows ++ (record { table = x; values = map (λ w. w .bytes) (f .words); labels = map (λ w. known (labelOf (d .policy) w)) (rowLabels s (itemsAt line is)) } ∷ [])))
+      → ((f : RowFits d (wordOf line 5) (itemsAt line is) k s) → Rows text after (k + 1) (d .rows ++ (record { table = x; values = map (λ w. w .bytes) (f .words); labels = map (λ w. orZero (labelOf (d .policy) w)) (rowLabels s (itemsAt line is)) } ∷ [])))
       → ItemsTaken text line after k is d
-  unfolding known
-  taken-so c stored = record { items = c; passes = row-passes; rows = row-stored d (wordOf line 5) (itemsAt line is) s x row-of (sym (ap known table)) (stored row-of) }
+  unfolding orZero
+  taken-so c stored = record { items = c; passes = row-passes; rows = row-stored d (wordOf line 5) (itemsAt line is) s x row-of (sym (ap orZero table)) (stored row-of) }
 
 -- ---- what the scheme of the table says of the items
 
@@ -154,7 +154,7 @@ module _ {text before : List ℕ} {k x n : ℕ} (d : Doc) (line : List ℕ) (is 
       let items : List Item = itemsAt line is in
       taken-so d line is k x (sym (rows-counted text before k (d .rows) N)) room table s refl (unlabelled-all (d .policy) u items) (t .walked) shut wide few (plain-shaped (d .policy) u items) (walked-close (t .walked) shut)
       (λ (f : RowFits d (wordOf line 5) items k s).
-      subst (λ (ls : List Word). Rows text after (k + 1) (d .rows ++ (record { table = x; values = map (λ w. w .bytes) (f .words); labels = map (λ w. known (labelOf (d .policy) w)) ls } ∷ []))) (sym (u .labels items))
+      subst (λ (ls : List Word). Rows text after (k + 1) (d .rows ++ (record { table = x; values = map (λ w. w .bytes) (f .words); labels = map (λ w. orZero (labelOf (d .policy) w)) ls } ∷ []))) (sym (u .labels items))
       (plain-stored line is (d .rows) (f .words) N room (f .few) (sym (u .values items) ∙ f .values) (λ short g. t .filled (plain-stop line e (no-space line e shut))) more))
 
   pub cells-taken : schemeAt (d .policy) x ≡ byCell → CellsTaken text before mid line k n (d .policy) (columnsAt (d .policy) x) is e → AddsRow text mid after k x n n → ItemsTaken text line after k is d
@@ -165,13 +165,13 @@ module _ {text before : List ℕ} {k x n : ℕ} (d : Doc) (line : List ℕ) (is 
       cells-stored line is (d .rows) (f .words) N room (f .few) (d .policy) (f .values) (λ short. t .filled (cells-stop line e (no-space line e shut))) more)
 
   pub led-taken : {marked : List ℕ} {j : ℕ} → schemeAt (d .policy) x ≡ byRow → LabelTaken before marked line (d .policy) k 0 is j
-      → ValuesTaken text marked mid line k n 1 (known (labelOf (d .policy) (wordOf line (is + 1))) ∷ []) (columnsAt (d .policy) x) j e → AddsRow text mid after k x n 1 → ItemsTaken text line after k is d
+      → ValuesTaken text marked mid line k n 1 (orZero (labelOf (d .policy) (wordOf line (is + 1))) ∷ []) (columnsAt (d .policy) x) j e → AddsRow text mid after k x n 1 → ItemsTaken text line after k is d
   unfolding rowLabels rowValues wordEndAt
   led-taken {marked} {j} scheme l t more =
       taken-so d line is k x (sym (rows-counted text before k (d .rows) N)) room table byRow scheme (led-labelled l) (t .walked) shut wide few (led-shaped l)
       (record { end = e; read = led-ends l ∙ t .walked .ends ∙ no-items line e shut; closed = shut })
       (λ (f : RowFits d (wordOf line 5) (itemsAt line is) k byRow).
-      leading-stored line is (d .rows) (f .words) N room (f .few) (d .policy) (known (labelOf (d .policy) (wordOf line (is + 1)))) j (f .values) (l .space) refl (l .stored) (l .end)
+      leading-stored line is (d .rows) (f .words) N room (f .few) (d .policy) (orZero (labelOf (d .policy) (wordOf line (is + 1)))) j (f .values) (l .space) refl (l .stored) (l .end)
       (λ short g. t .filled (plain-stop line e (no-space line e shut))) more)
 
 -- ---- what the code looked up
@@ -180,7 +180,7 @@ module _ {text before : List ℕ} {k x n : ℕ} (d : Doc) (line : List ℕ) (is 
 pub record TableTold (tables : List ℕ) (count x : ℕ) (s : coded.Scheme) (w : Word) (d : Policy) : Type 0 where
   pub table : tableOf d w ≡ some x
   pub inside : x < count
-  pub scheme : schemeAt d x ≡ schemeBy s (tableLabelIn tables x) (listed (columnLabelIn tables x) (length (columnsAt d x)))
+  pub scheme : schemeAt d x ≡ schemeBy s (tableLabelIn tables x) (tabulated (columnLabelIn tables x) (length (columnsAt d x)))
 
 pub table-told : {text tables : List ℕ} {count x : ℕ} {r : Found} {q s : coded.Scheme} (w : Word) (d : Policy) → Tables text tables count (d .tables) → r ≡ found.At x → foundAs r ≡ tableOf d w → FoundBelow r count
     → q ≡ s → (x < 8 → schemeIn tables x ≡ schemeBy q (tableLabelIn tables x) (columnLabelsIn tables x)) → TableTold tables count x s w d

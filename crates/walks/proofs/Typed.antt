@@ -19,7 +19,7 @@ use Rattle.rows.specs.RowWords.{shapedValues, valuesAt}
 use Rattle.form.proofs.FormForward.{forward-item}
 use Rattle.form.specs.FormReader.{cellValue, item, labelledItem, plainItem}
 use Rattle.form.specs.Walks.{itemEndAt, itemsAt}
-use Rattle.workspace.proofs.ListedLaws.{length-listed}
+use Rattle.workspace.proofs.TabulatedLaws.{length-tabulated}
 use Rattle.relations.proofs.TableLaws.{columns-at}
 use Rattle.relations.specs.Tables.{Cut, Tables, columnCountIn, columnIn, columnKindIn}
 use Rattle.lists.proofs.Tests.{never, or-left, or-right, true-not-false}
@@ -31,7 +31,7 @@ use Rattle.text.proofs.Spaces.{if-not}
 use Rattle.text.proofs.WordLaws.{word-read, word-refused, word-stop}
 use Rattle.text.specs.Brackets.{many}
 use Rattle.text.specs.Bytes.{isDigit, isLetter, isNameByte}
-use Rattle.text.specs.CodeEnds.{numberOf, wordEnd}
+use Rattle.text.specs.CodeEnds.{endOfNumber, wordEnd}
 use Rattle.text.specs.Names.{isName}
 use Rattle.text.specs.Numbers.{isNumber, isValue, rank}
 use Rattle.text.specs.Reader.{from}
@@ -112,13 +112,13 @@ module _ (line : List ℕ) (v : ℕ) where
       go true k = ap wordEnd (word-read line v isName k) ∙ sym (typed-yes names k)
       go false k = ap wordEnd (word-refused line v isName k) ∙ sym (typed-no names k)
 
-  pub typed-number : numberEnd (numberOf (readNumber (from line v))) ≡ typedEnd line v numbers
+  pub typed-number : numberEnd (endOfNumber (readNumber (from line v))) ≡ typedEnd line v numbers
   unfolding hasKind isNumber there writtenAt writtenEndAt
   typed-number = go (rank (writtenAt line v)) refl
     where
-      go : (o : Option ℕ) → rank (writtenAt line v) ≡ o → numberEnd (numberOf (readNumber (from line v))) ≡ typedEnd line v numbers
-      go (some k) e = ap (λ x. numberEnd (numberOf x)) (number-read line v k e) ∙ sym (typed-yes numbers (ap there e))
-      go none e = ap (λ x. numberEnd (numberOf x)) (number-refused line v e) ∙ sym (typed-no numbers (ap there e))
+      go : (o : Option ℕ) → rank (writtenAt line v) ≡ o → numberEnd (endOfNumber (readNumber (from line v))) ≡ typedEnd line v numbers
+      go (some k) e = ap (λ x. numberEnd (endOfNumber x)) (number-read line v k e) ∙ sym (typed-yes numbers (ap there e))
+      go none e = ap (λ x. numberEnd (endOfNumber x)) (number-refused line v e) ∙ sym (typed-no numbers (ap there e))
 
 -- ---- a walk over items, each with a value of its column's type
 
@@ -137,7 +137,7 @@ all-passed p = record { ends = p .ends; fits = p .fits; typed = p .typed }
 module _ {text tables : List ℕ} {count x : ℕ} (d : Policy) (T : Tables text tables count (d .tables)) (l : x < count) {n : ℕ} (wide : n ≡ length (columnsAt d x)) where
   width-cut : Cut 16 x 8 (columnCountIn tables x) n
   width-cut =
-      let counted : length (columnsAt d x) ≡ columnCountIn tables x = ap length (columns-at text tables count x d T l) ∙ length-listed (columnIn text tables x) (columnCountIn tables x) in
+      let counted : length (columnsAt d x) ≡ columnCountIn tables x = ap length (columns-at text tables count x d T l) ∙ length-tabulated (columnIn text tables x) (columnCountIn tables x) in
       record { few = omega (arith, wide, counted, T .narrow x l); is = λ a b. wide ∙ counted }
 
   -- one item more: it stands at j + 1 and ends at e, and its value stands at v

@@ -14,7 +14,7 @@ use Rattle.rows.specs.RowWords.{shapedValues, valuesAt}
 use Rattle.form.specs.FormReader.{item}
 use Rattle.form.specs.Walks.{cellsAt, itemsAt, plainAt}
 use Rattle.relations.specs.Rows.{LabelStored, Rows}
-use Rattle.lists.specs.Lists.{holdsOf, known, there}
+use Rattle.lists.specs.Lists.{holdsOf, orZero, there}
 use Rattle.stepping.specs.Stored.{RowFilled}
 use Rattle.text.specs.Brackets.{many}
 use Rattle.text.specs.CodeEnds.{wordEnd}
@@ -49,7 +49,7 @@ pub record ValuesTaken (text before after line : List ℕ) (k n m : ℕ) (ls : L
 pub record CellsTaken (text before after line : List ℕ) (k n : ℕ) (d : Policy) (cs : List Column) (is e : ℕ) : Type 0 where
   pub walked : ItemsWalked true line n cs is e
   pub labelled : missing (λ w. there (labelOf d w)) (bracketLabels (itemsAt line is)) ≡ missing (λ w. there (labelOf d w)) (bracketLabels (itemsAt line e))
-  pub filled : cellsAt line e ≡ [] → RowFilled text before after k n n (map (λ g. g .0 .bytes) (cellsAt line is)) (map (λ g. known (labelOf d (g .1))) (cellsAt line is))
+  pub filled : cellsAt line e ≡ [] → RowFilled text before after k n n (map (λ g. g .0 .bytes) (cellsAt line is)) (map (λ g. orZero (labelOf d (g .1))) (cellsAt line is))
 
 -- the name of a known label stands behind a space and ends at e, and it is stored as label m of row k
 pub record LabelTaken (before after line : List ℕ) (d : Policy) (k m at e : ℕ) : Type 0 where
@@ -57,7 +57,7 @@ pub record LabelTaken (before after line : List ℕ) (d : Policy) (k m at e : �
   pub named : isName (wordAt line (at + 1)) ≡ true
   pub end : e ≡ wordEndAt line (at + 1)
   pub found : there (labelOf d (wordOf line (at + 1))) ≡ true
-  pub stored : LabelStored before after k m (known (labelOf d (wordOf line (at + 1))))
+  pub stored : LabelStored before after k m (orZero (labelOf d (wordOf line (at + 1))))
 
 -- the code's answer for values: they were taken up to an end, or nothing is said
 abbrev pub ValuesWalked : (text before after line : List ℕ) → ℕ → ℕ → ℕ → List ℕ → List Column → ℕ → End → Type 0

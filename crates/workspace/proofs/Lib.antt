@@ -1,5 +1,5 @@
 -- Laws of looking up and storing, which the proofs of the crates above cite. Assumes nothing.
-pub mod ListedLaws
+pub mod TabulatedLaws
 pub mod SameLaws
 pub mod Finding
 pub mod HashLaws

@@ -11,7 +11,7 @@ ghost use mathlib.Core.List.{List};
 ghost use mathlib.Core.Path.{_≡_};
 ghost use Rattle.workspace.specs.Found.{FoundBelow, foundAs};
 ghost use Rattle.workspace.specs.Hash.{Printed};
-ghost use Rattle.workspace.specs.Listed.{listed};
+ghost use Rattle.workspace.specs.Tabulated.{tabulated};
 ghost use Rattle.lists.specs.Lists.{findIndex};
 ghost use Rattle.text.specs.Names.{sameName};
 ghost use Rattle.text.specs.Words.{isCalled, wordAt, wordOf};
@@ -89,7 +89,7 @@ fn seek_name(
     e: usize,
 ) -> Found
     requires { ⌜ base + n ≤ length (now ws) ⌝ }
-    ensures { λ r. ⌜ (e ≡ i + length (wordAt (now (line .entry)) i) → foundAs r ≡ findIndex (λ p. isCalled (wordOf (now (line .entry)) i) (wordAt (now (text .entry)) p)) (listed (λ k. getD (now (ws .entry)) (base + k) 0) n)) × FoundBelow r n ⌝ }
+    ensures { λ r. ⌜ (e ≡ i + length (wordAt (now (line .entry)) i) → foundAs r ≡ findIndex (λ p. isCalled (wordOf (now (line .entry)) i) (wordAt (now (text .entry)) p)) (tabulated (λ k. getD (now (ws .entry)) (base + k) 0) n)) × FoundBelow r n ⌝ }
 {
     if e < i {
         return Found::Nothing;
@@ -120,7 +120,7 @@ pub fn find_name_to(
     i: usize,
     e: usize,
 ) -> Found
-    ensures { λ r. ⌜ (base + n ≤ length (now (ws .entry)) → e ≡ i + length (wordAt (now (line .entry)) i) → foundAs r ≡ findIndex (λ p. isCalled (wordOf (now (line .entry)) i) (wordAt (now (text .entry)) p)) (listed (λ k. getD (now (ws .entry)) (base + k) 0) n)) × FoundBelow r n ⌝ }
+    ensures { λ r. ⌜ (base + n ≤ length (now (ws .entry)) → e ≡ i + length (wordAt (now (line .entry)) i) → foundAs r ≡ findIndex (λ p. isCalled (wordOf (now (line .entry)) i) (wordAt (now (text .entry)) p)) (tabulated (λ k. getD (now (ws .entry)) (base + k) 0) n)) × FoundBelow r n ⌝ }
 {
     if ws.len() < n {
         return Found::Nothing;
@@ -133,7 +133,7 @@ pub fn find_name_to(
 
 // The same for a name whose end is not known yet.
 pub fn find_name(text: &[u8], ws: &[usize], base: usize, n: usize, line: &[u8], i: usize) -> Found
-    ensures { λ r. ⌜ (base + n ≤ length (now (ws .entry)) → foundAs r ≡ findIndex (λ p. isCalled (wordOf (now (line .entry)) i) (wordAt (now (text .entry)) p)) (listed (λ k. getD (now (ws .entry)) (base + k) 0) n)) × FoundBelow r n ⌝ }
+    ensures { λ r. ⌜ (base + n ≤ length (now (ws .entry)) → foundAs r ≡ findIndex (λ p. isCalled (wordOf (now (line .entry)) i) (wordAt (now (text .entry)) p)) (tabulated (λ k. getD (now (ws .entry)) (base + k) 0) n)) × FoundBelow r n ⌝ }
 {
     find_name_to(text, ws, base, n, line, i, word_end(line, i))
 }
@@ -141,7 +141,7 @@ pub fn find_name(text: &[u8], ws: &[usize], base: usize, n: usize, line: &[u8], 
 // The same among the first n positions, where the names' prints stand from `prints` on: a name with another print is another.
 fn seek_printed(text: &[u8], ws: &[usize], prints: usize, n: usize, line: &[u8], i: usize) -> Found
     requires { ⌜ prints + n ≤ length (now ws) ⌝ }
-    ensures { λ r. ⌜ (((j : ℕ) → j < n → Printed prints (now (text .entry)) (now (ws .entry)) j) → foundAs r ≡ findIndex (λ p. isCalled (wordOf (now (line .entry)) i) (wordAt (now (text .entry)) p)) (listed (λ k. getD (now (ws .entry)) (0 + k) 0) n)) × FoundBelow r n ⌝ }
+    ensures { λ r. ⌜ (((j : ℕ) → j < n → Printed prints (now (text .entry)) (now (ws .entry)) j) → foundAs r ≡ findIndex (λ p. isCalled (wordOf (now (line .entry)) i) (wordAt (now (text .entry)) p)) (tabulated (λ k. getD (now (ws .entry)) (0 + k) 0) n)) × FoundBelow r n ⌝ }
 {
     let w = print_word(line, i);
     let e = w.end;
@@ -168,7 +168,7 @@ pub fn find_printed(
     line: &[u8],
     i: usize,
 ) -> Found
-    ensures { λ r. ⌜ (prints + n ≤ length (now (ws .entry)) → ((j : ℕ) → j < n → Printed prints (now (text .entry)) (now (ws .entry)) j) → foundAs r ≡ findIndex (λ p. isCalled (wordOf (now (line .entry)) i) (wordAt (now (text .entry)) p)) (listed (λ k. getD (now (ws .entry)) (0 + k) 0) n)) × FoundBelow r n ⌝ }
+    ensures { λ r. ⌜ (prints + n ≤ length (now (ws .entry)) → ((j : ℕ) → j < n → Printed prints (now (text .entry)) (now (ws .entry)) j) → foundAs r ≡ findIndex (λ p. isCalled (wordOf (now (line .entry)) i) (wordAt (now (text .entry)) p)) (tabulated (λ k. getD (now (ws .entry)) (0 + k) 0) n)) × FoundBelow r n ⌝ }
 {
     if ws.len() < n {
         return Found::Nothing;

@@ -2,7 +2,7 @@
 use borrow.Author.Needs.{needs}
 use Rattle.answer.specs.Answer.{rowLine}
 use Rattle.writing.proofs.Writing as w
-use Rattle.answering.specs.Lines.{spaced}
+use Rattle.answering.specs.Lines.{spacedValues}
 use Rattle.answering.proofs.lines.put_row.Statement.{statement}
 use Rattle.answering.proofs.lines.put_row.Tie as tie
 
@@ -25,7 +25,7 @@ same-length : tie.Need-same-length
 same-length c = search needs
 
 returns : tie.Need-returns
-unfolding rowLine spaced
+unfolding rowLine spacedValues
 returns c = w.both (w.both (c .before .before .before .before .before .before .before .before .before .before .before .put-bytes .ensures) (c .before .before .before .before .before .before .before .put-values .ensures)) (c .before .before .put-bytes2 .ensures)
 
 pub put-row-spec : {M : Type 1} → statement M

@@ -1,5 +1,5 @@
 -- `attributes::attr_storing::store_attr` meets its contract: the role is found by its name. Assumes nothing.
-use Rattle.lists.specs.Lists.{known}
+use Rattle.lists.specs.Lists.{orZero}
 use Rattle.document.specs.Lookup.{roleOf}
 use Rattle.text.specs.Words.{wordOf}
 use mathlib.Core.Path.{_∙_, ap}
@@ -26,7 +26,7 @@ unfolding roleOf
 returns c d l R N ok h =
     let a = c .before .before .before .before .before .before .before .args in
     attr-stored l d (a .a) _ h (c .before .before .place .ensures) (wordOf (a .line .now) (a .r)) _ (kindOf (a .kind)) N ok
-    (c .before .before .before .number .ensures ∙ ap known (c .before .before .before .before .find-role .ensures .0 _ R))
+    (c .before .before .before .number .ensures ∙ ap orZero (c .before .before .before .before .find-role .ensures .0 _ R))
     (c .add-attribute .ensures (a .text .now) _ N)
 
 pub store-attr-spec : {M : Type 1} → statement M

@@ -1,5 +1,5 @@
 -- `attributes::cond_storing::store_cond_role` meets its contract: the line is kept by its start and end. Assumes nothing.
-use Rattle.lists.specs.Lists.{known}
+use Rattle.lists.specs.Lists.{orZero}
 use Rattle.document.specs.Lookup.{roleOf}
 use Rattle.text.specs.Words.{wordOf}
 use mathlib.Core.Path.{_∙_, ap, refl, sym}
@@ -31,7 +31,7 @@ unfolding roleOf
 returns c d l R N ok read h =
     let a = c .before .before .before .before .before .before .before .before .before .args in
     cond-stored l d (a .c) _ h (c .before .before .before .before .place .ensures) (wordOf (a .line .now) (a .r)) (a .t) _ _ N ok
-    (c .before .before .before .before .before .number .ensures ∙ ap known (c .before .before .before .before .before .before .find-role .ensures .0 _ R)) (c .before .before .before .place2 .ensures) read
+    (c .before .before .before .before .before .number .ensures ∙ ap orZero (c .before .before .before .before .before .before .find-role .ensures .0 _ R)) (c .before .before .before .place2 .ensures) read
     (c .add-cond-role .ensures (d .policy) (a .text .now) _ N (print-placed l d (a .c) _ h (c .before .before .before .before .place .ensures) _ (c .before .before .print-word .ensures .is)))
 
 pub store-cond-role-spec : {M : Type 1} → statement M

@@ -1,7 +1,7 @@
 -- `authority::values::attribute_number` meets its contract. Assumes nothing.
 use Rattle.document.specs.Lookup.{attributeOf}
 use Rattle.workspace.specs.Found.{foundAs}
-use Rattle.lists.specs.Lists.{known}
+use Rattle.lists.specs.Lists.{orZero}
 use mathlib.Core.Path.{_∙_, ap, sym}
 use borrow.Author.Needs.{needs}
 use Rattle.authority.proofs.values.attribute_number.Statement.{statement}
@@ -17,12 +17,12 @@ enum-told : tie.Need-enum-told
 enum-told c = search needs
 
 returns : tie.Need-returns
-unfolding attributeOf known
-returns c = λ d h. sym (ap (λ f. known (foundAs f)) (c .before .found .given .1)) ∙ ap known (c .before .before .before .find-attribute .ensures .0 (d .attributes) h)
+unfolding attributeOf orZero
+returns c = λ d h. sym (ap (λ f. orZero (foundAs f)) (c .before .found .given .1)) ∙ ap orZero (c .before .before .before .find-attribute .ensures .0 (d .attributes) h)
 
 returns-2 : tie.Need-returns-2
-unfolding attributeOf known
-returns-2 c = λ d h. sym (ap (λ f. known (foundAs f)) (c .enum-told .given .1)) ∙ ap known (c .before .before .find-attribute .ensures .0 (d .attributes) h)
+unfolding attributeOf orZero
+returns-2 c = λ d h. sym (ap (λ f. orZero (foundAs f)) (c .enum-told .given .1)) ∙ ap orZero (c .before .before .find-attribute .ensures .0 (d .attributes) h)
 
 pub attribute-number-spec : {M : Type 1} → statement M
 attribute-number-spec =

@@ -6,7 +6,7 @@ use mathlib.Core.Path.{_∙_, _≡_, ap, subst, sym}
 use native.Mathlib.Omega.{arith}
 use Rattle.checker.proofs.Turns.{whole-moved}
 use Rattle.stepping.specs.Judged.{Reaches, refusalIn}
-use Rattle.text.specs.Reasons.{numberOf}
+use Rattle.text.specs.Reasons.{reasonNumber}
 use Rattle.text.specs.Refusal.{Refusal, document, moved, pointing}
 use Rattle.text.specs.Words.{wordAt}
 use Rattle.stepping.specs.declared.fault.Fault.{Fault}
@@ -33,7 +33,7 @@ sub-t13 : tie.Need-sub-t13
 sub-t13 c = search needs
 
 returns : tie.Need-returns
-returns c = sym (ap (λ (f : Fault). moved (c .before .before .before .before .args .at) (refusalIn (c .before .before .before .before .args .line .now) f)) (c .before .f .given .1) ∙ whole-moved (c .before .before .before .before .args .at) (numberOf (c .before .f .given .0 .0)) (c .before .before .before .before .args .line .now))
+returns c = sym (ap (λ (f : Fault). moved (c .before .before .before .before .args .at) (refusalIn (c .before .before .before .before .args .line .now) f)) (c .before .f .given .1) ∙ whole-moved (c .before .before .before .before .args .at) (reasonNumber (c .before .f .given .0 .0)) (c .before .before .before .before .args .line .now))
 
 returns-2 : tie.Need-returns-2
 unfolding moved pointing
@@ -41,7 +41,7 @@ returns-2 c =
     let a = c .before .before .before .before .before .args in
     let w = c .before .before .f2 .given .0 .1 .0 in
     let q : c .word-end .result - w ≡ length (wordAt (a .line .now) w) = omega (arith, c .word-end .ensures) in
-    ap {B = Refusal} (λ k. record { number = numberOf (c .before .before .f2 .given .0 .0); source = document; start = a .at + w; len = k }) q
+    ap {B = Refusal} (λ k. record { number = reasonNumber (c .before .before .f2 .given .0 .0); source = document; start = a .at + w; len = k }) q
     ∙ sym (ap (λ (f : Fault). moved (a .at) (refusalIn (a .line .now) f)) (c .before .before .f2 .given .1))
 
 pub refusal-of-spec : {M : Type 1} → statement M

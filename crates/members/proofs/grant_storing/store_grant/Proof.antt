@@ -1,6 +1,6 @@
 -- `members::grant_storing::store_grant` meets its contract: both names are known. Assumes nothing.
 use mathlib.Core.Option.{none, some}
-use Rattle.lists.specs.Lists.{known}
+use Rattle.lists.specs.Lists.{orZero}
 use Rattle.document.specs.Lookup.{condRoleOf, purposeOf}
 use Rattle.text.specs.Words.{wordOf}
 use mathlib.Core.Path.{_∙_, ap, refl, sym}
@@ -29,7 +29,7 @@ unfolding purposeOf condRoleOf
 returns c d R C N ok =
     let a = c .before .before .before .before .before .before .before .before .args in
     grant-stored (a .line .now) d (wordOf (a .line .now) (a .p)) (wordOf (a .line .now) (a .c)) _ _ N ok
-    (c .before .before .before .before .number .ensures ∙ ap known (c .before .before .before .before .before .find-purpose .ensures .0 _ R)) (c .before .before .number2 .ensures ∙ ap known (c .before .before .before .find-cond-role .ensures .0 (d .policy) _ C))
+    (c .before .before .before .before .number .ensures ∙ ap orZero (c .before .before .before .before .before .find-purpose .ensures .0 _ R)) (c .before .before .number2 .ensures ∙ ap orZero (c .before .before .before .find-cond-role .ensures .0 (d .policy) _ C))
     (c .add-grant .ensures _ N)
 
 pub store-grant-spec : {M : Type 1} → statement M

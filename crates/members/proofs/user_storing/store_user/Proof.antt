@@ -1,6 +1,6 @@
 -- `members::user_storing::store_user` meets its contract: the line is kept by its start and end. Assumes nothing.
 use mathlib.Core.Option.{none, some}
-use Rattle.lists.specs.Lists.{known}
+use Rattle.lists.specs.Lists.{orZero}
 use Rattle.document.specs.Lookup.{roleOf}
 use Rattle.text.specs.Words.{wordOf}
 use mathlib.Core.Path.{_∙_, ap, refl, sym}
@@ -32,7 +32,7 @@ unfolding roleOf
 returns c d l R N ok h =
     let a = c .before .before .before .before .before .before .before .before .before .args in
     user-stored l d (a .u) _ h (c .before .before .before .before .place .ensures) (wordOf (a .line .now) (a .r)) (a .gs) _ _ N ok
-    (c .before .before .before .before .before .number .ensures ∙ ap known (c .before .before .before .before .before .before .find-role .ensures .0 _ R)) (c .before .before .before .place2 .ensures)
+    (c .before .before .before .before .before .number .ensures ∙ ap orZero (c .before .before .before .before .before .before .find-role .ensures .0 _ R)) (c .before .before .before .place2 .ensures)
     (c .add-user .ensures (d .policy) (a .text .now) _ N (print-placed l d (a .u) _ h (c .before .before .before .before .place .ensures) _ (c .before .before .print-word .ensures .is)))
 
 pub store-user-spec : {M : Type 1} → statement M

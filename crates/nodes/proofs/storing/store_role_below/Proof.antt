@@ -1,6 +1,6 @@
 -- `nodes::storing::store_role_below` meets its contract: the parent is found by its name. Assumes nothing.
 use mathlib.Core.Option.{none, some}
-use Rattle.lists.specs.Lists.{known}
+use Rattle.lists.specs.Lists.{orZero}
 use Rattle.document.specs.Lookup.{roleOf}
 use Rattle.text.specs.Words.{wordOf}
 use mathlib.Core.Path.{_∙_, ap, refl, sym}
@@ -29,7 +29,7 @@ unfolding roleOf
 returns c d l N ok h =
     let a = c .before .before .before .before .before .before .before .before .before .args in
     role-stored l d (a .n) _ h (c .before .before .before .place .ensures) _ (some (wordOf (a .line .now) (a .p))) N ok
-    (c .before .before .before .before .number .ensures ∙ ap known (c .before .before .before .before .before .find-role .ensures .0 _ N) ∙ role-parent d (a .line .now) (wordOf (a .line .now) (a .n)) (wordOf (a .line .now) (a .p)) ok)
+    (c .before .before .before .before .number .ensures ∙ ap orZero (c .before .before .before .before .before .find-role .ensures .0 _ N) ∙ role-parent d (a .line .now) (wordOf (a .line .now) (a .n)) (wordOf (a .line .now) (a .p)) ok)
     (c .add-role .ensures (a .text .now) _ N (hash-placed l d (a .n) _ h (c .before .before .before .place .ensures) _ (c .before .before .hash-word .ensures .is)))
 
 pub store-role-below-spec : {M : Type 1} → statement M

@@ -13,7 +13,7 @@ use Rattle.document.specs.Policy.{Policy}
 use Rattle.form.proofs.WalkSteps.{cell-after, cells-stop}
 use Rattle.form.specs.Walks.{cellsAt}
 use Rattle.relations.specs.Labels.{Labels}
-use Rattle.lists.specs.Lists.{known}
+use Rattle.lists.specs.Lists.{orZero}
 use Rattle.rows.proofs.RowTurns.{Rowed, cell-turn, rowed-all, rowed-none}
 use Rattle.rows.proofs.storing.store_cells.Statement.{statement}
 use Rattle.rows.proofs.storing.store_cells.Tie as tie
@@ -22,7 +22,7 @@ abbrev Inv-loop : tie.InvT-loop
 Inv-loop text labels labels-count rows₀ k at line is c₀ j₀ rows c j =
     (c ≤ j)
     × (length line < 2 ^ 64)
-    × ((d : Policy) (sets : List ℕ) → LineAt text at line → Labels text labels sets labels-count (d .labels) → k < 1024 → length (cellsAt line is) ≤ 16 → Rowed text rows₀ rows k c c (map (λ g. g .0 .bytes) (cellsAt line is)) (map (λ g. g .0 .bytes) (cellsAt line j)) (map (λ g. known (labelOf d (g .1))) (cellsAt line is)) (map (λ g. known (labelOf d (g .1))) (cellsAt line j)))
+    × ((d : Policy) (sets : List ℕ) → LineAt text at line → Labels text labels sets labels-count (d .labels) → k < 1024 → length (cellsAt line is) ≤ 16 → Rowed text rows₀ rows k c c (map (λ g. g .0 .bytes) (cellsAt line is)) (map (λ g. g .0 .bytes) (cellsAt line j)) (map (λ g. orZero (labelOf d (g .1))) (cellsAt line is)) (map (λ g. orZero (labelOf d (g .1))) (cellsAt line j)))
 
 abbrev μ-loop : tie.MeasureT-loop
 μ-loop text labels labels-count rows₀ k at line is c₀ j₀ rows c j = length line - j
@@ -78,13 +78,13 @@ loop-again c =
     let b = space-here (c .before .before .before .before .before .before .before .before .before .before .before .before .before .before .before .args .line .now) (c .before .before .before .before .before .before .before .before .before .before .before .before .loop .j) _ (c .before .before .before .before .before .before .before .before .before .before .before .byte-at .ensures) (c .before .before .before .before .before .before .before .before .before .before .if1 .taken) in (
       omega (arith, b .1, c .before .before .before .before .before .before .before .before .before .before .before .before .loop .inv .0, cell-after (c .before .before .before .before .before .before .before .before .before .before .before .before .before .before .before .args .line .now) (c .before .before .before .before .before .before .before .before .before .before .before .before .loop .j), c .cell-end .ensures),
       c .before .before .before .before .before .before .before .before .before .before .before .before .loop .inv .1,
-      λ d sets l N small few. cell-turn l (c .before .before .before .before .before .before .before .before .before .before .before .before .loop .j) _ _ (b .0) (b .1) d (c .before .before .before .before .before .before .before .before .before .before .before .before .before .before .before .args .is) _ _ _ (c .before .before .before .before .before .before .before .before .before .first-in .ensures) (c .before .before .before .before .before .before .before .before .cell-label .ensures) (c .before .before .before .before .before .place .ensures) (c .before .before .before .before .before .before .number .ensures ∙ ap known (c .before .before .before .before .before .before .before .find-label .ensures .0 sets _ N)) (c .cell-end .ensures) (c .before .before .before .set-value .ensures) (c .before .set-label .ensures) small few (c .before .before .before .before .before .before .before .before .before .before .before .before .loop .inv .2 d sets l N small few),
+      λ d sets l N small few. cell-turn l (c .before .before .before .before .before .before .before .before .before .before .before .before .loop .j) _ _ (b .0) (b .1) d (c .before .before .before .before .before .before .before .before .before .before .before .before .before .before .before .args .is) _ _ _ (c .before .before .before .before .before .before .before .before .before .first-in .ensures) (c .before .before .before .before .before .before .before .before .cell-label .ensures) (c .before .before .before .before .before .place .ensures) (c .before .before .before .before .before .before .number .ensures ∙ ap orZero (c .before .before .before .before .before .before .before .find-label .ensures .0 sets _ N)) (c .cell-end .ensures) (c .before .before .before .set-value .ensures) (c .before .set-label .ensures) small few (c .before .before .before .before .before .before .before .before .before .before .before .before .loop .inv .2 d sets l N small few),
     )
 
 returns : tie.Need-returns Inv-loop μ-loop
 returns c d sets l N small few =
     let e = cells-stop (c .before .before .before .before .before .args .line .now) (c .before .before .loop .j) (λ e. c .if1 .left (c .before .byte-at .ensures ∙ e)) in
-    rowed-all (c .before .before .loop .inv .2 d sets l N small few) (ap (map (λ g. g .0 .bytes)) e) (ap (map (λ g. known (labelOf d (g .1)))) e)
+    rowed-all (c .before .before .loop .inv .2 d sets l N small few) (ap (map (λ g. g .0 .bytes)) e) (ap (map (λ g. orZero (labelOf d (g .1)))) e)
 
 pub store-cells-spec : {M : Type 1} → statement M
 store-cells-spec =

@@ -6,7 +6,7 @@ use Rattle.document.specs.ValueFaults.{rowValues}
 use Rattle.form.specs.Walks.{itemsAt}
 use Rattle.relations.specs.Tables.{schemeBy}
 use Rattle.form.specs.declared.lines.Scheme.the-variants as code
-use Rattle.lists.specs.Lists.{known}
+use Rattle.lists.specs.Lists.{orZero}
 use Rattle.rows.proofs.RowStored.{row-fits, row-stored}
 use Rattle.text.specs.Words.{wordOf}
 use borrow.Author.Needs.{needs}
@@ -56,7 +56,7 @@ returns : tie.Need-returns
 unfolding schemeBy rowValues rowLabels tableOf
 returns c d sets l L T N ok =
     let a = c .before .before .before .before .before .before .before .before .before .args in
-    let n = c .before .before .before .before .before .number .ensures ∙ ap known (c .before .before .before .before .before .before .find-table .ensures .0 _ T) in
+    let n = c .before .before .before .before .before .number .ensures ∙ ap orZero (c .before .before .before .before .before .before .find-table .ensures .0 _ T) in
     let f = row-fits d (a .line .now) (wordOf (a .line .now) (a .t)) (itemsAt (a .line .now) (a .is)) T N ok (c .before .before .before .before .before .number .result) (c .before .before .before .before .table-scheme .result) code.Unlabelled n (c .before .before .enum-told .given .1) (c .before .before .before .before .table-scheme .ensures) in
     row-stored d (wordOf (a .line .now) (a .t)) (itemsAt (a .line .now) (a .is)) _ _ f n (c .store-plain .ensures (d .rows) (f .words) l N (f .small) (f .values) (f .few))
 
@@ -64,7 +64,7 @@ returns-2 : tie.Need-returns-2
 unfolding schemeBy rowValues rowLabels tableOf
 returns-2 c d sets l L T N ok =
     let a = c .before .before .before .before .before .before .before .before .before .args in
-    let n = c .before .before .before .before .before .number .ensures ∙ ap known (c .before .before .before .before .before .before .find-table .ensures .0 _ T) in
+    let n = c .before .before .before .before .before .number .ensures ∙ ap orZero (c .before .before .before .before .before .before .find-table .ensures .0 _ T) in
     let f = row-fits d (a .line .now) (wordOf (a .line .now) (a .t)) (itemsAt (a .line .now) (a .is)) T N ok (c .before .before .before .before .before .number .result) (c .before .before .before .before .table-scheme .result) code.ByTable n (c .before .before .enum-told2 .given .1) (c .before .before .before .before .table-scheme .ensures) in
     row-stored d (wordOf (a .line .now) (a .t)) (itemsAt (a .line .now) (a .is)) _ _ f n (c .store-plain2 .ensures (d .rows) (f .words) l N (f .small) (f .values) (f .few))
 
@@ -72,7 +72,7 @@ returns-3 : tie.Need-returns-3
 unfolding schemeBy rowValues rowLabels tableOf
 returns-3 c d sets l L T N ok =
     let a = c .before .before .before .before .before .before .before .before .before .args in
-    let n = c .before .before .before .before .before .number .ensures ∙ ap known (c .before .before .before .before .before .before .find-table .ensures .0 _ T) in
+    let n = c .before .before .before .before .before .number .ensures ∙ ap orZero (c .before .before .before .before .before .before .find-table .ensures .0 _ T) in
     let f = row-fits d (a .line .now) (wordOf (a .line .now) (a .t)) (itemsAt (a .line .now) (a .is)) T N ok (c .before .before .before .before .before .number .result) (c .before .before .before .before .table-scheme .result) code.ByColumn n (c .before .before .enum-told3 .given .1) (c .before .before .before .before .table-scheme .ensures) in
     row-stored d (wordOf (a .line .now) (a .t)) (itemsAt (a .line .now) (a .is)) _ _ f n (c .store-plain3 .ensures (d .rows) (f .words) l N (f .small) (f .values) (f .few))
 
@@ -80,7 +80,7 @@ returns-4 : tie.Need-returns-4
 unfolding schemeBy rowValues rowLabels tableOf
 returns-4 c d sets l L T N ok =
     let a = c .before .before .before .before .before .before .before .before .before .args in
-    let n = c .before .before .before .before .before .number .ensures ∙ ap known (c .before .before .before .before .before .before .find-table .ensures .0 _ T) in
+    let n = c .before .before .before .before .before .number .ensures ∙ ap orZero (c .before .before .before .before .before .before .find-table .ensures .0 _ T) in
     let f = row-fits d (a .line .now) (wordOf (a .line .now) (a .t)) (itemsAt (a .line .now) (a .is)) T N ok (c .before .before .before .before .before .number .result) (c .before .before .before .before .table-scheme .result) code.ByRow n (c .before .before .enum-told4 .given .1) (c .before .before .before .before .table-scheme .ensures) in
     row-stored d (wordOf (a .line .now) (a .t)) (itemsAt (a .line .now) (a .is)) _ _ f n (c .store-by-row .ensures (d .policy) sets (d .rows) (f .words) l L N (f .small) (f .values) (f .few))
 
@@ -88,7 +88,7 @@ returns-5 : tie.Need-returns-5
 unfolding schemeBy rowValues rowLabels tableOf
 returns-5 c d sets l L T N ok =
     let a = c .before .before .before .before .before .before .before .before .before .args in
-    let n = c .before .before .before .before .before .number .ensures ∙ ap known (c .before .before .before .before .before .before .find-table .ensures .0 _ T) in
+    let n = c .before .before .before .before .before .number .ensures ∙ ap orZero (c .before .before .before .before .before .before .find-table .ensures .0 _ T) in
     let f = row-fits d (a .line .now) (wordOf (a .line .now) (a .t)) (itemsAt (a .line .now) (a .is)) T N ok (c .before .before .before .before .before .number .result) (c .before .before .before .before .table-scheme .result) code.ByCell n (c .before .before .enum-told5 .given .1) (c .before .before .before .before .table-scheme .ensures) in
     row-stored d (wordOf (a .line .now) (a .t)) (itemsAt (a .line .now) (a .is)) _ _ f n (c .store-by-cell .ensures (d .policy) sets (d .rows) (f .words) l L N (f .small) (f .values) (f .few))
 

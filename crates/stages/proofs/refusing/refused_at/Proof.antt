@@ -2,7 +2,7 @@
 use Prim.Native.Nat.{_-_}
 use Rattle.stages.specs.Figures.{Figures, answeredAs}
 use Rattle.stages.specs.Tails.{refusedAt}
-use Rattle.text.specs.Reasons.{numberOf}
+use Rattle.text.specs.Reasons.{reasonNumber}
 use Rattle.text.specs.Refusal.{Result, pointing, query, refused}
 use Rattle.text.specs.Words.{wordAt}
 use borrow.Author.Needs.{needs}
@@ -23,7 +23,7 @@ unfolding answeredAs refusedAt pointing
 returns c =
     let a = c .before .before .args in
     let l : c .word-end .result - a .at ≡ length (wordAt (a .query .now) (a .at)) = omega (arith, c .word-end .ensures) in
-    ap {B = Result Figures} (λ k. refused (record { number = numberOf (a .reason); source = query; start = a .at; len = k })) l
+    ap {B = Result Figures} (λ k. refused (record { number = reasonNumber (a .reason); source = query; start = a .at; len = k })) l
 
 pub refused-at-spec : {M : Type 1} → statement M
 refused-at-spec = tie.close (tie.spec word-end-requires sub-t6 returns)

@@ -1,6 +1,6 @@
 -- `stepping::places::number` meets its contract, by the answer's cases. Assumes nothing.
 use borrow.Author.Needs.{needs}
-use Rattle.lists.specs.Lists.{known}
+use Rattle.lists.specs.Lists.{orZero}
 use Rattle.stepping.proofs.places.number.Statement.{statement}
 use Rattle.stepping.proofs.places.number.Tie as tie
 
@@ -11,11 +11,11 @@ enum-told : tie.Need-enum-told
 enum-told c = search needs
 
 returns : tie.Need-returns
-unfolding known
+unfolding orZero
 returns c = search needs
 
 returns-2 : tie.Need-returns-2
-unfolding known
+unfolding orZero
 returns-2 c = search needs
 
 pub number-spec : {M : Type 1} → statement M

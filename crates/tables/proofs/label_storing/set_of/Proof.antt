@@ -9,7 +9,7 @@ use Rattle.document.specs.Lookup.{purposeOf}
 use Rattle.document.specs.Policy.{Policy}
 use Rattle.form.proofs.WalkSteps.{word-after}
 use Rattle.principals.specs.Nodes.{Nodes}
-use Rattle.lists.specs.Lists.{known}
+use Rattle.lists.specs.Lists.{orZero}
 use Rattle.purpose.specs.Members.{limit}
 use Rattle.tables.proofs.SetLaws.{Gathered, found-small, gathered-all, gathered-more, gathered-none}
 use Rattle.text.proofs.Spaces.{space-here}
@@ -18,7 +18,7 @@ use Rattle.tables.proofs.label_storing.set_of.Statement.{statement}
 use Rattle.tables.proofs.label_storing.set_of.Tie as tie
 
 abbrev Inv-loop : tie.InvT-loop
-Inv-loop text purposes k line at r₀ j₀ r j = (d : Policy) → Nodes limit text purposes k (d .purposes) → Gathered (λ w. known (purposeOf d w)) line at j r
+Inv-loop text purposes k line at r₀ j₀ r j = (d : Policy) → Nodes limit text purposes k (d .purposes) → Gathered (λ w. orZero (purposeOf d w)) line at j r
 
 abbrev μ-loop : tie.MeasureT-loop
 μ-loop text purposes k line at r₀ j₀ r j = length line - j
@@ -56,7 +56,7 @@ unfolding purposeOf wordEndAt
 loop-again c d N =
     gathered-more _ (c .before .before .before .before .before .before .before .before .before .before .args .line .now) (c .before .before .before .before .before .before .before .before .before .before .args .at) (c .before .before .before .before .before .before .loop .j) _ _ _ _ (c .before .before .before .before .before .before .loop .inv d N)
     (space-here (c .before .before .before .before .before .before .before .before .before .before .args .line .now) (c .before .before .before .before .before .before .loop .j) _ (c .before .before .before .before .before .byte-at .ensures) (c .before .before .before .before .if1 .taken) .0)
-    (c .before .before .number .ensures ∙ ap known (c .before .before .before .find-purpose .ensures .0 _ N))
+    (c .before .before .number .ensures ∙ ap orZero (c .before .before .before .find-purpose .ensures .0 _ N))
     (subst (λ n. n < limit) (sym (c .before .before .number .ensures)) (found-small (c .before .before .before .find-purpose .result) (c .before .before .before .before .before .before .before .before .before .before .args .k) (c .before .before .before .find-purpose .ensures .1) (N .few)))
     (c .before .insert .ensures)
     (c .word-end .ensures)

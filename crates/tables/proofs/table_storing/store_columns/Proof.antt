@@ -8,7 +8,7 @@ use mathlib.Core.Path.{_∙_, ap}
 use native.Mathlib.Omega.{arith}
 use Rattle.document.specs.Meaning.{columnMeant}
 use Rattle.form.proofs.WalkSteps.{columns-stop, pair-after}
-use Rattle.form.specs.Walks.{columnsAt}
+use Rattle.form.specs.Walks.{columnFormsAt}
 use Rattle.stepping.proofs.ColumnLaws.{Columned, columned-all, columned-none, pair-ends, plain-turn}
 use Rattle.stepping.specs.Stored.{LineAt}
 use Rattle.text.proofs.Spaces.{space-here}
@@ -19,7 +19,7 @@ use Rattle.tables.proofs.table_storing.store_columns.Tie as tie
 abbrev Inv-loop : tie.InvT-loop
 Inv-loop text tables₀ k at line cs c₀ j₀ tables c j =
     (c ≤ j)
-    × (LineAt text at line → k < 8 → length (columnsAt line cs) ≤ 16 → Columned text tables₀ tables k c (map columnMeant (columnsAt line cs)) (map columnMeant (columnsAt line j)) (map (λ x. 0) (columnsAt line cs)) (map (λ x. 0) (columnsAt line j)))
+    × (LineAt text at line → k < 8 → length (columnFormsAt line cs) ≤ 16 → Columned text tables₀ tables k c (map columnMeant (columnFormsAt line cs)) (map columnMeant (columnFormsAt line j)) (map (λ x. 0) (columnFormsAt line cs)) (map (λ x. 0) (columnFormsAt line j)))
 
 abbrev μ-loop : tie.MeasureT-loop
 μ-loop text tables₀ k at line cs c₀ j₀ tables c j = length line - j

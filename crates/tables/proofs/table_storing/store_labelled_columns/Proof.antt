@@ -12,7 +12,7 @@ use Rattle.document.specs.Policy.{Policy}
 use Rattle.form.proofs.WalkSteps.{column-labels-stop, labelled-columns-stop, triple-after}
 use Rattle.form.specs.Walks.{columnLabelsAt, labelledColumnsAt}
 use Rattle.relations.specs.Labels.{Labels}
-use Rattle.lists.specs.Lists.{known}
+use Rattle.lists.specs.Lists.{orZero}
 use Rattle.stepping.proofs.ColumnLaws.{Columned, columned-all, columned-none, labelled-turn, triple-ends}
 use Rattle.stepping.specs.Stored.{LineAt}
 use Rattle.text.proofs.Spaces.{space-here}
@@ -24,7 +24,7 @@ abbrev Inv-loop : tie.InvT-loop
 Inv-loop text labels labels-count tables₀ k at line cs c₀ j₀ tables c j =
     (c ≤ j)
     × (length line < 2 ^ 64)
-    × ((d : Policy) (sets : List ℕ) → LineAt text at line → Labels text labels sets labels-count (d .labels) → k < 8 → length (labelledColumnsAt line cs) ≤ 16 → Columned text tables₀ tables k c (map columnMeant (labelledColumnsAt line cs)) (map columnMeant (labelledColumnsAt line j)) (map (λ v. known (labelOf d v)) (columnLabelsAt line cs)) (map (λ v. known (labelOf d v)) (columnLabelsAt line j)))
+    × ((d : Policy) (sets : List ℕ) → LineAt text at line → Labels text labels sets labels-count (d .labels) → k < 8 → length (labelledColumnsAt line cs) ≤ 16 → Columned text tables₀ tables k c (map columnMeant (labelledColumnsAt line cs)) (map columnMeant (labelledColumnsAt line j)) (map (λ v. orZero (labelOf d v)) (columnLabelsAt line cs)) (map (λ v. orZero (labelOf d v)) (columnLabelsAt line j)))
 
 abbrev μ-loop : tie.MeasureT-loop
 μ-loop text labels labels-count tables₀ k at line cs c₀ j₀ tables c j = length line - j
@@ -80,14 +80,14 @@ loop-again c =
     let b = space-here (c .before .before .before .before .before .before .before .before .before .before .before .before .before .before .before .before .args .line .now) (c .before .before .before .before .before .before .before .before .before .before .before .before .before .loop .j) _ (c .before .before .before .before .before .before .before .before .before .before .before .before .byte-at .ensures) (c .before .before .before .before .before .before .before .before .before .before .before .if1 .taken) in (
       omega (arith, b .1, c .before .before .before .before .before .before .before .before .before .before .before .before .before .loop .inv .0, triple-after (c .before .before .before .before .before .before .before .before .before .before .before .before .before .before .before .before .args .line .now) (c .before .before .before .before .before .before .before .before .before .before .before .before .before .loop .j), triple-ends (c .before .before .before .before .before .before .before .before .before .before .before .before .before .before .before .before .args .line .now) (c .before .before .before .before .before .before .before .before .before .before .before .before .before .loop .j + 1) _ _ _ (c .before .before .before .before .before .before .before .before .before .before .skip-byte .ensures) (c .before .before .before .before .before .before .before .before .before .next-word .ensures) _ (c .before .before .before .before .before .before .before .before .next-word2 .ensures) (c .skip-byte2 .ensures ∙ ap (past 41 (c .before .before .before .before .before .before .before .before .before .before .before .before .before .before .before .before .args .line .now)) (c .before .word-end .ensures))),
       c .before .before .before .before .before .before .before .before .before .before .before .before .before .loop .inv .1,
-      λ d sets l N small few. labelled-turn l (c .before .before .before .before .before .before .before .before .before .before .before .before .before .loop .j) _ _ _ _ _ (b .0) (b .1) (c .before .before .before .before .before .before .before .before .before .before .skip-byte .ensures) (c .before .before .before .before .before .before .before .before .before .next-word .ensures) (c .before .before .before .before .place .ensures) (c .before .before .before .before .before .before .before .kind-at .ensures) d (c .before .before .before .before .before .before .before .before .before .before .before .before .before .before .before .before .args .cs) _ _ (c .before .before .before .before .before .before .before .before .next-word2 .ensures) (c .skip-byte2 .ensures ∙ ap (past 41 (c .before .before .before .before .before .before .before .before .before .before .before .before .before .before .before .before .args .line .now)) (c .before .word-end .ensures)) (c .before .before .before .before .before .number .ensures ∙ ap known (c .before .before .before .before .before .before .find-label .ensures .0 sets _ N)) (c .before .before .set-column .ensures) small few (c .before .before .before .before .before .before .before .before .before .before .before .before .before .loop .inv .2 d sets l N small few),
+      λ d sets l N small few. labelled-turn l (c .before .before .before .before .before .before .before .before .before .before .before .before .before .loop .j) _ _ _ _ _ (b .0) (b .1) (c .before .before .before .before .before .before .before .before .before .before .skip-byte .ensures) (c .before .before .before .before .before .before .before .before .before .next-word .ensures) (c .before .before .before .before .place .ensures) (c .before .before .before .before .before .before .before .kind-at .ensures) d (c .before .before .before .before .before .before .before .before .before .before .before .before .before .before .before .before .args .cs) _ _ (c .before .before .before .before .before .before .before .before .next-word2 .ensures) (c .skip-byte2 .ensures ∙ ap (past 41 (c .before .before .before .before .before .before .before .before .before .before .before .before .before .before .before .before .args .line .now)) (c .before .word-end .ensures)) (c .before .before .before .before .before .number .ensures ∙ ap orZero (c .before .before .before .before .before .before .find-label .ensures .0 sets _ N)) (c .before .before .set-column .ensures) small few (c .before .before .before .before .before .before .before .before .before .before .before .before .before .loop .inv .2 d sets l N small few),
     )
 
 returns : tie.Need-returns Inv-loop μ-loop
 returns c d sets l N small few =
     columned-all (c .before .before .loop .inv .2 d sets l N small few)
     (ap (map columnMeant) (labelled-columns-stop (c .before .before .before .before .before .args .line .now) (c .before .before .loop .j) (λ e. c .if1 .left (c .before .byte-at .ensures ∙ e))))
-    (ap (map (λ v. known (labelOf d v))) (column-labels-stop (c .before .before .before .before .before .args .line .now) (c .before .before .loop .j) (λ e. c .if1 .left (c .before .byte-at .ensures ∙ e))))
+    (ap (map (λ v. orZero (labelOf d v))) (column-labels-stop (c .before .before .before .before .before .args .line .now) (c .before .before .loop .j) (λ e. c .if1 .left (c .before .byte-at .ensures ∙ e))))
 
 pub store-labelled-columns-spec : {M : Type 1} → statement M
 store-labelled-columns-spec =

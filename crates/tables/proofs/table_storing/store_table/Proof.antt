@@ -1,7 +1,7 @@
 -- `tables::table_storing::store_table` meets its contract, by whether the labels stand at the columns. Assumes nothing.
 use mathlib.Core.Path.{_∙_, ap, sym}
 use Rattle.document.specs.Lookup.{labelOf}
-use Rattle.lists.specs.Lists.{known}
+use Rattle.lists.specs.Lists.{orZero}
 use Rattle.tables.proofs.TableStored.{labelled-columns, labelled-scheme, plain-columns, plain-scheme, table-stored}
 use borrow.Author.Needs.{needs}
 use Rattle.tables.proofs.table_storing.store_table.Statement.{statement}
@@ -30,8 +30,8 @@ unfolding labelOf
 returns c d sets l L N ok h =
     let a = c .before .before .before .before .before .before .before .before .before .before .before .args in
     table-stored l d (a .t) _ h (c .before .before .before .before .before .before .place .ensures) (a .scheme) (a .l) (a .cs) _ _ _ N ok
-    (labelled-columns (λ w. known (labelOf (d .policy) w)) (a .line .now) (a .l) (a .cs) (a .scheme) (sym (c .before .before .before .before .before .labels-columns .ensures) ∙ c .before .before .before .before .if1 .taken))
-    (labelled-scheme (λ w. known (labelOf (d .policy) w)) (a .line .now) (a .l) (a .cs) (a .scheme) _ (sym (c .before .before .before .before .before .labels-columns .ensures) ∙ c .before .before .before .before .if1 .taken))
+    (labelled-columns (λ w. orZero (labelOf (d .policy) w)) (a .line .now) (a .l) (a .cs) (a .scheme) (sym (c .before .before .before .before .before .labels-columns .ensures) ∙ c .before .before .before .before .if1 .taken))
+    (labelled-scheme (λ w. orZero (labelOf (d .policy) w)) (a .line .now) (a .l) (a .cs) (a .scheme) _ (sym (c .before .before .before .before .before .labels-columns .ensures) ∙ c .before .before .before .before .if1 .taken))
     (λ small few. c .before .before .store-labelled-columns .ensures (d .policy) sets l L small few)
     (c .add-table .ensures (a .text .now))
 
@@ -46,8 +46,8 @@ unfolding labelOf
 returns-2 c d sets l L N ok h =
     let a = c .before .before .before .before .before .before .before .before .before .before .before .args in
     table-stored l d (a .t) _ h (c .before .before .before .before .before .before .place .ensures) (a .scheme) (a .l) (a .cs) _ _ _ N ok
-    (plain-columns (λ w. known (labelOf (d .policy) w)) (a .line .now) (a .l) (a .cs) (a .scheme) (sym (c .before .before .before .before .before .labels-columns .ensures) ∙ c .before .before .before .before .if1 .left))
-    (plain-scheme (λ w. known (labelOf (d .policy) w)) (a .line .now) (a .l) (a .cs) (a .scheme) _ _ (c .before .before .before .before .before .before .before .number .ensures ∙ ap known (c .before .before .before .before .before .before .before .before .find-label .ensures .0 sets _ L)) (sym (c .before .before .before .before .before .labels-columns .ensures) ∙ c .before .before .before .before .if1 .left))
+    (plain-columns (λ w. orZero (labelOf (d .policy) w)) (a .line .now) (a .l) (a .cs) (a .scheme) (sym (c .before .before .before .before .before .labels-columns .ensures) ∙ c .before .before .before .before .if1 .left))
+    (plain-scheme (λ w. orZero (labelOf (d .policy) w)) (a .line .now) (a .l) (a .cs) (a .scheme) _ _ (c .before .before .before .before .before .before .before .number .ensures ∙ ap orZero (c .before .before .before .before .before .before .before .before .find-label .ensures .0 sets _ L)) (sym (c .before .before .before .before .before .labels-columns .ensures) ∙ c .before .before .before .before .if1 .left))
     (λ small few. c .before .before .store-columns .ensures l small few)
     (c .add-table2 .ensures (a .text .now))
 

@@ -8,7 +8,7 @@ use native.Mathlib.Omega.{arith}
 use Rattle.document.specs.Lookup.{columnsAt, labelOf}
 use Rattle.relations.proofs.RowLaws.{row-empty}
 use Rattle.relations.proofs.TableLaws.{width-read}
-use Rattle.lists.specs.Lists.{known}
+use Rattle.lists.specs.Lists.{orZero}
 use Rattle.walks.proofs.RowsTaken.{led-taken}
 use Rattle.walks.specs.Walked.{LabelWalked, ValuesWalked}
 use Rattle.text.specs.Words.{wordOf}
@@ -55,7 +55,7 @@ returns-4 : tie.Need-returns-4
 returns-4 c d sets count l L T table inside scheme small N =
     let a = c .before .before .before .before .before .before .before .before .before .before .before .before .before .before .before .before .before .args in
     let n : ℕ = c .before .before .before .before .before .before .before .before .before .table-width .result in
-    let label : List ℕ = known (labelOf (d .policy) (wordOf (a .line .now) (a .is + 1))) ∷ [] in
+    let label : List ℕ = orZero (labelOf (d .policy) (wordOf (a .line .now) (a .is + 1))) ∷ [] in
     let wide = width-read (a .text .now) (a .tables .now) count (a .x) (d .policy) T inside n (c .before .before .before .before .before .before .before .before .before .table-width .ensures) in
     let m = subst (LabelWalked (a .rows .now) (c .before .before .before .before .before .before .before .before .before .before .before .before .before .take-label .last .1 .1 .1 .1 .0) (a .line .now) (d .policy) (a .k) 0 (a .is)) (c .before .before .before .before .before .before .before .before .before .before .before .l .given .1) (c .before .before .before .before .before .before .before .before .before .before .before .before .before .take-label .ensures .1 (d .policy) sets L) in
     let marked = m .stored .grown (a .text .now) 0 [] [] small (omega arith) (row-empty (a .text .now) (a .rows .now) (a .k)) in

@@ -9,7 +9,7 @@ use Rattle.nodes.proofs.NodeFaults.{below-fine, purpose-kind}
 use Rattle.form.specs.Form.{purpose}
 use Rattle.workspace.specs.declared.found.Found.the-variants.{At, Nothing}
 use Rattle.lists.proofs.Tests.{true-not-false}
-use Rattle.lists.specs.Lists.{known}
+use Rattle.lists.specs.Lists.{orZero}
 use Rattle.purpose.specs.Members.{limit}
 use Rattle.stepping.proofs.NamedLaws.{hash-placed, purpose-parent, purpose-stored}
 use Rattle.text.specs.Words.{wordOf}
@@ -27,7 +27,7 @@ add-purpose-requires : tie.Need-add-purpose-requires
 add-purpose-requires c κs = search needs
 
 returns-2 : tie.Need-returns-2
-unfolding purposeOf known
+unfolding purposeOf orZero
 returns-2 c =
     let a = c .before .before .before .before .before .before .args in
     let small : c .before .before .before .before .before .before .args .k < limit = omega arith in (
@@ -38,7 +38,7 @@ returns-2 c =
             form = B .form;
             passes = ok;
             purposes = purpose-stored l d 9 _ (B .within) (c .before .before .place .ensures) (a .parent) (some (wordOf (a .line .now) (a .v))) N ok
-                (ap known (B .known (d .policy .purposes) N) ∙ purpose-parent d (a .line .now) (wordOf (a .line .now) 9) (wordOf (a .line .now) (a .v)) ok)
+                (ap orZero (B .known (d .policy .purposes) N) ∙ purpose-parent d (a .line .now) (wordOf (a .line .now) 9) (wordOf (a .line .now) (a .v)) ok)
                 (c .add-purpose .ensures (a .text .now) _ N (hash-placed l d 9 _ (B .within) (c .before .before .place .ensures) _ (B .hash)));
           },
       λ held. small,

@@ -8,7 +8,7 @@ use mathlib.Core.Bool.{false}
 use mathlib.Core.Logic.{⊎-elim}
 use mathlib.Core.Path.{_∙_, _≡_, ap, sym}
 use native.Mathlib.Omega.{arith}
-use Rattle.workspace.proofs.ListedLaws.{listed-found, listed-none}
+use Rattle.workspace.proofs.TabulatedLaws.{tabulated-found, tabulated-none}
 use Rattle.text.specs.Words.{isCalled, wordAt, wordOf}
 use Rattle.workspace.proofs.found.seek_name.Statement.{statement}
 use Rattle.workspace.proofs.found.seek_name.Tie as tie
@@ -55,7 +55,7 @@ returns-2 c =
     let a = c .before .before .before .before .before .before .before .before .before .before .before .before .before .before .args in
     let l = c .before .before .before .before .before .before .loop in
     let small : c .before .before .before .before .before .before .loop .k < c .before .before .before .before .before .before .before .before .before .before .before .before .before .before .args .n = omega arith in
-    (λ ended. sym (listed-found (λ p. isCalled (wordOf (a .line .now) (a .i)) (wordAt (a .text .now) p)) (λ j. getD (a .ws .now) (a .base + j) 0) (a .n) (l .k) small (l .inv .1 ended) (sym (c .before .same-length-name .ensures (omega (arith, ended))) ∙ c .if3 .taken)), small)
+    (λ ended. sym (tabulated-found (λ p. isCalled (wordOf (a .line .now) (a .i)) (wordAt (a .text .now) p)) (λ j. getD (a .ws .now) (a .base + j) 0) (a .n) (l .k) small (l .inv .1 ended) (sym (c .before .same-length-name .ensures (omega (arith, ended))) ∙ c .if3 .taken)), small)
 
 add-k : tie.Need-add-k Inv-loop μ-loop
 add-k c = omega arith
@@ -82,7 +82,7 @@ returns-3 : tie.Need-returns-3 Inv-loop μ-loop
 returns-3 c =
     let a = c .before .before .before .before .before .before .before .before .before .args in
     let inv = c .before .loop .inv in
-    (λ ended. sym (listed-none (λ p. isCalled (wordOf (a .line .now) (a .i)) (wordAt (a .text .now) p)) (λ j. getD (a .ws .now) (a .base + j) 0) (a .n) (λ j l. inv .1 ended j (omega (arith, l)))), tt)
+    (λ ended. sym (tabulated-none (λ p. isCalled (wordOf (a .line .now) (a .i)) (wordAt (a .text .now) p)) (λ j. getD (a .ws .now) (a .base + j) 0) (a .n) (λ j l. inv .1 ended j (omega (arith, l)))), tt)
 
 pub seek-name-spec : {M : Type 1} → statement M
 seek-name-spec =

@@ -9,7 +9,7 @@ use mathlib.Core.Path.{_∙_, _≡_, ap, sym}
 use native.Mathlib.Nat.{zero-add}
 use native.Mathlib.Omega.{arith}
 use Rattle.workspace.proofs.HashLaws.{other-print}
-use Rattle.workspace.proofs.ListedLaws.{listed-found, listed-none}
+use Rattle.workspace.proofs.TabulatedLaws.{tabulated-found, tabulated-none}
 use Rattle.workspace.specs.Hash.{Printed}
 use Rattle.text.specs.Words.{isCalled, wordAt, wordOf}
 use Rattle.workspace.proofs.found.seek_printed.Statement.{statement}
@@ -56,7 +56,7 @@ returns c =
     let l = c .before .before .before .before .before .before .loop in
     let small : c .before .before .before .before .before .before .loop .k < c .before .before .before .before .before .before .before .before .before .before .before .args .n = omega arith in
     let sized : c .before .before .before .before .before .before .before .print-word .result .end - c .before .before .before .before .before .before .before .before .before .before .before .args .i ≡ length (wordAt (c .before .before .before .before .before .before .before .before .before .before .before .args .line .now) (c .before .before .before .before .before .before .before .before .before .before .before .args .i)) = omega (arith, c .before .before .before .before .before .before .before .print-word .ensures .ends) in
-    (λ p. sym (listed-found (λ q. isCalled (wordOf (a .line .now) (a .i)) (wordAt (a .text .now) q)) (λ j. getD (a .ws .now) (0 + j) 0) (a .n) (l .k) small (l .inv .1 p) (ap (λ m. isCalled (wordOf (a .line .now) (a .i)) (wordAt (a .text .now) (getD (a .ws .now) m 0))) (zero-add (l .k)) ∙ sym (c .before .same-length-name .ensures sized) ∙ c .if2 .taken)), small)
+    (λ p. sym (tabulated-found (λ q. isCalled (wordOf (a .line .now) (a .i)) (wordAt (a .text .now) q)) (λ j. getD (a .ws .now) (0 + j) 0) (a .n) (l .k) small (l .inv .1 p) (ap (λ m. isCalled (wordOf (a .line .now) (a .i)) (wordAt (a .text .now) (getD (a .ws .now) m 0))) (zero-add (l .k)) ∙ sym (c .before .same-length-name .ensures sized) ∙ c .if2 .taken)), small)
 
 add-k : tie.Need-add-k Inv-loop μ-loop
 add-k c = omega arith
@@ -85,7 +85,7 @@ returns-2 : tie.Need-returns-2 Inv-loop μ-loop
 returns-2 c =
     let a = c .before .before .before .before .before .before .args in
     let inv = c .before .loop .inv in
-    (λ p. sym (listed-none (λ q. isCalled (wordOf (a .line .now) (a .i)) (wordAt (a .text .now) q)) (λ j. getD (a .ws .now) (0 + j) 0) (a .n) (λ j l. inv .1 p j (omega (arith, l)))), tt)
+    (λ p. sym (tabulated-none (λ q. isCalled (wordOf (a .line .now) (a .i)) (wordAt (a .text .now) q)) (λ j. getD (a .ws .now) (0 + j) 0) (a .n) (λ j l. inv .1 p j (omega (arith, l)))), tt)
 
 pub seek-printed-spec : {M : Type 1} → statement M
 seek-printed-spec =

@@ -9,7 +9,7 @@ use mathlib.Core.Path.{_∙_, _≡_, ap, refl, subst, sym}
 use native.Mathlib.Nat.{add-suc, eq-or-lt-of-le, not-suc-le-zero}
 use native.Mathlib.Numerals.{add-one}
 use native.Mathlib.Omega.{arith}
-use Rattle.workspace.specs.Listed.{listed}
+use Rattle.workspace.specs.Tabulated.{tabulated}
 use Rattle.lists.proofs.ListLaws.{findIndexFrom-append, getElem?-inside-append, map-append}
 use Rattle.lists.specs.Lists.{findIndex, findIndexFrom}
 
@@ -64,78 +64,78 @@ module _ {A : Type 0} where
       go false e = e
 
   -- one more
-  pub listed-more : (f : ℕ → A) (k : ℕ) → listed f (k + 1) ≡ listed f k ++ (f k ∷ [])
-  unfolding listed
-  listed-more f k = rw (add-one k)
+  pub tabulated-more : (f : ℕ → A) (k : ℕ) → tabulated f (k + 1) ≡ tabulated f k ++ (f k ∷ [])
+  unfolding tabulated
+  tabulated-more f k = rw (add-one k)
 
   -- what agrees below k gives the same list
-  pub listed-same : (f g : ℕ → A) (k : ℕ) → ((i : ℕ) → i < k → f i ≡ g i) → listed f k ≡ listed g k
-  unfolding listed
-  listed-same f g zero h = refl
-  listed-same f g (suc k) h = λ j. listed-same f g k (λ i l. h i (omega (arith, l))) j ++ (h k (omega arith) j ∷ [])
+  pub tabulated-same : (f g : ℕ → A) (k : ℕ) → ((i : ℕ) → i < k → f i ≡ g i) → tabulated f k ≡ tabulated g k
+  unfolding tabulated
+  tabulated-same f g zero h = refl
+  tabulated-same f g (suc k) h = λ j. tabulated-same f g k (λ i l. h i (omega (arith, l))) j ++ (h k (omega arith) j ∷ [])
 
   -- one more behind what stays
-  pub listed-pushed : (f g : ℕ → A) (k : ℕ) (xs : List A) (y : A) → listed f k ≡ xs → ((i : ℕ) → i < k → g i ≡ f i) → g k ≡ y → listed g (k + 1) ≡ xs ++ (y ∷ [])
-  listed-pushed f g k xs y are kept new = listed-more g k ∙ (λ j. (listed-same g f k kept ∙ are) j ++ (new j ∷ []))
+  pub tabulated-pushed : (f g : ℕ → A) (k : ℕ) (xs : List A) (y : A) → tabulated f k ≡ xs → ((i : ℕ) → i < k → g i ≡ f i) → g k ≡ y → tabulated g (k + 1) ≡ xs ++ (y ∷ [])
+  tabulated-pushed f g k xs y are kept new = tabulated-more g k ∙ (λ j. (tabulated-same g f k kept ∙ are) j ++ (new j ∷ []))
 
-  pub length-listed : (f : ℕ → A) (k : ℕ) → length (listed f k) ≡ k
-  unfolding listed
-  length-listed f zero = refl
-  length-listed f (suc k) = length-append (listed f k) (f k ∷ []) ∙ omega (arith, length-listed f k)
+  pub length-tabulated : (f : ℕ → A) (k : ℕ) → length (tabulated f k) ≡ k
+  unfolding tabulated
+  length-tabulated f zero = refl
+  length-tabulated f (suc k) = length-append (tabulated f k) (f k ∷ []) ∙ omega (arith, length-tabulated f k)
 
   -- what stands at a number below k
-  pub listed-at : (f : ℕ → A) (k i : ℕ) → i < k → getElem? (listed f k) i ≡ some (f i)
-  unfolding listed
-  listed-at f zero i l = absurd (not-suc-le-zero l)
-  listed-at f (suc k) i l = ⊎-elim (λ e. last e) (λ m. old m (listed-at f k i m)) (eq-or-lt-of-le le)
+  pub tabulated-at : (f : ℕ → A) (k i : ℕ) → i < k → getElem? (tabulated f k) i ≡ some (f i)
+  unfolding tabulated
+  tabulated-at f zero i l = absurd (not-suc-le-zero l)
+  tabulated-at f (suc k) i l = ⊎-elim (λ e. last e) (λ m. old m (tabulated-at f k i m)) (eq-or-lt-of-le le)
     where
       le : i ≤ k
       le = omega (arith, l)
 
-      last : i ≡ k → getElem? (listed f k ++ (f k ∷ [])) i ≡ some (f i)
-      last e = getElem?-behind (listed f k) (f k) i (e ∙ sym (length-listed f k)) ∙ ap (λ n. some (f n)) (sym e)
+      last : i ≡ k → getElem? (tabulated f k ++ (f k ∷ [])) i ≡ some (f i)
+      last e = getElem?-behind (tabulated f k) (f k) i (e ∙ sym (length-tabulated f k)) ∙ ap (λ n. some (f n)) (sym e)
 
-      old : i < k → getElem? (listed f k) i ≡ some (f i) → getElem? (listed f k ++ (f k ∷ [])) i ≡ some (f i)
-      old m e = getElem?-inside-append (listed f k) (f k ∷ []) i (omega (arith, m, length-listed f k)) ∙ e
+      old : i < k → getElem? (tabulated f k) i ≡ some (f i) → getElem? (tabulated f k ++ (f k ∷ [])) i ≡ some (f i)
+      old m e = getElem?-inside-append (tabulated f k) (f k ∷ []) i (omega (arith, m, length-tabulated f k)) ∙ e
 
   -- the same, with what stands past the end
-  pub listed-getD : (f : ℕ → A) (k i : ℕ) (d : A) → i < k → getD (listed f k) i d ≡ f i
-  listed-getD f k i d l = getD-there (listed f k) i d (f i) (listed-at f k i l)
+  pub tabulated-getD : (f : ℕ → A) (k i : ℕ) (d : A) → i < k → getD (tabulated f k) i d ≡ f i
+  tabulated-getD f k i d l = getD-there (tabulated f k) i d (f i) (tabulated-at f k i l)
 
   -- what stands at a number is what f gives for it, and the number is below k
-  pub listed-there : (f : ℕ → A) (k i : ℕ) (a : A) → getElem? (listed f k) i ≡ some a → (i < k) × (a ≡ f i)
-  listed-there f k i a e =
-      let l : i < k = subst (λ n. i < n) (length-listed f k) (getElem?-inside (listed f k) i a e) in
-      (l, Option·some-injective a (f i) (sym e ∙ listed-at f k i l))
+  pub tabulated-there : (f : ℕ → A) (k i : ℕ) (a : A) → getElem? (tabulated f k) i ≡ some a → (i < k) × (a ≡ f i)
+  tabulated-there f k i a e =
+      let l : i < k = subst (λ n. i < n) (length-tabulated f k) (getElem?-inside (tabulated f k) i a e) in
+      (l, Option·some-injective a (f i) (sym e ∙ tabulated-at f k i l))
 
   -- a test that fails for every number below k finds nothing
-  pub listed-none : (t : A → Bool) (f : ℕ → A) (k : ℕ) → ((i : ℕ) → i < k → t (f i) ≡ false) → findIndex t (listed f k) ≡ none
-  unfolding listed findIndex findIndexFrom
-  listed-none t f zero h = refl
-  listed-none t f (suc k) h = missed-behind t (listed f k) (f k) 0 (listed-none t f k (λ i l. h i (omega (arith, l)))) (h k (omega arith))
+  pub tabulated-none : (t : A → Bool) (f : ℕ → A) (k : ℕ) → ((i : ℕ) → i < k → t (f i) ≡ false) → findIndex t (tabulated f k) ≡ none
+  unfolding tabulated findIndex findIndexFrom
+  tabulated-none t f zero h = refl
+  tabulated-none t f (suc k) h = missed-behind t (tabulated f k) (f k) 0 (tabulated-none t f k (λ i l. h i (omega (arith, l)))) (h k (omega arith))
 
   -- the first number that passes it is found
-  pub listed-found : (t : A → Bool) (f : ℕ → A) (k j : ℕ) → j < k → ((i : ℕ) → i < j → t (f i) ≡ false) → t (f j) ≡ true → findIndex t (listed f k) ≡ some j
-  unfolding listed findIndex findIndexFrom
-  listed-found t f zero j l h p = absurd (not-suc-le-zero l)
-  listed-found t f (suc k) j l h p = ⊎-elim (λ e. last e) (λ m. old (listed-found t f k j m h p)) (eq-or-lt-of-le le)
+  pub tabulated-found : (t : A → Bool) (f : ℕ → A) (k j : ℕ) → j < k → ((i : ℕ) → i < j → t (f i) ≡ false) → t (f j) ≡ true → findIndex t (tabulated f k) ≡ some j
+  unfolding tabulated findIndex findIndexFrom
+  tabulated-found t f zero j l h p = absurd (not-suc-le-zero l)
+  tabulated-found t f (suc k) j l h p = ⊎-elim (λ e. last e) (λ m. old (tabulated-found t f k j m h p)) (eq-or-lt-of-le le)
     where
       le : j ≤ k
       le = omega (arith, l)
 
-      last : j ≡ k → findIndexFrom 0 t (listed f k ++ (f k ∷ [])) ≡ some j
+      last : j ≡ k → findIndexFrom 0 t (tabulated f k ++ (f k ∷ [])) ≡ some j
       last e =
-          found-behind t (listed f k) (f k) 0 (unfold findIndex in listed-none t f k (λ i l. h i (omega (arith, l, e)))) (ap (λ n. t (f n)) (sym e) ∙ p)
-          ∙ ap some (omega (arith, length-listed f k, e))
+          found-behind t (tabulated f k) (f k) 0 (unfold findIndex in tabulated-none t f k (λ i l. h i (omega (arith, l, e)))) (ap (λ n. t (f n)) (sym e) ∙ p)
+          ∙ ap some (omega (arith, length-tabulated f k, e))
 
-      old : findIndexFrom 0 t (listed f k) ≡ some j → findIndexFrom 0 t (listed f k ++ (f k ∷ [])) ≡ some j
-      old e = findIndexFrom-append 0 t (listed f k) (f k ∷ []) j e
+      old : findIndexFrom 0 t (tabulated f k) ≡ some j → findIndexFrom 0 t (tabulated f k ++ (f k ∷ [])) ≡ some j
+      old e = findIndexFrom-append 0 t (tabulated f k) (f k ∷ []) j e
 
 -- each element replaced
-pub listed-map : {A B : Type 0} (g : A → B) (f : ℕ → A) (k : ℕ) → map g (listed f k) ≡ listed (λ i. g (f i)) k
-unfolding listed
-listed-map g f zero = refl
-listed-map g f (suc k) = map-append g (listed f k) (f k ∷ []) ∙ ap (λ l. l ++ (g (f k) ∷ [])) (listed-map g f k)
+pub tabulated-map : {A B : Type 0} (g : A → B) (f : ℕ → A) (k : ℕ) → map g (tabulated f k) ≡ tabulated (λ i. g (f i)) k
+unfolding tabulated
+tabulated-map g f zero = refl
+tabulated-map g f (suc k) = map-append g (tabulated f k) (f k ∷ []) ∙ ap (λ l. l ++ (g (f k) ∷ [])) (tabulated-map g f k)
 
 findFrom-map : {A B : Type 0} (t : B → Bool) (g : A → B) (n : ℕ) (xs : List A) → findIndexFrom n t (map g xs) ≡ findIndexFrom n (λ x. t (g x)) xs
 unfolding findIndexFrom
