@@ -23,7 +23,7 @@ use std::hint::black_box;
 use std::io::Write;
 use std::time::{Duration, Instant};
 
-/// How long a buffer is lent: the largest reserve.
+/// How long a buffer is lent: room for a column that is selected sixteen times, which no reserve covers.
 const BUFFER: usize = 500_000;
 /// Calls in a row of one kind, before the next kind has its turn.
 const IN_A_ROW: usize = 3;
