@@ -2,7 +2,7 @@
 use Prim.Native.Nat.{_+_, _<_, _≤_, ℕ}
 use borrow.Author.Tests.{eq-eqb, ne-eqb}
 use lib.Dec.{eqb}
-use lib.ListN.{getD, length, set, take}
+use lib.ListN.{length, set, take}
 use mathlib.Core.Bool.{Bool, _&&_, cond, false, not, true}
 use mathlib.Core.List.{List, [], _++_, _∷_}
 use mathlib.Core.Path.{_∙_, _≡_, ap, refl, subst, sym}
@@ -11,7 +11,7 @@ use Rattle.answer.specs.Answer.{matches}
 use Rattle.answer.specs.Exactly.{isGiven, isUnmatchedRow, isWithheldRow}
 use Rattle.answer.specs.Seen.{rowsIn}
 use Rattle.judging.proofs.TestLaws.{stored-more}
-use Rattle.judging.specs.Judging.{JudgedTo, Judgeable, countedBy, fateHere, fateOf, passedBy}
+use Rattle.judging.specs.Judging.{Judgeable, JudgedTo, countedBy, fateHere, fateOf, passedBy}
 use Rattle.judging.specs.Prepared.{Judged, Prepared}
 use Rattle.judging.specs.Tests.{Tested}
 use Rattle.judging.specs.declared.fates.Fate.the-variants as fate
@@ -25,7 +25,7 @@ use Rattle.workspace.proofs.TabulatedLaws.{tabulated-more}
 use Rattle.relations.proofs.RowLaws.{row-known}
 use Rattle.relations.proofs.TableLaws.{scheme-at, table-inside}
 use Rattle.relations.specs.Labels.{Opened}
-use Rattle.relations.specs.Rows.{Rows, labelCountIn, labelsIn, rowIn, rowTableIn}
+use Rattle.relations.specs.Rows.{Rows, labelCountIn, labelRoom, labelsIn, rowIn, rowTableIn}
 use Rattle.relations.specs.Tables.{columnLabelsIn, schemeBy, schemeIn, tableLabelIn}
 use Rattle.workspace.specs.Tabulated.{tabulated}
 use Rattle.form.specs.declared.lines.Scheme as coded
@@ -51,7 +51,7 @@ module _ (text ws : List ℕ) (count : ℕ) (os : List Bool) (s : List ℕ) (g :
 
   -- whether it is withheld, as the code finds it
   withheld-here : (x : Bool)
-      → ((e : Policy) (p l : ℕ) (ls : List ℕ) → Opened e p os → r < 1024 → labelCountIn ws r ≤ 16 → x ≡ rowWithheld (labelOpen e p) (schemeBy code l ls) (take (g .chosen + g .tests) cs) (labelsIn ws r))
+      → ((e : Policy) (p l : ℕ) (ls : List ℕ) → Opened e p os → r < 1024 → labelCountIn ws r ≤ labelRoom → x ≡ rowWithheld (labelOpen e p) (schemeBy code l ls) (take (g .chosen + g .tests) cs) (labelsIn ws r))
       → x ≡ isWithheldRow d q (rowIn text ws r)
   unfolding isWithheldRow rowIn
   withheld-here x h =
@@ -65,7 +65,7 @@ module _ (text ws : List ℕ) (count : ℕ) (os : List Bool) (s : List ℕ) (g :
     fate-elsewhere e = ap (λ (b : Bool). fateBy b (isWithheldRow d q (rowIn text ws r)) (matches (q .condition) (rowIn text ws r .values))) (sym (ne-eqb x (g .table) e) ∙ table-here x is)
 
     module _ (here : x ≡ g .table) (y : Bool)
-        (held : (e : Policy) (p l : ℕ) (ls : List ℕ) → Opened e p os → r < 1024 → labelCountIn ws r ≤ 16 → y ≡ rowWithheld (labelOpen e p) (schemeBy code l ls) (take (g .chosen + g .tests) cs) (labelsIn ws r)) where
+        (held : (e : Policy) (p l : ℕ) (ls : List ℕ) → Opened e p os → r < 1024 → labelCountIn ws r ≤ labelRoom → y ≡ rowWithheld (labelOpen e p) (schemeBy code l ls) (take (g .chosen + g .tests) cs) (labelsIn ws r)) where
       in-table : true ≡ eqb (rowIn text ws r .table) (q .table)
       in-table = sym (eq-eqb x (g .table) here) ∙ table-here x is
 

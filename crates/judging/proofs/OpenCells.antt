@@ -29,7 +29,7 @@ nothing-past (x ∷ xs) (suc i) l = nothing-past xs i (omega (arith, l))
 
 module _ (d : Policy) (p : ℕ) (os : List Bool) (opened : Opened d p os) (ws : List ℕ) (r c n : ℕ) (cut : Cut labelRoom r 1024 (labelCountIn ws r) n) where
   -- a label that the row has
-  pub open-there : c < n → (l : ℕ) → (r < 1024 → c < 16 → l ≡ rowLabelIn ws r c) → (x : Bool) → x ≡ getD os l false → r < 1024 → labelCountIn ws r ≤ 16 → x ≡ openIn d p ws r c
+  pub open-there : c < n → (l : ℕ) → (r < 1024 → c < 16 → l ≡ rowLabelIn ws r c) → (x : Bool) → x ≡ getD os l false → r < 1024 → labelCountIn ws r ≤ labelRoom → x ≡ openIn d p ws r c
   unfolding openIn
   open-there b l is x e i f =
       e ∙ opened .is l
@@ -37,7 +37,7 @@ module _ (d : Policy) (p : ℕ) (os : List Bool) (opened : Opened d p os) (ws : 
       ∙ ap (labelOpen d p) (sym (tabulated-at (rowLabelIn ws r) (labelCountIn ws r) c (omega (arith, b, cut .is i f))))
 
   -- one that it has not is closed
-  pub open-missing : n ≤ c → r < 1024 → labelCountIn ws r ≤ 16 → false ≡ openIn d p ws r c
+  pub open-missing : n ≤ c → r < 1024 → labelCountIn ws r ≤ labelRoom → false ≡ openIn d p ws r c
   unfolding openIn labelOpen holdsOf bind
   open-missing b i f =
       ap (labelOpen d p) (sym (nothing-past (labelsIn ws r) c (omega (arith, b, cut .is i f, length-tabulated (rowLabelIn ws r) (labelCountIn ws r)))))

@@ -30,7 +30,7 @@ ghost use Rattle.condition.specs.Cond.{Cond};
 ghost use Rattle.document.specs.Open.{labelOpen, rowWithheld};
 ghost use Rattle.document.specs.Policy.{Doc, Policy};
 ghost use Rattle.relations.specs.Labels.{Opened};
-ghost use Rattle.relations.specs.Rows.{labelCountIn, labelsIn, rowIn, valueCountIn};
+ghost use Rattle.relations.specs.Rows.{labelCountIn, labelRoom, labelsIn, rowIn, valueCountIn};
 ghost use Rattle.relations.specs.Tables.{schemeBy};
 ghost use Rattle.lists.specs.Lists.{anyOf};
 ghost use Rattle.query.specs.Query.{Query};
@@ -45,7 +45,7 @@ pub enum Fate {
 
 // Whether label c of row r is open; a label that the row has not is closed.
 fn cell_open(rows: &[usize; ROW_CELLS], opened: &[bool; LABELS], r: usize, c: usize) -> bool
-    ensures { λ x. ⌜ ((d : Policy) (p : ℕ) → Opened d p (now (opened .entry)) → r < 1024 → labelCountIn (now (rows .entry)) r ≤ 16 → x ≡ openIn d p (now (rows .entry)) r c) ⌝ }
+    ensures { λ x. ⌜ ((d : Policy) (p : ℕ) → Opened d p (now (opened .entry)) → r < 1024 → labelCountIn (now (rows .entry)) r ≤ labelRoom → x ≡ openIn d p (now (rows .entry)) r c) ⌝ }
 {
     let n = row_labels(rows, r);
     if c < n {
@@ -63,7 +63,7 @@ fn any_closed(
     n: usize,
 ) -> bool
     requires { ⌜ n ≤ length (now columns) ⌝ }
-    ensures { λ x. ⌜ ((d : Policy) (p : ℕ) → Opened d p (now (opened .entry)) → r < 1024 → labelCountIn (now (rows .entry)) r ≤ 16 → x ≡ anyOf (λ c. not (openIn d p (now (rows .entry)) r c)) (take n (now (columns .entry)))) ⌝ }
+    ensures { λ x. ⌜ ((d : Policy) (p : ℕ) → Opened d p (now (opened .entry)) → r < 1024 → labelCountIn (now (rows .entry)) r ≤ labelRoom → x ≡ anyOf (λ c. not (openIn d p (now (rows .entry)) r c)) (take n (now (columns .entry)))) ⌝ }
 {
     let mut i = 0;
     while i < n {
@@ -85,7 +85,7 @@ fn is_withheld(
     n: usize,
 ) -> bool
     requires { ⌜ n ≤ 80 ⌝ }
-    ensures { λ x. ⌜ ((d : Policy) (p l : ℕ) (ls : List ℕ) → Opened d p (now (opened .entry)) → r < 1024 → labelCountIn (now (rows .entry)) r ≤ 16 → x ≡ rowWithheld (labelOpen d p) (schemeBy scheme l ls) (take n (now (columns .entry))) (labelsIn (now (rows .entry)) r)) ⌝ }
+    ensures { λ x. ⌜ ((d : Policy) (p l : ℕ) (ls : List ℕ) → Opened d p (now (opened .entry)) → r < 1024 → labelCountIn (now (rows .entry)) r ≤ labelRoom → x ≡ rowWithheld (labelOpen d p) (schemeBy scheme l ls) (take n (now (columns .entry))) (labelsIn (now (rows .entry)) r)) ⌝ }
 {
     match scheme {
         Scheme::Unlabelled => false,

@@ -19,17 +19,17 @@ abbrev pub room : ℕ
 room = 64
 
 -- one comparison: the number to go on with where it holds, and where it does not; it stands under an odd number of `not`s
-pub record Step : Type 0 where
+pub record Branch : Type 0 where
   pub onTrue : ℕ
   pub onFalse : ℕ
   pub odd : Bool
 
-abbrev pub step : ℕ → ℕ → Bool → Step
-step y n o = record { onTrue = y; onFalse = n; odd = o }
+abbrev pub branch : ℕ → ℕ → Bool → Branch
+branch y n o = record { onTrue = y; onFalse = n; odd = o }
 
 -- where a program comes to that begins with step k and is to go on with number t: steps are passed by until number t is
 -- there. f tells whether the comparison of a number holds, read under an odd number of `not`s or an even one
-unfoldable pub run : (Bool → ℕ → Bool) → ℕ → List Step → ℕ → ℕ
+unfoldable pub run : (Bool → ℕ → Bool) → ℕ → List Branch → ℕ → ℕ
 run f k [] t = t
 run f k (e ∷ es) t = run f (k + 1) es (cond (eqb t k) (cond (f (e .odd) k) (e .onTrue) (e .onFalse)) t)
 
@@ -52,9 +52,9 @@ unfoldable mutual
   holdTwoAny f g (more c cs) = holdsTwo f g c || holdTwoAny f g cs
 
 -- the m steps from number k on, as three lists hold them
-unfoldable pub stepsOf : List ℕ → List ℕ → List Bool → ℕ → ℕ → List Step
-stepsOf ts fs os k zero = []
-stepsOf ts fs os k (suc m) = step (getD ts k 0) (getD fs k 0) (getD os k false) ∷ stepsOf ts fs os (k + 1) m
+unfoldable pub branchesOf : List ℕ → List ℕ → List Bool → ℕ → ℕ → List Branch
+branchesOf ts fs os k zero = []
+branchesOf ts fs os k (suc m) = branch (getD ts k 0) (getD fs k 0) (getD os k false) ∷ branchesOf ts fs os (k + 1) m
 
 -- the truths of the comparisons under an even number of `not`s, and under an odd one
 abbrev pub truthIn : List Bool → List Bool → Bool → ℕ → Bool
@@ -62,7 +62,7 @@ truthIn evens odds o k = cond o (getD odds k false) (getD evens k false)
 
 -- the program of m steps that three lists hold says that the condition holds
 abbrev pub comesTo : (Bool → ℕ → Bool) → List ℕ → List ℕ → List Bool → ℕ → Bool
-comesTo f ts fs os m = eqb (run f 0 (stepsOf ts fs os 0 m) 0) room
+comesTo f ts fs os m = eqb (run f 0 (branchesOf ts fs os 0 m) 0) room
 
 -- what the code's answer r and the lists that it stored say of the condition at a position of the text s: where it ends and how
 -- many comparisons it has; and, where there is room for them, that running the program is evaluating the condition,
@@ -75,24 +75,24 @@ pub record Programmed (s : List ℕ) (at : ℕ) (r : Read) (ts fs : List ℕ) (o
 
 -- the steps of a condition whose first comparison has the number k: it goes on with y where it holds and with n where not
 unfoldable mutual
-  pub code : {C : Type 0} → ℕ → ℕ → ℕ → Bool → Cond C → List Step
-  code k y n o (test c) = step y n o ∷ []
+  pub code : {C : Type 0} → ℕ → ℕ → ℕ → Bool → Cond C → List Branch
+  code k y n o (test c) = branch y n o ∷ []
   code k y n o (negate c) = code k n y (not o) c
   code k y n o (both cs) = codeAll k y n o cs
   code k y n o (either cs) = codeAny k y n o cs
 
   -- all of them hold: the first that does not decides
-  pub codeAll : {C : Type 0} → ℕ → ℕ → ℕ → Bool → Conds C → List Step
+  pub codeAll : {C : Type 0} → ℕ → ℕ → ℕ → Bool → Conds C → List Branch
   codeAll k y n o (last c) = code k y n o c
   codeAll k y n o (more c cs) = code k (k + length (comparisons c)) n o c ++ codeAll (k + length (comparisons c)) y n o cs
 
   -- one of them holds: the first that does decides
-  pub codeAny : {C : Type 0} → ℕ → ℕ → ℕ → Bool → Conds C → List Step
+  pub codeAny : {C : Type 0} → ℕ → ℕ → ℕ → Bool → Conds C → List Branch
   codeAny k y n o (last c) = code k y n o c
   codeAny k y n o (more c cs) = code k y (k + length (comparisons c)) o c ++ codeAny (k + length (comparisons c)) y n o cs
 
 -- three lists became others by storing steps from number k on, as many as have room
-pub record Written (k : ℕ) (es : List Step) (ts fs : List ℕ) (os : List Bool) (ts′ fs′ : List ℕ) (os′ : List Bool) : Type 0 where
-  pub trues : ts′ ≡ sets ts k (map (λ (e : Step). e .onTrue) es)
-  pub falses : fs′ ≡ sets fs k (map (λ (e : Step). e .onFalse) es)
-  pub odds : os′ ≡ sets os k (map (λ (e : Step). e .odd) es)
+pub record Written (k : ℕ) (es : List Branch) (ts fs : List ℕ) (os : List Bool) (ts′ fs′ : List ℕ) (os′ : List Bool) : Type 0 where
+  pub trues : ts′ ≡ sets ts k (map (λ (e : Branch). e .onTrue) es)
+  pub falses : fs′ ≡ sets fs k (map (λ (e : Branch). e .onFalse) es)
+  pub odds : os′ ≡ sets os k (map (λ (e : Branch). e .odd) es)

@@ -9,13 +9,13 @@ use Rattle.judging.proofs.OpenCells.{any-found, any-more, any-none}
 use Rattle.judging.specs.Judging.{openIn}
 use Rattle.document.specs.Policy.{Policy}
 use Rattle.relations.specs.Labels.{Opened}
-use Rattle.relations.specs.Rows.{labelCountIn}
+use Rattle.relations.specs.Rows.{labelCountIn, labelRoom}
 use Rattle.lists.specs.Lists.{anyOf}
 use Rattle.judging.proofs.fates.any_closed.Statement.{statement}
 use Rattle.judging.proofs.fates.any_closed.Tie as tie
 
 abbrev Inv-loop : tie.InvT-loop
-Inv-loop rows opened r columns n i₀ i = (i ≤ n) × ((d : Policy) (p : ℕ) → Opened d p opened → r < 1024 → labelCountIn rows r ≤ 16 → anyOf (λ k. not (openIn d p rows r k)) (take i columns) ≡ false)
+Inv-loop rows opened r columns n i₀ i = (i ≤ n) × ((d : Policy) (p : ℕ) → Opened d p opened → r < 1024 → labelCountIn rows r ≤ labelRoom → anyOf (λ k. not (openIn d p rows r k)) (take i columns) ≡ false)
 
 abbrev μ-loop : tie.MeasureT-loop
 μ-loop rows opened r columns n i₀ i = n - i

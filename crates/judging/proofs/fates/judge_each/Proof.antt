@@ -1,7 +1,7 @@
 -- `judging::fates::judge_each` meets its contract. The loop's invariant: the rows gone through are judged. Assumes nothing.
 use Prim.Native.Nat.{_-_, _≤_, ℕ}
 use Rattle.judging.proofs.FateLaws.{Fewer, fewer-more, judged-more, judged-none}
-use Rattle.judging.specs.Judging.{JudgedTo, Judgeable}
+use Rattle.judging.specs.Judging.{Judgeable, JudgedTo}
 use Rattle.document.specs.Policy.{Doc}
 use Rattle.relations.specs.Rows.{rowIn}
 use Rattle.query.specs.Query.{Query}

@@ -2,7 +2,6 @@
 use Rattle.answer.specs.Answer.{matches}
 use Rattle.judging.proofs.FateLaws.{met-judged, met-none}
 use Rattle.relations.specs.Rows.{rowIn}
-use borrow.Author.Needs.{needs}
 use Rattle.judging.proofs.fates.row_met.Statement.{statement}
 use Rattle.judging.proofs.fates.row_met.Tie as tie
 

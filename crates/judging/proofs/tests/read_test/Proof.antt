@@ -1,7 +1,7 @@
 -- `judging::tests::read_test` meets its contract. Assumes nothing.
 use Rattle.text.specs.Walking.{nextWord}
 use borrow.Author.Needs.{needs}
-use mathlib.Core.Path.{_∙_, ap, refl, sym}
+use mathlib.Core.Path.{_∙_, ap, refl}
 use native.Mathlib.Omega.{arith}
 use Rattle.judging.proofs.tests.read_test.Statement.{statement}
 use Rattle.judging.proofs.tests.read_test.Tie as tie
