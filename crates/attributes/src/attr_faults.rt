@@ -9,15 +9,7 @@ use workspace::found::Found;
 use workspace::layout::ATTRIBUTE_CELLS;
 use workspace::layout::ATTRIBUTES;
 use workspace::layout::ROLE_CELLS;
-ghost use Prim.Native.Nat.{_≤_};
-ghost use lib.ListN.{length};
-ghost use mathlib.Core.Path.{_≡_};
-ghost use Rattle.condition.specs.Answers.{kindOf};
-ghost use Rattle.stepping.specs.Judged.{Judges};
-ghost use Rattle.form.specs.Form.{attr};
-ghost use Rattle.principals.specs.Attributes.{Attributes};
-ghost use Rattle.principals.specs.Nodes.{Nodes};
-ghost use Rattle.text.specs.Words.{wordOf};
+ghost use Rattle.attributes.specs.Promises.{AttrFaultPromise};
 
 // The attribute whose name stands at a of the line, at the role whose name stands at r, behind k attributes.
 pub fn attr_fault(
@@ -32,7 +24,7 @@ pub fn attr_fault(
     a: usize,
     kind: Kind,
 ) -> Verdict
-    ensures { λ f. ⌜ Judges (λ d. Nodes 64 (now (text .entry)) (now (roles .entry)) «roles_count» (d .policy .roles) × Attributes (now (text .entry)) (now (attributes .entry)) k (d .policy .attributes) × («users_count» ≡ length (d .policy .users))) ((r ≤ length (now (line .entry))) × (a ≤ length (now (line .entry)))) (now (line .entry)) (attr (wordOf (now (line .entry)) r) (wordOf (now (line .entry)) a) (kindOf kind)) k 32 f ⌝ }
+    ensures { λ f. ⌜ AttrFaultPromise (now (text .entry)) (now (roles .entry)) «roles_count» (now (attributes .entry)) k «users_count» (now (line .entry)) r a kind f ⌝ }
 {
     if ATTRIBUTES <= k {
         return Verdict::Faulty(Fault::Whole(Reason::OverBound));

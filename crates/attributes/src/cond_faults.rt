@@ -20,24 +20,17 @@ use workspace::layout::ATTRIBUTE_CELLS;
 use workspace::layout::COND_ROLE_CELLS;
 use workspace::layout::COND_ROLES;
 use workspace::layout::ROLE_CELLS;
-ghost use Prim.Native.Nat.{_<_, _≤_, ℕ};
-ghost use lib.ListN.{getD, length, take};
-ghost use mathlib.Core.List.{map};
+ghost use Prim.Native.Nat.{_≤_};
+ghost use lib.ListN.{length};
 ghost use mathlib.Core.Path.{_≡_};
-ghost use Rattle.condition.specs.Answers.{comparedAt, kindOf};
-ghost use Rattle.condition.specs.CondForm.{mistyped};
+ghost use Rattle.condition.specs.Answers.{kindOf};
 ghost use Rattle.document.specs.Lookup.{attributeKind};
 ghost use Rattle.document.specs.NameFaults.{usableFor};
-ghost use Rattle.document.specs.Policy.{Doc, Policy};
-ghost use Rattle.attributes.specs.CondLine.{JudgesCond};
-ghost use Rattle.stepping.specs.Places.{Near};
+ghost use Rattle.document.specs.Policy.{Policy};
 ghost use Rattle.principals.specs.Attributes.{Attributes};
-ghost use Rattle.principals.specs.CondRoles.{CondRoles};
 ghost use Rattle.principals.specs.Nodes.{Nodes};
-ghost use Rattle.text.specs.Offending.{leftmost, missing};
-ghost use Rattle.text.specs.Walking.{nextWord};
 ghost use Rattle.text.specs.Words.{wordOf};
-ghost use Rattle.text.specs.CodeEnds.{offendingOf};
+ghost use Rattle.attributes.specs.Promises.{CondRoleFaultPromise, FirstMistypedPromise, FirstUnusablePromise};
 
 // The most comparisons that a condition may have.
 const COMPARISONS: usize = 64;
@@ -79,7 +72,7 @@ fn first_unusable(
     count: usize,
 ) -> Offending
     requires { ⌜ (count ≤ 64) × (count ≤ length (now ops)) ⌝ }
-    ensures { λ f. ⌜ ((d : Policy) → Nodes 64 (now (text .entry)) (now (roles .entry)) m (d .roles) → Attributes (now (text .entry)) (now (attributes .entry)) n (d .attributes) → offendingOf (now (line .entry)) f ≡ missing (usableFor d role) (map (λ p. wordOf (now (line .entry)) (nextWord (now (line .entry)) p)) (take count (now (ops .entry))))) × (((i : ℕ) → i < count → getD (now (ops .entry)) i 0 ≤ length (now (line .entry))) → Near (now (line .entry)) f) ⌝ }
+    ensures { λ f. ⌜ FirstUnusablePromise (now (text .entry)) (now (roles .entry)) m (now (attributes .entry)) n (now (line .entry)) role (now (ops .entry)) count f ⌝ }
 {
     let mut j = 0;
     while j < count {
@@ -119,7 +112,7 @@ fn first_mistyped(
     count: usize,
 ) -> Offending
     requires { ⌜ (count ≤ 64) × (count ≤ length (now ops)) ⌝ }
-    ensures { λ f. ⌜ ((d : Policy) → Attributes (now (text .entry)) (now (attributes .entry)) n (d .attributes) → offendingOf (now (line .entry)) f ≡ leftmost (map (λ p. mistyped (attributeKind d (wordOf (now (line .entry)) (nextWord (now (line .entry)) p))) (comparedAt (now (line .entry)) p)) (take count (now (ops .entry))))) × (((i : ℕ) → i < count → getD (now (ops .entry)) i 0 ≤ length (now (line .entry))) → Near (now (line .entry)) f) ⌝ }
+    ensures { λ f. ⌜ FirstMistypedPromise (now (text .entry)) (now (attributes .entry)) n (now (line .entry)) (now (ops .entry)) count f ⌝ }
 {
     let mut j = 0;
     while j < count {
@@ -149,7 +142,7 @@ pub fn cond_role_fault(
     r: usize,
     t: usize,
 ) -> Verdict
-    ensures { λ f. ⌜ JudgesCond (λ (d : Doc). Nodes 64 (now (text .entry)) (now (roles .entry)) m (d .policy .roles) × Attributes (now (text .entry)) (now (attributes .entry)) n (d .policy .attributes) × CondRoles (d .policy) (now (text .entry)) (now (conds .entry)) k (d .policy .condRoles)) ((c ≤ length (now (line .entry))) × (r ≤ length (now (line .entry))) × (t ≤ length (now (line .entry)))) (now (line .entry)) c r t k f ⌝ }
+    ensures { λ f. ⌜ CondRoleFaultPromise (now (text .entry)) (now (roles .entry)) m (now (attributes .entry)) n (now (conds .entry)) k (now (line .entry)) c r t f ⌝ }
 {
     let mut ops = [0usize; COMPARISONS];
     let read = read_places(line, t, &mut ops);

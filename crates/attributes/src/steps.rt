@@ -10,22 +10,7 @@ use stepping::step::Step;
 use workspace::layout::ATTRIBUTE_CELLS;
 use workspace::layout::COND_ROLE_CELLS;
 use workspace::layout::ROLE_CELLS;
-ghost use Prim.Native.Nat.{_≤_, ℕ};
-ghost use lib.ListN.{length};
-ghost use mathlib.Core.List.{List};
-ghost use mathlib.Core.Option.{Option·map};
-ghost use mathlib.Core.Path.{_≡_};
-ghost use Rattle.index.specs.Workspace.{Indexed};
-ghost use Rattle.stepping.specs.Follows.{Follows};
-ghost use Rattle.condition.specs.Answers.{kindOf};
-ghost use Rattle.condition.specs.CondForm.{conditionInForm};
-ghost use Rattle.document.specs.Check.{checkForm, checkLine};
-ghost use Rattle.document.specs.Policy.{Doc};
-ghost use Rattle.form.specs.Form.{attr, condRole, role};
-ghost use Rattle.form.specs.FormReader.{formOf};
-ghost use Rattle.stepping.specs.Stored.{LineAt};
-ghost use Rattle.text.specs.Reader.{from};
-ghost use Rattle.text.specs.Words.{wordOf};
+ghost use Rattle.attributes.specs.Promises.{StepAttrPromise, StepCondPromise};
 
 // An attribute, whose name stands at a, at the role whose name stands at r.
 pub fn step_attr(
@@ -39,7 +24,7 @@ pub fn step_attr(
     a: usize,
     kind: Kind,
 ) -> Step
-    ensures { λ s. ⌜ ((d : Doc) (ps′ us′ cs′ gs′ ls′ ms′ ts′ ws′ : List ℕ) → LineAt (now (text .entry)) at (now (line .entry)) → ((r ≤ length (now (line .entry))) × (a ≤ length (now (line .entry)))) → Indexed (now (text .entry)) ps′ (now (roles .entry)) (now (attributes .entry)) us′ cs′ gs′ ls′ ms′ ts′ ws′ c d → Follows (Indexed (now (text .entry)) ps′ (now (roles .entry)) (now (attributes .exit)) us′ cs′ gs′ ls′ ms′ ts′ ws′) (now (line .entry)) (checkForm d (now (line .entry)) (attr (wordOf (now (line .entry)) r) (wordOf (now (line .entry)) a) (kindOf kind))) s) ⌝ }
+    ensures { λ s. ⌜ StepAttrPromise (now (text .entry)) at (now (line .entry)) (now (roles .entry)) (now (attributes .entry)) (now (attributes .exit)) c r a kind s ⌝ }
 {
     let k = c.attributes;
     let f = attr_fault(
@@ -76,7 +61,7 @@ pub fn step_cond(
     r: usize,
     t: usize,
 ) -> Step
-    ensures { λ s. ⌜ ((d : Doc) (ps′ us′ gs′ ls′ ms′ ts′ ws′ : List ℕ) → formOf (now (line .entry)) ≡ Option·map (λ x. condRole (wordOf (now (line .entry)) n) (wordOf (now (line .entry)) r) (x .0)) (conditionInForm (from (now (line .entry)) t)) → LineAt (now (text .entry)) at (now (line .entry)) → ((n ≤ length (now (line .entry))) × (r ≤ length (now (line .entry))) × (t ≤ length (now (line .entry)))) → Indexed (now (text .entry)) ps′ (now (roles .entry)) (now (attributes .entry)) us′ (now (conds .entry)) gs′ ls′ ms′ ts′ ws′ c d → Follows (Indexed (now (text .entry)) ps′ (now (roles .entry)) (now (attributes .entry)) us′ (now (conds .exit)) gs′ ls′ ms′ ts′ ws′) (now (line .entry)) (checkLine d (now (line .entry))) s) ⌝ }
+    ensures { λ s. ⌜ StepCondPromise (now (text .entry)) at (now (line .entry)) (now (roles .entry)) (now (attributes .entry)) (now (conds .entry)) (now (conds .exit)) c n r t s ⌝ }
 {
     let k = c.conds;
     let f = cond_role_fault(

@@ -3,3 +3,4 @@ pub mod Values
 pub mod Held
 pub mod Purposes
 pub mod Authorities
+pub mod Promises

@@ -20,27 +20,26 @@ use workspace::layout::ATTRIBUTE_CELLS;
 use workspace::layout::COND_ROLE_CELLS;
 use workspace::layout::COND_ROLES;
 ghost use Prim.Native.Nat.{_<_, _^_, _≤_, ℕ};
-ghost use lib.ListN.{getD, getElem?, length, take};
-ghost use mathlib.Core.Bool.{false, true};
-ghost use mathlib.Core.List.{List, map};
+ghost use lib.ListN.{getElem?, length};
+ghost use mathlib.Core.Bool.{true};
+ghost use mathlib.Core.List.{List};
 ghost use mathlib.Core.Option.{some};
 ghost use mathlib.Core.Path.{_≡_};
-ghost use Rattle.authority.specs.Held.{Held, Told, comparisonHolds, conditionHolds, wordsMeet};
+ghost use Rattle.authority.specs.Held.{Held, Told, comparisonHolds, wordsMeet};
 ghost use Rattle.authority.specs.Values.{Values};
 ghost use Rattle.condition.specs.Answers.{comparedAt, opOf};
 ghost use Rattle.condition.specs.Comparison.{valuesMeet};
-ghost use Rattle.condition.specs.Cond.{comparisons, holds};
-ghost use Rattle.condition.specs.CondForm.{conditionInForm};
+ghost use Rattle.condition.specs.Cond.{comparisons};
 ghost use Rattle.document.specs.Lookup.{attributeOf};
 ghost use Rattle.document.specs.Policy.{Attribute, CondRole, Policy, User};
 ghost use Rattle.principals.specs.Attributes.{Attributes};
-ghost use Rattle.principals.specs.CondRoles.{CondRoles, attributesKnown, condRoleIn, conditionRead};
-ghost use Rattle.lists.specs.Lists.{allOf, holdsOf, there};
+ghost use Rattle.principals.specs.CondRoles.{CondRoles};
+ghost use Rattle.lists.specs.Lists.{holdsOf, there};
 ghost use Rattle.query.specs.HostClock.{clockOf};
-ghost use Rattle.query.specs.Authority.{clockNumber, inRange, userValue};
+ghost use Rattle.query.specs.Authority.{clockNumber, userValue};
 ghost use Rattle.text.specs.Numbers.{rankOf};
-ghost use Rattle.text.specs.Reader.{from};
 ghost use Rattle.text.specs.Words.{wordAt, wordOf};
+ghost use Rattle.authority.specs.Promises.{ConditionHoldsPromise, FillTruthsPromise, RoleHoldsPromise, StoreHeldPromise, StoreTruthsPromise};
 
 // The number that the clock gives for its attribute n.
 fn clock_number(clock: Clock, n: usize) -> u64
@@ -156,7 +155,7 @@ fn fill_truths(
     truths: &mut [bool],
 )
     requires { ⌜ (n ≤ length (now ops)) × (n ≤ length (now truths)) ⌝ }
-    ensures { λ _. ⌜ ((d : Policy) (u : User) → Told (now (text .entry)) (now (attributes .entry)) acount (clockOf clock) (now (user .entry)) (now (values .entry)) d u → ((j : ℕ) → j < n → there (attributeOf d (comparedAt (now (line .entry)) (getD (now (ops .entry)) j 0) .of)) ≡ true) → (j : ℕ) → j < n → getD (now (truths .exit)) j false ≡ comparisonHolds d (clockOf clock) u (comparedAt (now (line .entry)) (getD (now (ops .entry)) j 0))) ⌝ }
+    ensures { λ _. ⌜ FillTruthsPromise (now (text .entry)) (now (attributes .entry)) acount clock (now (user .entry)) (now (values .entry)) (now (line .entry)) (now (ops .entry)) n (now (truths .exit)) ⌝ }
 {
     let mut i = 0;
     while i < n {
@@ -179,7 +178,7 @@ fn store_truths(
     n: usize,
     truths: &mut [bool; 64],
 )
-    ensures { λ _. ⌜ (n ≤ 64 → (d : Policy) (u : User) → Told (now (text .entry)) (now (attributes .entry)) acount (clockOf clock) (now (user .entry)) (now (values .entry)) d u → allOf (λ x. there (attributeOf d (x .of))) (map (comparedAt (now (line .entry))) (take n (now (ops .entry)))) ≡ true → map (comparisonHolds d (clockOf clock) u) (map (comparedAt (now (line .entry))) (take n (now (ops .entry)))) ≡ take n (now (truths .exit))) ⌝ }
+    ensures { λ _. ⌜ StoreTruthsPromise (now (text .entry)) (now (attributes .entry)) acount clock (now (user .entry)) (now (values .entry)) (now (line .entry)) (now (ops .entry)) n (now (truths .exit)) ⌝ }
 {
     if n <= 64 {
         fill_truths(
@@ -208,7 +207,7 @@ fn condition_holds(
     line: &[u8],
     place: usize,
 ) -> bool
-    ensures { λ r. ⌜ ((d : Policy) (u : User) → Told (now (text .entry)) (now (attributes .entry)) acount (clockOf clock) (now (user .entry)) (now (values .entry)) d u → there (conditionInForm (from (now (line .entry)) place)) ≡ true → attributesKnown d (conditionRead (conditionInForm (from (now (line .entry)) place))) ≡ true → length (comparisons (conditionRead (conditionInForm (from (now (line .entry)) place)))) ≤ 64 → r ≡ holds (comparisonHolds d (clockOf clock) u) (conditionRead (conditionInForm (from (now (line .entry)) place)))) ⌝ }
+    ensures { λ r. ⌜ ConditionHoldsPromise (now (text .entry)) (now (attributes .entry)) acount clock (now (user .entry)) (now (values .entry)) (now (line .entry)) place r ⌝ }
 {
     let mut ops = [0; 64];
     let mut truths = [false; 64];
@@ -247,7 +246,7 @@ fn role_holds(
     values: &[usize; VALUES],
     i: usize,
 ) -> bool
-    ensures { λ r. ⌜ ((d : Policy) (u : User) (k : ℕ) (rs : List CondRole) → Told (now (text .entry)) (now (attributes .entry)) acount (clockOf clock) (now (user .entry)) (now (values .entry)) d u → CondRoles d (now (text .entry)) (now (conds .entry)) k rs → i < k → length (comparisons (condRoleIn d (now (text .entry)) (now (conds .entry)) i .condition)) ≤ 64 → r ≡ conditionHolds (clockOf clock) u (condRoleIn d (now (text .entry)) (now (conds .entry)) i)) ⌝ }
+    ensures { λ r. ⌜ RoleHoldsPromise (now (text .entry)) (now (attributes .entry)) acount (now (conds .entry)) clock (now (user .entry)) (now (values .entry)) i r ⌝ }
 {
     let start = cond_role_start(conds, i);
     let end = cond_role_end(conds, i);
@@ -292,7 +291,7 @@ pub fn store_held(
     values: &[usize; VALUES],
     held: &mut [bool; COND_ROLES],
 )
-    ensures { λ _. ⌜ ((d : Policy) (u : User) → Attributes (now (text .entry)) (now (attributes .entry)) acount (d .attributes) → CondRoles d (now (text .entry)) (now (conds .entry)) ccount (d .condRoles) → ((i : ℕ) (r : CondRole) → getElem? (d .condRoles) i ≡ some r → length (comparisons (r .condition)) ≤ 64) → inRange (clockOf clock) ≡ true → Values (now (line .entry)) (u .values) (now (values .entry)) → Held (clockOf clock) u (d .condRoles) (now (held .exit))) ⌝ }
+    ensures { λ _. ⌜ StoreHeldPromise (now (text .entry)) (now (attributes .entry)) acount (now (conds .entry)) ccount clock (now (line .entry)) (now (values .entry)) (now (held .exit)) ⌝ }
 {
     if ccount <= COND_ROLES {
         fill_held(

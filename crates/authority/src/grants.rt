@@ -30,15 +30,14 @@ ghost use mathlib.Core.Path.{_≡_};
 ghost use Rattle.authority.specs.Authorities.{Authorities};
 ghost use Rattle.authority.specs.Held.{Held, conditionHolds};
 ghost use Rattle.document.specs.Policy.{CondRole, Node, Policy, User, treeOf};
-ghost use Rattle.principals.specs.CondRoles.{CondRoles};
 ghost use Rattle.workspace.specs.Found.{foundAs};
-ghost use Rattle.principals.specs.Grants.{Grants};
 ghost use Rattle.principals.specs.Nodes.{Nodes};
-ghost use Rattle.lists.specs.Lists.{findIndex, holdsOf};
+ghost use Rattle.lists.specs.Lists.{holdsOf};
 ghost use Rattle.purpose.specs.Compliance.{inTree, parent};
 ghost use Rattle.purpose.specs.Meaning.{ClosureOf};
 ghost use Rattle.query.specs.HostClock.{clockOf};
 ghost use Rattle.query.specs.Authority as authority;
+ghost use Rattle.authority.specs.Promises.{FirstGrantPromise};
 
 // The parent of role r, among the first k; a role that is not there is its own.
 fn role_parent(ws: &[usize; ROLE_CELLS], k: usize, r: usize) -> usize
@@ -73,7 +72,7 @@ fn first_grant(
     held: &[bool; COND_ROLES],
     role: usize,
 ) -> Found
-    ensures { λ x. ⌜ ((d : Policy) (text : List ℕ) (c : authority.Clock) (u : User) (p : ℕ) → Nodes 64 text (now (roles .entry)) rcount (d .roles) → CondRoles d text (now (conds .entry)) ccount (d .condRoles) → Grants (now (grants .entry)) gcount (d .grants) → ClosureOf (treeOf (d .purposes)) p closure → inTree (treeOf (d .purposes)) p ≡ true → Held c u (d .condRoles) (now (held .entry)) → role ≡ u .role → foundAs x ≡ findIndex (authority.authorises d c u p) (d .grants)) ⌝ }
+    ensures { λ x. ⌜ FirstGrantPromise closure (now (roles .entry)) rcount (now (conds .entry)) ccount (now (grants .entry)) gcount (now (held .entry)) role x ⌝ }
 {
     let mut found = Found::Nothing;
     let mut i = 0;

@@ -28,13 +28,7 @@ use workspace::layout::ROW_CELLS;
 use workspace::layout::SET_WORDS;
 use workspace::layout::TABLE_CELLS;
 use workspace::layout::USER_CELLS;
-ghost use Rattle.index.specs.Workspace.{Indexed};
-ghost use Rattle.stepping.specs.Follows.{Follows};
-ghost use Rattle.document.specs.Check.{checkLine};
-ghost use Rattle.document.specs.Invariants.{UniqueNames};
-ghost use Rattle.document.specs.Policy.{Doc};
-ghost use Rattle.form.specs.Form.{purpose, row};
-ghost use Rattle.stepping.specs.Stored.{LineAt};
+ghost use Rattle.checker.specs.Promises.{StepFormPromise, StepLinePromise, StepOtherPromise};
 
 // The line that stands at a position of the text, by its form.
 fn step_form(
@@ -53,7 +47,7 @@ fn step_form(
     rows: &mut [usize; ROW_CELLS],
     c: Counts,
 ) -> Step
-    ensures { λ s. ⌜ ((d : Doc) → LineAt (now (text .entry)) at (now (line .entry)) → Indexed (now (text .entry)) (now (purposes .entry)) (now (roles .entry)) (now (attributes .entry)) (now (users .entry)) (now (conds .entry)) (now (grants .entry)) (now (labels .entry)) (now (sets .entry)) (now (tables .entry)) (now (rows .entry)) c d → UniqueNames (d .policy) → Follows (Indexed (now (text .entry)) (now (purposes .exit)) (now (roles .exit)) (now (attributes .exit)) (now (users .exit)) (now (conds .exit)) (now (grants .exit)) (now (labels .exit)) (now (sets .exit)) (now (tables .exit)) (now (rows .exit))) (now (line .entry)) (checkLine d (now (line .entry))) s) ⌝ }
+    ensures { λ s. ⌜ StepFormPromise (now (text .entry)) at (now (line .entry)) (now (purposes .entry)) (now (purposes .exit)) (now (roles .entry)) (now (roles .exit)) (now (attributes .entry)) (now (attributes .exit)) (now (users .entry)) (now (users .exit)) (now (conds .entry)) (now (conds .exit)) (now (grants .entry)) (now (grants .exit)) (now (labels .entry)) (now (labels .exit)) (now (sets .entry)) (now (sets .exit)) (now (tables .entry)) (now (tables .exit)) (now (rows .entry)) (now (rows .exit)) c s ⌝ }
 {
     let form = read_line(line);
     match form {
@@ -100,7 +94,7 @@ fn step_other(
     rows: &mut [usize; ROW_CELLS],
     c: Counts,
 ) -> Step
-    ensures { λ s. ⌜ ((d : Doc) → LineAt (now (text .entry)) at (now (line .entry)) → Indexed (now (text .entry)) (now (purposes .entry)) (now (roles .entry)) (now (attributes .entry)) (now (users .entry)) (now (conds .entry)) (now (grants .entry)) (now (labels .entry)) (now (sets .entry)) (now (tables .entry)) (now (rows .entry)) c d → UniqueNames (d .policy) → Follows (Indexed (now (text .entry)) (now (purposes .exit)) (now (roles .exit)) (now (attributes .exit)) (now (users .exit)) (now (conds .exit)) (now (grants .exit)) (now (labels .exit)) (now (sets .exit)) (now (tables .exit)) (now (rows .exit))) (now (line .entry)) (checkLine d (now (line .entry))) s) ⌝ }
+    ensures { λ s. ⌜ StepOtherPromise (now (text .entry)) at (now (line .entry)) (now (purposes .entry)) (now (purposes .exit)) (now (roles .entry)) (now (roles .exit)) (now (attributes .entry)) (now (attributes .exit)) (now (users .entry)) (now (users .exit)) (now (conds .entry)) (now (conds .exit)) (now (grants .entry)) (now (grants .exit)) (now (labels .entry)) (now (labels .exit)) (now (sets .entry)) (now (sets .exit)) (now (tables .entry)) (now (tables .exit)) (now (rows .entry)) (now (rows .exit)) c s ⌝ }
 {
     let k = c.purposes;
     if take_purpose(text, at, line, purposes, k) {
@@ -143,7 +137,7 @@ pub(crate) fn step_line(
     rows: &mut [usize; ROW_CELLS],
     c: Counts,
 ) -> Step
-    ensures { λ s. ⌜ ((d : Doc) → LineAt (now (text .entry)) at (now (line .entry)) → Indexed (now (text .entry)) (now (purposes .entry)) (now (roles .entry)) (now (attributes .entry)) (now (users .entry)) (now (conds .entry)) (now (grants .entry)) (now (labels .entry)) (now (sets .entry)) (now (tables .entry)) (now (rows .entry)) c d → UniqueNames (d .policy) → Follows (Indexed (now (text .entry)) (now (purposes .exit)) (now (roles .exit)) (now (attributes .exit)) (now (users .exit)) (now (conds .exit)) (now (grants .exit)) (now (labels .exit)) (now (sets .exit)) (now (tables .exit)) (now (rows .exit))) (now (line .entry)) (checkLine d (now (line .entry))) s) ⌝ }
+    ensures { λ s. ⌜ StepLinePromise (now (text .entry)) at (now (line .entry)) (now (purposes .entry)) (now (purposes .exit)) (now (roles .entry)) (now (roles .exit)) (now (attributes .entry)) (now (attributes .exit)) (now (users .entry)) (now (users .exit)) (now (conds .entry)) (now (conds .exit)) (now (grants .entry)) (now (grants .exit)) (now (labels .entry)) (now (labels .exit)) (now (sets .entry)) (now (sets .exit)) (now (tables .entry)) (now (tables .exit)) (now (rows .entry)) (now (rows .exit)) c s ⌝ }
 {
     let k = c.rows;
     if take_row(text, at, line, labels, c.labels, tables, c.tables, rows, k) {

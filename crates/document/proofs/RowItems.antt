@@ -14,8 +14,8 @@ use Rattle.form.specs.Walks.{itemEndAt, itemsAt}
 use Rattle.text.proofs.WalkingLaws.{written-end}
 use Rattle.text.proofs.WordLaws.{written-word}
 use Rattle.text.specs.Names.{isName}
-use Rattle.text.specs.Walking.{wordEndAt, writtenEndAt}
-use Rattle.text.specs.Words.{wordAt, wordOf, writtenOf}
+use Rattle.text.specs.Walking.{wordEndAt}
+use Rattle.text.specs.Words.{wordAt, wordOf}
 
 -- ---- a row whose first item is its label
 

@@ -8,15 +8,7 @@ use workspace::found::Found;
 use workspace::layout::COND_ROLE_CELLS;
 use workspace::layout::GRANTS;
 use workspace::layout::PURPOSE_CELLS;
-ghost use Prim.Native.Nat.{_≤_};
-ghost use lib.ListN.{length};
-ghost use mathlib.Core.Path.{_≡_};
-ghost use Rattle.stepping.specs.Judged.{Judges};
-ghost use Rattle.form.specs.Form.{grant};
-ghost use Rattle.principals.specs.CondRoles.{CondRoles};
-ghost use Rattle.principals.specs.Nodes.{Nodes};
-ghost use Rattle.purpose.specs.Members.{limit};
-ghost use Rattle.text.specs.Words.{wordOf};
+ghost use Rattle.members.specs.Promises.{GrantFaultPromise};
 
 // The purpose whose name stands at p of the line, granted to the conditional role whose name stands at c, behind k grants.
 pub fn grant_fault(
@@ -30,7 +22,7 @@ pub fn grant_fault(
     p: usize,
     c: usize,
 ) -> Verdict
-    ensures { λ r. ⌜ Judges (λ d. Nodes limit (now (text .entry)) (now (purposes .entry)) «purposes_count» (d .policy .purposes) × CondRoles (d .policy) (now (text .entry)) (now (conds .entry)) «conds_count» (d .policy .condRoles) × (k ≡ length (d .policy .grants))) ((p ≤ length (now (line .entry))) × (c ≤ length (now (line .entry)))) (now (line .entry)) (grant (wordOf (now (line .entry)) p) (wordOf (now (line .entry)) c)) k 128 r ⌝ }
+    ensures { λ r. ⌜ GrantFaultPromise (now (text .entry)) (now (purposes .entry)) «purposes_count» (now (conds .entry)) «conds_count» k (now (line .entry)) p c r ⌝ }
 {
     if GRANTS <= k {
         return Verdict::Faulty(Fault::Whole(Reason::OverBound));

@@ -6,16 +6,7 @@ use stepping::places::number;
 use workspace::layout::COND_ROLE_CELLS;
 use workspace::layout::GRANT_CELLS;
 use workspace::layout::PURPOSE_CELLS;
-ghost use Prim.Native.Nat.{_+_, _≤_};
-ghost use Rattle.document.specs.Meaning.{add};
-ghost use Rattle.document.specs.Policy.{Doc};
-ghost use Rattle.form.specs.Form.{grant};
-ghost use Rattle.principals.specs.CondRoles.{CondRoles};
-ghost use Rattle.principals.specs.Grants.{Grants};
-ghost use Rattle.principals.specs.Nodes.{Nodes};
-ghost use Rattle.purpose.specs.Members.{limit};
-ghost use Rattle.stepping.specs.Stored.{Passes};
-ghost use Rattle.text.specs.Words.{wordOf};
+ghost use Rattle.members.specs.Promises.{StoreGrantPromise};
 
 // Stores the grant of the purpose of the name at p of the line to the conditional role of the name at c, behind k of them.
 pub fn store_grant(
@@ -30,7 +21,7 @@ pub fn store_grant(
     p: usize,
     c: usize,
 )
-    ensures { λ _. ⌜ ((d : Doc) → Nodes limit (now (text .entry)) (now (purposes .entry)) «purposes_count» (d .policy .purposes) → CondRoles (d .policy) (now (text .entry)) (now (conds .entry)) «conds_count» (d .policy .condRoles) → Grants (now (grants .entry)) k (d .policy .grants) → Passes d (now (line .entry)) (grant (wordOf (now (line .entry)) p) (wordOf (now (line .entry)) c)) → Grants (now (grants .exit)) (k + 1) (add d (grant (wordOf (now (line .entry)) p) (wordOf (now (line .entry)) c)) .policy .grants)) ⌝ }
+    ensures { λ _. ⌜ StoreGrantPromise (now (text .entry)) (now (purposes .entry)) «purposes_count» (now (conds .entry)) «conds_count» (now (grants .entry)) (now (grants .exit)) k (now (line .entry)) p c ⌝ }
 {
     let granted = number(find_purpose(text, purposes, purposes_count, line, p));
     let holder = number(find_cond_role(text, conds, conds_count, line, c));

@@ -12,19 +12,7 @@ use workspace::layout::GRANT_CELLS;
 use workspace::layout::PURPOSE_CELLS;
 use workspace::layout::ROLE_CELLS;
 use workspace::layout::USER_CELLS;
-ghost use Prim.Native.Nat.{_≤_, ℕ};
-ghost use lib.ListN.{length};
-ghost use mathlib.Core.List.{List};
-ghost use Rattle.index.specs.Workspace.{Indexed};
-ghost use Rattle.stepping.specs.Follows.{Follows};
-ghost use Rattle.document.specs.Check.{checkForm};
-ghost use Rattle.document.specs.Invariants.{UniqueNames};
-ghost use Rattle.document.specs.Policy.{Doc};
-ghost use Rattle.form.specs.Form.{grant, purpose, role, user};
-ghost use Rattle.form.specs.Walks.{givensAt};
-ghost use Rattle.stepping.specs.Stored.{LineAt};
-ghost use Rattle.text.specs.Reader.{from};
-ghost use Rattle.text.specs.Words.{wordOf};
+ghost use Rattle.members.specs.Promises.{StepGrantPromise, StepUserPromise};
 
 // A user form: the user at u has the role at r, with the values from gs on.
 pub fn step_user(
@@ -39,7 +27,7 @@ pub fn step_user(
     r: usize,
     gs: usize,
 ) -> Step
-    ensures { λ s. ⌜ ((d : Doc) (ps′ cs′ gs′ ls′ ms′ ts′ ws′ : List ℕ) → LineAt (now (text .entry)) at (now (line .entry)) → ((u ≤ length (now (line .entry))) × (r ≤ length (now (line .entry))) × (gs ≤ length (now (line .entry)))) → Indexed (now (text .entry)) ps′ (now (roles .entry)) (now (attributes .entry)) (now (users .entry)) cs′ gs′ ls′ ms′ ts′ ws′ c d → UniqueNames (d .policy) → Follows (Indexed (now (text .entry)) ps′ (now (roles .entry)) (now (attributes .entry)) (now (users .exit)) cs′ gs′ ls′ ms′ ts′ ws′) (now (line .entry)) (checkForm d (now (line .entry)) (user (wordOf (now (line .entry)) u) (wordOf (now (line .entry)) r) (givensAt (now (line .entry)) gs))) s) ⌝ }
+    ensures { λ s. ⌜ StepUserPromise (now (text .entry)) at (now (line .entry)) (now (roles .entry)) (now (attributes .entry)) (now (users .entry)) (now (users .exit)) c u r gs s ⌝ }
 {
     let k = c.users;
     let f = user_fault(
@@ -76,7 +64,7 @@ pub fn step_grant(
     p: usize,
     h: usize,
 ) -> Step
-    ensures { λ s. ⌜ ((d : Doc) (rs′ bs′ us′ ls′ ms′ ts′ ws′ : List ℕ) → LineAt (now (text .entry)) at (now (line .entry)) → ((p ≤ length (now (line .entry))) × (h ≤ length (now (line .entry)))) → Indexed (now (text .entry)) (now (purposes .entry)) rs′ bs′ us′ (now (conds .entry)) (now (grants .entry)) ls′ ms′ ts′ ws′ c d → Follows (Indexed (now (text .entry)) (now (purposes .entry)) rs′ bs′ us′ (now (conds .entry)) (now (grants .exit)) ls′ ms′ ts′ ws′) (now (line .entry)) (checkForm d (now (line .entry)) (grant (wordOf (now (line .entry)) p) (wordOf (now (line .entry)) h))) s) ⌝ }
+    ensures { λ s. ⌜ StepGrantPromise (now (text .entry)) at (now (line .entry)) (now (purposes .entry)) (now (conds .entry)) (now (grants .entry)) (now (grants .exit)) c p h s ⌝ }
 {
     let k = c.grants;
     let f = grant_fault(text, purposes, c.purposes, conds, c.conds, k, line, p, h);

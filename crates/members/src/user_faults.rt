@@ -13,16 +13,7 @@ use workspace::layout::ATTRIBUTE_CELLS;
 use workspace::layout::ROLE_CELLS;
 use workspace::layout::USER_CELLS;
 use workspace::layout::USERS;
-ghost use Prim.Native.Nat.{_≤_};
-ghost use lib.ListN.{length};
-ghost use Rattle.document.specs.Invariants.{UniqueNames};
-ghost use Rattle.stepping.specs.Judged.{Judges};
-ghost use Rattle.form.specs.Form.{user};
-ghost use Rattle.form.specs.Walks.{givensAt};
-ghost use Rattle.principals.specs.Attributes.{Attributes};
-ghost use Rattle.principals.specs.Nodes.{Nodes};
-ghost use Rattle.principals.specs.Users.{Users};
-ghost use Rattle.text.specs.Words.{wordOf};
+ghost use Rattle.members.specs.Promises.{UserFaultPromise};
 
 // The fault of a user line: the name stands at u, the role at r, and the values from gs on.
 pub fn user_fault(
@@ -38,7 +29,7 @@ pub fn user_fault(
     r: usize,
     gs: usize,
 ) -> Verdict
-    ensures { λ f. ⌜ Judges (λ d. Nodes 64 (now (text .entry)) (now (roles .entry)) rcount (d .policy .roles) × Attributes (now (text .entry)) (now (attributes .entry)) acount (d .policy .attributes) × Users (d .policy) (now (text .entry)) (now (users .entry)) k (d .policy .users) × UniqueNames (d .policy)) ((u ≤ length (now (line .entry))) × (r ≤ length (now (line .entry))) × (gs ≤ length (now (line .entry)))) (now (line .entry)) (user (wordOf (now (line .entry)) u) (wordOf (now (line .entry)) r) (givensAt (now (line .entry)) gs)) k 256 f ⌝ }
+    ensures { λ f. ⌜ UserFaultPromise (now (text .entry)) (now (roles .entry)) rcount (now (attributes .entry)) acount (now (users .entry)) k (now (line .entry)) u r gs f ⌝ }
 {
     if USERS <= k {
         return Verdict::Faulty(Fault::Whole(Reason::OverBound));

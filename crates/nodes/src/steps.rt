@@ -12,17 +12,7 @@ use stepping::fault::Verdict;
 use stepping::step::Step;
 use workspace::layout::PURPOSE_CELLS;
 use workspace::layout::ROLE_CELLS;
-ghost use Prim.Native.Nat.{_≤_, ℕ};
-ghost use lib.ListN.{length};
-ghost use mathlib.Core.List.{List};
-ghost use mathlib.Core.Option.{none, some};
-ghost use Rattle.index.specs.Workspace.{Indexed};
-ghost use Rattle.stepping.specs.Follows.{Follows};
-ghost use Rattle.document.specs.Check.{checkForm};
-ghost use Rattle.document.specs.Policy.{Doc};
-ghost use Rattle.form.specs.Form.{purpose, role};
-ghost use Rattle.stepping.specs.Stored.{LineAt};
-ghost use Rattle.text.specs.Words.{wordOf};
+ghost use Rattle.nodes.specs.Promises.{StepPurposeBelowPromise, StepPurposeRootPromise, StepRoleBelowPromise, StepRoleRootPromise};
 
 // A root purpose, whose name stands at n.
 pub fn step_purpose_root(
@@ -33,7 +23,7 @@ pub fn step_purpose_root(
     c: Counts,
     n: usize,
 ) -> Step
-    ensures { λ s. ⌜ ((d : Doc) (rs′ bs′ us′ cs′ gs′ ls′ ms′ ts′ ws′ : List ℕ) → LineAt (now (text .entry)) at (now (line .entry)) → (n ≤ length (now (line .entry))) → Indexed (now (text .entry)) (now (purposes .entry)) rs′ bs′ us′ cs′ gs′ ls′ ms′ ts′ ws′ c d → Follows (Indexed (now (text .entry)) (now (purposes .exit)) rs′ bs′ us′ cs′ gs′ ls′ ms′ ts′ ws′) (now (line .entry)) (checkForm d (now (line .entry)) (purpose (wordOf (now (line .entry)) n) none)) s) ⌝ }
+    ensures { λ s. ⌜ StepPurposeRootPromise (now (text .entry)) at (now (line .entry)) (now (purposes .entry)) (now (purposes .exit)) c n s ⌝ }
 {
     let k = c.purposes;
     let f = purpose_root_fault(text, purposes, k, line, n);
@@ -56,7 +46,7 @@ pub fn step_purpose_below(
     n: usize,
     p: usize,
 ) -> Step
-    ensures { λ s. ⌜ ((d : Doc) (rs′ bs′ us′ cs′ gs′ ls′ ms′ ts′ ws′ : List ℕ) → LineAt (now (text .entry)) at (now (line .entry)) → ((n ≤ length (now (line .entry))) × (p ≤ length (now (line .entry)))) → Indexed (now (text .entry)) (now (purposes .entry)) rs′ bs′ us′ cs′ gs′ ls′ ms′ ts′ ws′ c d → Follows (Indexed (now (text .entry)) (now (purposes .exit)) rs′ bs′ us′ cs′ gs′ ls′ ms′ ts′ ws′) (now (line .entry)) (checkForm d (now (line .entry)) (purpose (wordOf (now (line .entry)) n) (some (wordOf (now (line .entry)) p)))) s) ⌝ }
+    ensures { λ s. ⌜ StepPurposeBelowPromise (now (text .entry)) at (now (line .entry)) (now (purposes .entry)) (now (purposes .exit)) c n p s ⌝ }
 {
     let k = c.purposes;
     let f = purpose_below_fault(text, purposes, k, line, n, p);
@@ -78,7 +68,7 @@ pub fn step_role_root(
     c: Counts,
     n: usize,
 ) -> Step
-    ensures { λ s. ⌜ ((d : Doc) (ps′ bs′ us′ cs′ gs′ ls′ ms′ ts′ ws′ : List ℕ) → LineAt (now (text .entry)) at (now (line .entry)) → (n ≤ length (now (line .entry))) → Indexed (now (text .entry)) ps′ (now (roles .entry)) bs′ us′ cs′ gs′ ls′ ms′ ts′ ws′ c d → Follows (Indexed (now (text .entry)) ps′ (now (roles .exit)) bs′ us′ cs′ gs′ ls′ ms′ ts′ ws′) (now (line .entry)) (checkForm d (now (line .entry)) (role (wordOf (now (line .entry)) n) none)) s) ⌝ }
+    ensures { λ s. ⌜ StepRoleRootPromise (now (text .entry)) at (now (line .entry)) (now (roles .entry)) (now (roles .exit)) c n s ⌝ }
 {
     let k = c.roles;
     let f = role_root_fault(text, roles, k, line, n);
@@ -101,7 +91,7 @@ pub fn step_role_below(
     n: usize,
     p: usize,
 ) -> Step
-    ensures { λ s. ⌜ ((d : Doc) (ps′ bs′ us′ cs′ gs′ ls′ ms′ ts′ ws′ : List ℕ) → LineAt (now (text .entry)) at (now (line .entry)) → ((n ≤ length (now (line .entry))) × (p ≤ length (now (line .entry)))) → Indexed (now (text .entry)) ps′ (now (roles .entry)) bs′ us′ cs′ gs′ ls′ ms′ ts′ ws′ c d → Follows (Indexed (now (text .entry)) ps′ (now (roles .exit)) bs′ us′ cs′ gs′ ls′ ms′ ts′ ws′) (now (line .entry)) (checkForm d (now (line .entry)) (role (wordOf (now (line .entry)) n) (some (wordOf (now (line .entry)) p)))) s) ⌝ }
+    ensures { λ s. ⌜ StepRoleBelowPromise (now (text .entry)) at (now (line .entry)) (now (roles .entry)) (now (roles .exit)) c n p s ⌝ }
 {
     let k = c.roles;
     let f = role_below_fault(text, roles, k, line, n, p);

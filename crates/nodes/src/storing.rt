@@ -10,14 +10,14 @@ use workspace::layout::PURPOSE_CELLS;
 use workspace::layout::ROLE_CELLS;
 ghost use Prim.Native.Nat.{_+_, _≤_};
 ghost use lib.ListN.{length};
-ghost use mathlib.Core.Option.{none, some};
+ghost use mathlib.Core.Option.{none};
 ghost use Rattle.document.specs.Meaning.{add};
 ghost use Rattle.document.specs.Policy.{Doc};
-ghost use Rattle.form.specs.Form.{purpose, role};
+ghost use Rattle.form.specs.Form.{role};
 ghost use Rattle.principals.specs.Nodes.{Nodes};
-ghost use Rattle.purpose.specs.Members.{limit};
 ghost use Rattle.stepping.specs.Stored.{LineAt, Passes};
 ghost use Rattle.text.specs.Words.{wordOf};
+ghost use Rattle.nodes.specs.Promises.{StorePurposeBelowPromise, StorePurposeRootPromise, StoreRoleBelowPromise};
 
 // Stores the purpose of the name at n of the line, behind k of them: the root, whose parent is its own number.
 pub fn store_purpose_root(
@@ -28,7 +28,7 @@ pub fn store_purpose_root(
     line: &[u8],
     n: usize,
 )
-    ensures { λ _. ⌜ ((d : Doc) → LineAt (now (text .entry)) at (now (line .entry)) → Nodes limit (now (text .entry)) (now (purposes .entry)) k (d .policy .purposes) → Passes d (now (line .entry)) (purpose (wordOf (now (line .entry)) n) none) → n ≤ length (now (line .entry)) → Nodes limit (now (text .entry)) (now (purposes .exit)) (k + 1) (add d (purpose (wordOf (now (line .entry)) n) none) .policy .purposes)) ⌝ }
+    ensures { λ _. ⌜ StorePurposeRootPromise (now (text .entry)) (now (purposes .entry)) (now (purposes .exit)) k at (now (line .entry)) n ⌝ }
 {
     let pos = place(text, at, n);
     let w = hash_word(line, n);
@@ -45,7 +45,7 @@ pub fn store_purpose_below(
     n: usize,
     p: usize,
 )
-    ensures { λ _. ⌜ ((d : Doc) → LineAt (now (text .entry)) at (now (line .entry)) → Nodes limit (now (text .entry)) (now (purposes .entry)) k (d .policy .purposes) → Passes d (now (line .entry)) (purpose (wordOf (now (line .entry)) n) (some (wordOf (now (line .entry)) p))) → n ≤ length (now (line .entry)) → Nodes limit (now (text .entry)) (now (purposes .exit)) (k + 1) (add d (purpose (wordOf (now (line .entry)) n) (some (wordOf (now (line .entry)) p))) .policy .purposes)) ⌝ }
+    ensures { λ _. ⌜ StorePurposeBelowPromise (now (text .entry)) (now (purposes .entry)) (now (purposes .exit)) k at (now (line .entry)) n p ⌝ }
 {
     let parent = number(find_purpose(text, purposes, k, line, p));
     let pos = place(text, at, n);
@@ -79,7 +79,7 @@ pub fn store_role_below(
     n: usize,
     p: usize,
 )
-    ensures { λ _. ⌜ ((d : Doc) → LineAt (now (text .entry)) at (now (line .entry)) → Nodes 64 (now (text .entry)) (now (roles .entry)) k (d .policy .roles) → Passes d (now (line .entry)) (role (wordOf (now (line .entry)) n) (some (wordOf (now (line .entry)) p))) → n ≤ length (now (line .entry)) → Nodes 64 (now (text .entry)) (now (roles .exit)) (k + 1) (add d (role (wordOf (now (line .entry)) n) (some (wordOf (now (line .entry)) p))) .policy .roles)) ⌝ }
+    ensures { λ _. ⌜ StoreRoleBelowPromise (now (text .entry)) (now (roles .entry)) (now (roles .exit)) k at (now (line .entry)) n p ⌝ }
 {
     let parent = number(find_role(text, roles, k, line, p));
     let pos = place(text, at, n);

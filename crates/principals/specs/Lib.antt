@@ -4,3 +4,4 @@ pub mod CondRoles
 pub mod Grants
 pub mod Nodes
 pub mod Users
+pub mod Promises

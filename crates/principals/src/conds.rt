@@ -4,19 +4,16 @@ use workspace::found::Found;
 use workspace::found::find_printed;
 use workspace::layout::COND_ROLE_CELLS;
 use workspace::layout::COND_ROLES;
-ghost use Prim.Native.Nat.{_+_, _<_, ℕ};
+ghost use Prim.Native.Nat.{_+_, _<_};
 ghost use lib.ListN.{length};
-ghost use mathlib.Core.Bool.{true};
-ghost use mathlib.Core.List.{List, [], _++_, _∷_};
+ghost use mathlib.Core.List.{List};
 ghost use mathlib.Core.Path.{_≡_};
-ghost use Rattle.condition.specs.Cond.{mapCond};
-ghost use Rattle.document.specs.Meaning.{attributeComparison};
 ghost use Rattle.document.specs.Policy.{CondRole, Policy};
-ghost use Rattle.principals.specs.CondRoles.{CondRoles, attributesKnown, condRoleEndIn, condRolePlaceIn, condRoleRoleIn, condRoleStartIn, conditionInLine, conditionReads};
+ghost use Rattle.principals.specs.CondRoles.{CondRoles, condRoleEndIn, condRolePlaceIn, condRoleRoleIn, condRoleStartIn};
 ghost use Rattle.workspace.specs.Found.{FoundBelow, foundAs};
-ghost use Rattle.workspace.specs.Hash.{printOf};
 ghost use Rattle.lists.specs.Lists.{findIndex};
-ghost use Rattle.text.specs.Words.{isCalled, wordAt, wordOf};
+ghost use Rattle.text.specs.Words.{isCalled, wordOf};
+ghost use Rattle.principals.specs.Promises.{AddCondRolePromise, StoreCondRolePromise};
 
 // Where the roles, the starts and ends of the lines, the places in them, and the names' prints stand.
 const ROLE_AT: usize = COND_ROLES;
@@ -57,7 +54,7 @@ fn store_cond_role(
     h: usize,
 )
     requires { ⌜ (k < 64) × (320 + k < length (now ws)) ⌝ }
-    ensures { λ r. ⌜ ((d : Policy) (text : List ℕ) (cs : List CondRole) → CondRoles d text (now (ws .entry)) k cs → h ≡ printOf (wordAt text pos) → attributesKnown d (conditionInLine text start end place) ≡ true → conditionReads text start end place ≡ true → CondRoles d text (now (ws .exit)) (k + 1) (cs ++ (record { name = wordAt text pos; role = role; condition = mapCond (attributeComparison d) (conditionInLine text start end place) } ∷ []))) ⌝ }
+    ensures { λ r. ⌜ StoreCondRolePromise (now (ws .entry)) (now (ws .exit)) k pos role start end place h ⌝ }
 {
     ws[k] = pos;
     ws[ROLE_AT + k] = role;
@@ -79,7 +76,7 @@ pub fn add_cond_role(
     place: usize,
     h: usize,
 )
-    ensures { λ r. ⌜ ((d : Policy) (text : List ℕ) (cs : List CondRole) → CondRoles d text (now (ws .entry)) k cs → h ≡ printOf (wordAt text pos) → k < 64 → attributesKnown d (conditionInLine text start end place) ≡ true → conditionReads text start end place ≡ true → CondRoles d text (now (ws .exit)) (k + 1) (cs ++ (record { name = wordAt text pos; role = role; condition = mapCond (attributeComparison d) (conditionInLine text start end place) } ∷ []))) ⌝ }
+    ensures { λ r. ⌜ AddCondRolePromise (now (ws .entry)) (now (ws .exit)) k pos role start end place h ⌝ }
 {
     if k < COND_ROLES {
         store_cond_role(ws, k, pos, role, start, end, place, h);

@@ -6,7 +6,7 @@ use lib.ListN.{getD, length}
 use mathlib.Core.Bool.{Bool, cond, false, true}
 use mathlib.Core.List.{List, [], _∷_}
 use mathlib.Core.Option.{none, some}
-use mathlib.Core.Path.{_∙_, _≡_, ap, refl, sym}
+use mathlib.Core.Path.{_∙_, _≡_, ap, sym}
 use native.Mathlib.Omega.{arith}
 use Rattle.condition.proofs.ReadLaws.{condition-at, condition-none}
 use Rattle.condition.specs.Answers.{comparedIn, readTo}

@@ -1,3 +1,4 @@
 -- What resolving a query answers. Assumes nothing.
 pub mod Resolved
 pub mod Acting
+pub mod Promises

@@ -9,22 +9,17 @@ use relations::tables::table_width;
 use text::offending::Offending;
 use workspace::layout::LABELS;
 use workspace::layout::TABLE_CELLS;
-ghost use Prim.Native.Nat.{_<_, _≤_, ℕ};
-ghost use lib.ListN.{getD, getElem?, length, take};
-ghost use mathlib.Core.Bool.{false};
-ghost use mathlib.Core.List.{List, [], _∷_, map};
+ghost use Prim.Native.Nat.{_<_, ℕ};
+ghost use lib.ListN.{getElem?, length};
+ghost use mathlib.Core.List.{List};
 ghost use mathlib.Core.Path.{_≡_};
-ghost use Rattle.document.specs.Lookup.{columnOf, columnsAt, schemeAt};
-ghost use Rattle.document.specs.Open.{columnOpen, labelOpen, tableOpen};
+ghost use Rattle.document.specs.Lookup.{columnsAt, schemeAt};
+ghost use Rattle.document.specs.Open.{labelOpen, tableOpen};
 ghost use Rattle.document.specs.Policy.{Policy};
 ghost use Rattle.relations.specs.Labels.{Opened};
 ghost use Rattle.relations.specs.Tables.{Tables, columnLabelIn};
 ghost use Rattle.workspace.specs.Tabulated.{tabulated};
-ghost use Rattle.lists.specs.Lists.{orZero};
-ghost use Rattle.query.specs.Naming.{wordsAt};
-ghost use Rattle.text.specs.CodeEnds.{offendingOf};
-ghost use Rattle.text.specs.Offending.{leftmost, missing, unless};
-ghost use Rattle.text.specs.Words.{wordOf};
+ghost use Rattle.resolving.specs.Promises.{ClosedColumnPromise, ClosedPartPromise, FirstClosedPromise};
 
 // Whether the table is open, as a whole.
 fn table_open(tables: &[usize; TABLE_CELLS], t: usize, opened: &[bool]) -> bool
@@ -59,7 +54,7 @@ fn first_closed(
     n: usize,
     columns: &[usize],
 ) -> Offending
-    ensures { λ x. ⌜ ((d : Policy) (text s : List ℕ) (k p : ℕ) → Tables text (now (tables .entry)) k (d .tables) → t < k → n ≤ length (now (places .entry)) → n ≤ length (now (columns .entry)) → Opened d p (now (opened .entry)) → take n (now (columns .entry)) ≡ map (λ w. orZero (columnOf (columnsAt d t) w)) (wordsAt s n (now (places .entry))) → offendingOf s x ≡ missing (λ w. labelOpen d p (getElem? (tabulated (columnLabelIn (now (tables .entry)) t) (length (columnsAt d t))) (orZero (columnOf (columnsAt d t) w)))) (wordsAt s n (now (places .entry)))) ⌝ }
+    ensures { λ x. ⌜ FirstClosedPromise (now (tables .entry)) t (now (opened .entry)) (now (places .entry)) n (now (columns .entry)) x ⌝ }
 {
     let mut i = 0;
     while i < n {
@@ -86,7 +81,7 @@ fn closed_column(
     n: usize,
     columns: &[usize],
 ) -> Offending
-    ensures { λ x. ⌜ ((d : Policy) (text s : List ℕ) (k p : ℕ) → Tables text (now (tables .entry)) k (d .tables) → t < k → n ≤ length (now (places .entry)) → n ≤ length (now (columns .entry)) → Opened d p (now (opened .entry)) → take n (now (columns .entry)) ≡ map (λ w. orZero (columnOf (columnsAt d t) w)) (wordsAt s n (now (places .entry))) → offendingOf s x ≡ missing (λ w. columnOpen (labelOpen d p) (schemeAt d t) (orZero (columnOf (columnsAt d t) w))) (wordsAt s n (now (places .entry)))) ⌝ }
+    ensures { λ x. ⌜ ClosedColumnPromise (now (tables .entry)) t (now (opened .entry)) (now (places .entry)) n (now (columns .entry)) x ⌝ }
 {
     let scheme = table_scheme(tables, t);
     match scheme {
@@ -109,7 +104,7 @@ pub fn closed_part(
     n: usize,
     columns: &[usize; NAMED],
 ) -> Offending
-    ensures { λ x. ⌜ ((d : Policy) (text : List ℕ) (k p : ℕ) → Tables text (now (tables .entry)) k (d .tables) → t < k → n ≤ 80 → Opened d p (now (opened .entry)) → take n (now (columns .entry)) ≡ map (λ w. orZero (columnOf (columnsAt d t) w)) (wordsAt (now (query .entry)) n (now (places .entry))) → offendingOf (now (query .entry)) x ≡ leftmost (unless (tableOpen (labelOpen d p) (schemeAt d t)) (wordOf (now (query .entry)) at) ∷ missing (λ w. columnOpen (labelOpen d p) (schemeAt d t) (orZero (columnOf (columnsAt d t) w))) (wordsAt (now (query .entry)) n (now (places .entry))) ∷ [])) ⌝ }
+    ensures { λ x. ⌜ ClosedPartPromise (now (tables .entry)) t (now (opened .entry)) (now (query .entry)) at (now (places .entry)) n (now (columns .entry)) x ⌝ }
 {
     if !table_open(tables, t, opened) {
         return Offending::At(at);

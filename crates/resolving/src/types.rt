@@ -4,18 +4,7 @@ use condition::comparisons::wrong_type;
 use relations::tables::column_kind;
 use text::offending::Offending;
 use workspace::layout::TABLE_CELLS;
-ghost use Prim.Native.Nat.{_+_, _<_, _≤_, ℕ};
-ghost use lib.ListN.{drop, length, take};
-ghost use mathlib.Core.List.{List, map};
-ghost use mathlib.Core.Path.{_≡_};
-ghost use Rattle.condition.specs.Answers.{comparedAt};
-ghost use Rattle.condition.specs.CondForm.{mistyped};
-ghost use Rattle.document.specs.Lookup.{columnKind, columnsAt};
-ghost use Rattle.document.specs.Policy.{Policy};
-ghost use Rattle.relations.specs.Tables.{Tables};
-ghost use Rattle.resolving.specs.Resolved.{Compares};
-ghost use Rattle.text.specs.CodeEnds.{offendingOf};
-ghost use Rattle.text.specs.Offending.{leftmost};
+ghost use Rattle.resolving.specs.Promises.{FirstMistypedPromise, MistypedComparisonPromise};
 
 // What mistyped_comparison finds, by places and numbers in lists of any length: of a slice the proof knows the length.
 fn first_mistyped(
@@ -27,7 +16,7 @@ fn first_mistyped(
     columns: &[usize],
     base: usize,
 ) -> Offending
-    ensures { λ x. ⌜ ((d : Policy) (text : List ℕ) (k : ℕ) → Tables text (now (tables .entry)) k (d .tables) → t < k → m ≤ length (now (ops .entry)) → base + m ≤ length (now (columns .entry)) → Compares (columnsAt d t) (map (comparedAt (now (query .entry))) (take m (now (ops .entry)))) (take m (drop base (now (columns .entry)))) → offendingOf (now (query .entry)) x ≡ leftmost (map (λ x. mistyped (columnKind (columnsAt d t) (x .of)) x) (map (comparedAt (now (query .entry))) (take m (now (ops .entry)))))) ⌝ }
+    ensures { λ x. ⌜ FirstMistypedPromise (now (tables .entry)) t (now (query .entry)) (now (ops .entry)) m (now (columns .entry)) base x ⌝ }
 {
     let mut j = 0;
     let mut c = base;
@@ -60,7 +49,7 @@ pub fn mistyped_comparison(
     columns: &[usize; NAMED],
     base: usize,
 ) -> Offending
-    ensures { λ x. ⌜ ((d : Policy) (text : List ℕ) (k : ℕ) → Tables text (now (tables .entry)) k (d .tables) → t < k → m ≤ 64 → base + m ≤ 80 → Compares (columnsAt d t) (map (comparedAt (now (query .entry))) (take m (now (ops .entry)))) (take m (drop base (now (columns .entry)))) → offendingOf (now (query .entry)) x ≡ leftmost (map (λ x. mistyped (columnKind (columnsAt d t) (x .of)) x) (map (comparedAt (now (query .entry))) (take m (now (ops .entry)))))) ⌝ }
+    ensures { λ x. ⌜ MistypedComparisonPromise (now (tables .entry)) t (now (query .entry)) (now (ops .entry)) m (now (columns .entry)) base x ⌝ }
 {
     first_mistyped(tables, t, query, ops, m, columns, base)
 }

@@ -23,7 +23,7 @@ use workspace::found::Found;
 use workspace::layout::LABELS;
 use workspace::layout::ROWS;
 use workspace::layout::TABLE_CELLS;
-ghost use Prim.Native.Nat.{_+_, _<_, _≤_, ℕ};
+ghost use Prim.Native.Nat.{_<_, ℕ};
 ghost use lib.Dec.{eqb};
 ghost use lib.ListN.{length};
 ghost use mathlib.Core.List.{List, [], _∷_};
@@ -36,17 +36,16 @@ ghost use Rattle.document.specs.NameFaults.{bracketLabels, leadingName, rowLabe
 ghost use Rattle.document.specs.Policy.{Policy};
 ghost use Rattle.document.specs.TypeFaults.{mistypedValue};
 ghost use Rattle.document.specs.ValueFaults.{rowValues};
-ghost use Rattle.stepping.specs.Judged.{Judges};
 ghost use Rattle.stepping.specs.Places.{Near};
 ghost use Rattle.rows.specs.RowWords.{labelAt, valuesAt};
-ghost use Rattle.form.specs.Form.{row};
 ghost use Rattle.form.specs.Walks.{itemAt, itemsAt};
 ghost use Rattle.relations.specs.Labels.{Labels};
 ghost use Rattle.relations.specs.Tables.{Tables, schemeBy};
 ghost use Rattle.lists.specs.Lists.{holdsOf, there};
 ghost use Rattle.text.specs.Offending.{missing, unless};
-ghost use Rattle.text.specs.Words.{Word, wordOf, writtenAt};
+ghost use Rattle.text.specs.Words.{Word, writtenAt};
 ghost use Rattle.text.specs.CodeEnds.{offendingOf};
+ghost use Rattle.rows.specs.Promises.{RowFaultPromise};
 
 // Whether the items from a position on are shaped for the scheme, with as many values as this.
 fn row_fits(scheme: Scheme, line: &[u8], at: usize, width: usize) -> bool
@@ -189,7 +188,7 @@ pub fn row_fault(
     t: usize,
     is: usize,
 ) -> Verdict
-    ensures { λ r. ⌜ Judges (λ d. ((sets : List ℕ) × Labels (now (text .entry)) (now (labels .entry)) sets «labels_count» (d .policy .labels)) × Tables (now (text .entry)) (now (tables .entry)) «tables_count» (d .policy .tables) × (k ≡ length (d .rows))) ((t ≤ length (now (line .entry))) × (is ≤ length (now (line .entry)))) (now (line .entry)) (row (wordOf (now (line .entry)) t) (itemsAt (now (line .entry)) is)) k 1024 r ⌝ }
+    ensures { λ r. ⌜ RowFaultPromise (now (text .entry)) (now (labels .entry)) «labels_count» (now (tables .entry)) «tables_count» k (now (line .entry)) t is r ⌝ }
 {
     if ROWS <= k {
         return Verdict::Faulty(Fault::Whole(Reason::OverBound));

@@ -7,18 +7,7 @@ use stepping::step::Step;
 use workspace::layout::LABELS;
 use workspace::layout::ROW_CELLS;
 use workspace::layout::TABLE_CELLS;
-ghost use Prim.Native.Nat.{_≤_, ℕ};
-ghost use lib.ListN.{length};
-ghost use mathlib.Core.List.{List};
-ghost use Rattle.index.specs.Workspace.{Indexed};
-ghost use Rattle.stepping.specs.Follows.{Follows};
-ghost use Rattle.document.specs.Check.{checkForm};
-ghost use Rattle.document.specs.Policy.{Doc};
-ghost use Rattle.form.specs.Form.{row, table};
-ghost use Rattle.form.specs.Walks.{itemsAt};
-ghost use Rattle.stepping.specs.Stored.{LineAt};
-ghost use Rattle.text.specs.Reader.{from};
-ghost use Rattle.text.specs.Words.{wordOf};
+ghost use Rattle.rows.specs.Promises.{StepRowPromise};
 
 // A row of the table whose name stands at t, with its items from a place on.
 pub fn step_row(
@@ -32,7 +21,7 @@ pub fn step_row(
     t: usize,
     items: usize,
 ) -> Step
-    ensures { λ s. ⌜ ((d : Doc) (ps′ rs′ bs′ us′ cs′ gs′ ms′ : List ℕ) → LineAt (now (text .entry)) at (now (line .entry)) → ((t ≤ length (now (line .entry))) × (items ≤ length (now (line .entry)))) → Indexed (now (text .entry)) ps′ rs′ bs′ us′ cs′ gs′ (now (labels .entry)) ms′ (now (tables .entry)) (now (rows .entry)) c d → Follows (Indexed (now (text .entry)) ps′ rs′ bs′ us′ cs′ gs′ (now (labels .entry)) ms′ (now (tables .entry)) (now (rows .exit))) (now (line .entry)) (checkForm d (now (line .entry)) (row (wordOf (now (line .entry)) t) (itemsAt (now (line .entry)) items))) s) ⌝ }
+    ensures { λ s. ⌜ StepRowPromise (now (text .entry)) at (now (line .entry)) (now (labels .entry)) (now (tables .entry)) (now (rows .entry)) (now (rows .exit)) c t items s ⌝ }
 {
     let k = c.rows;
     let f = row_fault(text, labels, c.labels, tables, c.tables, k, line, t, items);

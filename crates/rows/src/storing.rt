@@ -22,19 +22,13 @@ ghost use lib.ListN.{length};
 ghost use mathlib.Core.List.{List, [], _++_, _∷_, map};
 ghost use mathlib.Core.Option.{some};
 ghost use mathlib.Core.Path.{_≡_};
-ghost use Rattle.document.specs.Lookup.{labelOf};
-ghost use Rattle.document.specs.Meaning.{add};
-ghost use Rattle.document.specs.NameFaults.{bracketLabels, leadingName};
-ghost use Rattle.document.specs.Policy.{Doc, Policy, Row};
-ghost use Rattle.document.specs.ValueFaults.{bracketValues, plainValues, valuesBehindLabel};
-ghost use Rattle.form.specs.Form.{row};
-ghost use Rattle.form.specs.Walks.{cellsAt, itemsAt, plainAt};
-ghost use Rattle.relations.specs.Labels.{Labels};
+ghost use Rattle.document.specs.Policy.{Row};
+ghost use Rattle.document.specs.ValueFaults.{plainValues};
+ghost use Rattle.form.specs.Walks.{itemsAt, plainAt};
 ghost use Rattle.relations.specs.Rows.{FillingRow, Rows};
-ghost use Rattle.relations.specs.Tables.{Tables};
-ghost use Rattle.lists.specs.Lists.{orZero};
-ghost use Rattle.stepping.specs.Stored.{LineAt, Passes, RowFilled};
-ghost use Rattle.text.specs.Words.{Word, wordOf};
+ghost use Rattle.stepping.specs.Stored.{LineAt, RowFilled};
+ghost use Rattle.text.specs.Words.{Word};
+ghost use Rattle.rows.specs.Promises.{StoreByCellPromise, StoreByRowPromise, StoreCellsPromise, StoreRowPromise};
 
 // Stores the values that stand from a place of the line on as those of row k, and gives their number.
 fn store_values(
@@ -70,7 +64,7 @@ fn store_cells(
     line: &[u8],
     is: usize,
 ) -> usize
-    ensures { λ r. ⌜ ((d : Policy) (sets : List ℕ) → LineAt (now (text .entry)) at (now (line .entry)) → Labels (now (text .entry)) (now (labels .entry)) sets «labels_count» (d .labels) → k < 1024 → length (cellsAt (now (line .entry)) is) ≤ 16 → RowFilled (now (text .entry)) (now (rows .entry)) (now (rows .exit)) k r r (map (λ g. g .0 .bytes) (cellsAt (now (line .entry)) is)) (map (λ g. orZero (labelOf d (g .1))) (cellsAt (now (line .entry)) is))) ⌝ }
+    ensures { λ r. ⌜ StoreCellsPromise (now (text .entry)) (now (labels .entry)) «labels_count» (now (rows .entry)) (now (rows .exit)) k at (now (line .entry)) is r ⌝ }
 {
     let mut c: usize = 0;
     let mut j = is;
@@ -115,7 +109,7 @@ fn store_by_row(
     table: usize,
     is: usize,
 )
-    ensures { λ _. ⌜ ((d : Policy) (sets : List ℕ) (rs : List Row) (ws : List Word) → LineAt (now (text .entry)) at (now (line .entry)) → Labels (now (text .entry)) (now (labels .entry)) sets «labels_count» (d .labels) → Rows (now (text .entry)) (now (rows .entry)) k rs → k < 1024 → valuesBehindLabel (itemsAt (now (line .entry)) is) ≡ some ws → length ws ≤ 16 → Rows (now (text .entry)) (now (rows .exit)) (k + 1) (rs ++ (record { table = table; values = map (λ w. w .bytes) ws; labels = map (λ w. orZero (labelOf d w)) (leadingName (itemsAt (now (line .entry)) is)) } ∷ []))) ⌝ }
+    ensures { λ _. ⌜ StoreByRowPromise (now (text .entry)) (now (labels .entry)) «labels_count» (now (rows .entry)) (now (rows .exit)) k at (now (line .entry)) table is ⌝ }
 {
     if byte_at(line, is) == b' ' {
         let w = is + 1;
@@ -138,7 +132,7 @@ fn store_by_cell(
     table: usize,
     is: usize,
 )
-    ensures { λ _. ⌜ ((d : Policy) (sets : List ℕ) (rs : List Row) (ws : List Word) → LineAt (now (text .entry)) at (now (line .entry)) → Labels (now (text .entry)) (now (labels .entry)) sets «labels_count» (d .labels) → Rows (now (text .entry)) (now (rows .entry)) k rs → k < 1024 → bracketValues (itemsAt (now (line .entry)) is) ≡ some ws → length ws ≤ 16 → Rows (now (text .entry)) (now (rows .exit)) (k + 1) (rs ++ (record { table = table; values = map (λ w. w .bytes) ws; labels = map (λ w. orZero (labelOf d w)) (bracketLabels (itemsAt (now (line .entry)) is)) } ∷ []))) ⌝ }
+    ensures { λ _. ⌜ StoreByCellPromise (now (text .entry)) (now (labels .entry)) «labels_count» (now (rows .entry)) (now (rows .exit)) k at (now (line .entry)) table is ⌝ }
 {
     let n = store_cells(text, labels, labels_count, rows, k, at, line, is);
     add_row(rows, k, table, n, n);
@@ -158,7 +152,7 @@ pub fn store_row(
     t: usize,
     is: usize,
 )
-    ensures { λ _. ⌜ ((d : Doc) (sets : List ℕ) → LineAt (now (text .entry)) at (now (line .entry)) → Labels (now (text .entry)) (now (labels .entry)) sets «labels_count» (d .policy .labels) → Tables (now (text .entry)) (now (tables .entry)) «tables_count» (d .policy .tables) → Rows (now (text .entry)) (now (rows .entry)) k (d .rows) → Passes d (now (line .entry)) (row (wordOf (now (line .entry)) t) (itemsAt (now (line .entry)) is)) → Rows (now (text .entry)) (now (rows .exit)) (k + 1) (add d (row (wordOf (now (line .entry)) t) (itemsAt (now (line .entry)) is)) .rows)) ⌝ }
+    ensures { λ _. ⌜ StoreRowPromise (now (text .entry)) (now (labels .entry)) «labels_count» (now (tables .entry)) «tables_count» (now (rows .entry)) (now (rows .exit)) k at (now (line .entry)) t is ⌝ }
 {
     let table = number(find_table(text, tables, tables_count, line, t));
     let scheme = table_scheme(tables, table);

@@ -3,20 +3,20 @@
 use Prim.Native.Nat.{_+_, _<_, _≤_, ℕ}
 use borrow.Author.Tests.{leb-false}
 use lib.ListN.{length}
-use mathlib.Core.Bool.{Bool, false, true, true≢false}
+use mathlib.Core.Bool.{Bool, true, true≢false}
 use mathlib.Core.List.{List, [], _++_, _∷_, map}
 use mathlib.Core.Option.{Option, Option·getD, bind, none, some}
 use mathlib.Core.Path.{_∙_, _≡_, ap, refl, subst, sym}
 use native.Mathlib.Omega.{arith}
-use Rattle.condition.specs.Cond.{Cond, comparisons, mapCond}
+use Rattle.condition.specs.Cond.{comparisons, mapCond}
 use Rattle.condition.specs.CondForm.{Compared, conditionInForm}
 use Rattle.condition.specs.Kinds.{Kind}
 use Rattle.document.specs.Bounds.{overBound}
 use Rattle.document.specs.Lookup.{attributeNamed, attributeOf, condRoleOf, purposeOf, roleOf}
 use Rattle.document.specs.Meaning.{add, attributeComparison, define, givenOf, nodeOf}
 use Rattle.document.specs.NameFaults.{unknown, usableFor}
-use Rattle.document.specs.Policy.{Attribute, CondRole, Doc, Grant, Node, Policy, User}
-use Rattle.form.specs.Form.{GivenForm, attr, condRole, grant, purpose, role, user}
+use Rattle.document.specs.Policy.{Attribute, CondRole, Doc, Grant, Node, User}
+use Rattle.form.specs.Form.{attr, condRole, grant, purpose, role, user}
 use Rattle.form.specs.Walks.{givensAt}
 use Rattle.workspace.proofs.TabulatedLaws.{length-tabulated}
 use Rattle.principals.proofs.IndexLaws.{attributes-length, conds-length, conds-same, nodes-length, users-length, users-same}

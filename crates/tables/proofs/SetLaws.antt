@@ -8,7 +8,7 @@ use native.Mathlib.Omega.{arith}
 use Rattle.document.specs.Bounds.{overBound}
 use Rattle.document.specs.Lookup.{purposeOf}
 use Rattle.document.specs.Meaning.{add, define, marksOf}
-use Rattle.document.specs.Policy.{Doc, Label}
+use Rattle.document.specs.Policy.{Doc}
 use Rattle.form.proofs.WalkSteps.{names-more, names-stop}
 use Rattle.form.specs.Form.{label}
 use Rattle.form.specs.Walks.{namesAt}

@@ -1,2 +1,3 @@
 -- What the contracts of these lines say. Assumes nothing.
 pub mod TableLine
+pub mod Promises

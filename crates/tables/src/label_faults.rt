@@ -9,16 +9,7 @@ use text::refusals::Reason;
 use workspace::found::Found;
 use workspace::layout::LABELS;
 use workspace::layout::PURPOSE_CELLS;
-ghost use Prim.Native.Nat.{_≤_, ℕ};
-ghost use lib.ListN.{length};
-ghost use mathlib.Core.List.{List};
-ghost use Rattle.stepping.specs.Judged.{Judges};
-ghost use Rattle.form.specs.Form.{label};
-ghost use Rattle.form.specs.Walks.{namesAt};
-ghost use Rattle.relations.specs.Labels.{Labels};
-ghost use Rattle.principals.specs.Nodes.{Nodes};
-ghost use Rattle.purpose.specs.Members.{limit};
-ghost use Rattle.text.specs.Words.{wordOf};
+ghost use Rattle.tables.specs.Promises.{LabelFaultPromise};
 
 // The label whose name stands at l of the line, behind k labels; its sets of purposes stand from `allowed` and from `denied` on.
 pub fn label_fault(
@@ -32,7 +23,7 @@ pub fn label_fault(
     allowed: usize,
     denied: usize,
 ) -> Verdict
-    ensures { λ r. ⌜ Judges (λ d. Nodes limit (now (text .entry)) (now (purposes .entry)) «purposes_count» (d .policy .purposes) × ((sets : List ℕ) × Labels (now (text .entry)) (now (labels .entry)) sets k (d .policy .labels))) (l ≤ length (now (line .entry))) (now (line .entry)) (label (wordOf (now (line .entry)) l) (namesAt (now (line .entry)) allowed) (namesAt (now (line .entry)) denied)) k 64 r ⌝ }
+    ensures { λ r. ⌜ LabelFaultPromise (now (text .entry)) (now (purposes .entry)) «purposes_count» (now (labels .entry)) k (now (line .entry)) l allowed denied r ⌝ }
 {
     if LABELS <= k {
         return Verdict::Faulty(Fault::Whole(Reason::OverBound));

@@ -11,20 +11,15 @@ use text::words::word_end;
 use workspace::layout::LABELS;
 use workspace::layout::PURPOSE_CELLS;
 use workspace::layout::SET_WORDS;
-ghost use Prim.Native.Nat.{_+_, _≤_};
-ghost use lib.ListN.{length};
 ghost use mathlib.Core.List.{map};
 ghost use Rattle.document.specs.Lookup.{purposeOf};
-ghost use Rattle.document.specs.Meaning.{add};
-ghost use Rattle.document.specs.Policy.{Doc, Policy};
-ghost use Rattle.form.specs.Form.{label};
+ghost use Rattle.document.specs.Policy.{Policy};
 ghost use Rattle.form.specs.Walks.{namesAt};
-ghost use Rattle.relations.specs.Labels.{Labels, SetHolds};
+ghost use Rattle.relations.specs.Labels.{SetHolds};
 ghost use Rattle.principals.specs.Nodes.{Nodes};
 ghost use Rattle.lists.specs.Lists.{orZero};
 ghost use Rattle.purpose.specs.Members.{limit};
-ghost use Rattle.stepping.specs.Stored.{LineAt, Passes};
-ghost use Rattle.text.specs.Words.{wordOf};
+ghost use Rattle.tables.specs.Promises.{StoreLabelPromise};
 
 // The set of the purposes whose names stand from a place of the line on, among the first k.
 pub fn set_of(
@@ -62,7 +57,7 @@ pub fn store_label(
     allowed: usize,
     denied: usize,
 )
-    ensures { λ _. ⌜ ((d : Doc) → LineAt (now (text .entry)) at (now (line .entry)) → Nodes limit (now (text .entry)) (now (purposes .entry)) «purposes_count» (d .policy .purposes) → Labels (now (text .entry)) (now (labels .entry)) (now (sets .entry)) k (d .policy .labels) → Passes d (now (line .entry)) (label (wordOf (now (line .entry)) l) (namesAt (now (line .entry)) allowed) (namesAt (now (line .entry)) denied)) → l ≤ length (now (line .entry)) → Labels (now (text .entry)) (now (labels .exit)) (now (sets .exit)) (k + 1) (add d (label (wordOf (now (line .entry)) l) (namesAt (now (line .entry)) allowed) (namesAt (now (line .entry)) denied)) .policy .labels)) ⌝ }
+    ensures { λ _. ⌜ StoreLabelPromise (now (text .entry)) (now (purposes .entry)) «purposes_count» (now (labels .entry)) (now (labels .exit)) (now (sets .entry)) (now (sets .exit)) k at (now (line .entry)) l allowed denied ⌝ }
 {
     let allow = set_of(text, purposes, purposes_count, line, allowed);
     let deny = set_of(text, purposes, purposes_count, line, denied);

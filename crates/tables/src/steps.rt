@@ -11,19 +11,7 @@ use workspace::layout::LABELS;
 use workspace::layout::PURPOSE_CELLS;
 use workspace::layout::SET_WORDS;
 use workspace::layout::TABLE_CELLS;
-ghost use Prim.Native.Nat.{_≤_, ℕ};
-ghost use lib.ListN.{length};
-ghost use mathlib.Core.List.{List};
-ghost use Rattle.index.specs.Workspace.{Indexed};
-ghost use Rattle.stepping.specs.Follows.{Follows};
-ghost use Rattle.document.specs.Check.{checkForm};
-ghost use Rattle.document.specs.Policy.{Doc};
-ghost use Rattle.form.specs.Form.{label};
-ghost use Rattle.form.specs.TableWords.{tableLine};
-ghost use Rattle.form.specs.Walks.{namesAt};
-ghost use Rattle.stepping.specs.Stored.{LineAt};
-ghost use Rattle.text.specs.Reader.{from};
-ghost use Rattle.text.specs.Words.{wordOf};
+ghost use Rattle.tables.specs.Promises.{StepLabelPromise, StepTablePromise};
 
 // A label, whose name stands at l, with the purposes from two places on.
 pub fn step_label(
@@ -38,7 +26,7 @@ pub fn step_label(
     allowed: usize,
     denied: usize,
 ) -> Step
-    ensures { λ s. ⌜ ((d : Doc) (rs′ bs′ us′ cs′ gs′ ts′ ws′ : List ℕ) → LineAt (now (text .entry)) at (now (line .entry)) → (l ≤ length (now (line .entry))) → Indexed (now (text .entry)) (now (purposes .entry)) rs′ bs′ us′ cs′ gs′ (now (labels .entry)) (now (sets .entry)) ts′ ws′ c d → Follows (Indexed (now (text .entry)) (now (purposes .entry)) rs′ bs′ us′ cs′ gs′ (now (labels .exit)) (now (sets .exit)) ts′ ws′) (now (line .entry)) (checkForm d (now (line .entry)) (label (wordOf (now (line .entry)) l) (namesAt (now (line .entry)) allowed) (namesAt (now (line .entry)) denied))) s) ⌝ }
+    ensures { λ s. ⌜ StepLabelPromise (now (text .entry)) at (now (line .entry)) (now (purposes .entry)) (now (labels .entry)) (now (labels .exit)) (now (sets .entry)) (now (sets .exit)) c l allowed denied s ⌝ }
 {
     let k = c.labels;
     let f = label_fault(
@@ -86,7 +74,7 @@ pub fn step_table(
     l: usize,
     cs: usize,
 ) -> Step
-    ensures { λ s. ⌜ ((d : Doc) (ps′ rs′ bs′ us′ cs′ gs′ ms′ ws′ : List ℕ) → LineAt (now (text .entry)) at (now (line .entry)) → ((t ≤ length (now (line .entry))) × (l ≤ length (now (line .entry))) × (cs ≤ length (now (line .entry)))) → Indexed (now (text .entry)) ps′ rs′ bs′ us′ cs′ gs′ (now (labels .entry)) ms′ (now (tables .entry)) ws′ c d → Follows (Indexed (now (text .entry)) ps′ rs′ bs′ us′ cs′ gs′ (now (labels .entry)) ms′ (now (tables .exit)) ws′) (now (line .entry)) (checkForm d (now (line .entry)) (tableLine (now (line .entry)) t scheme l cs)) s) ⌝ }
+    ensures { λ s. ⌜ StepTablePromise (now (text .entry)) at (now (line .entry)) (now (labels .entry)) (now (tables .entry)) (now (tables .exit)) c t scheme l cs s ⌝ }
 {
     let k = c.tables;
     let f = table_fault(text, labels, c.labels, tables, k, line, t, scheme, l, cs);

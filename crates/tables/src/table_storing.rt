@@ -14,20 +14,15 @@ use text::words::is_word;
 use text::words::word_end;
 use workspace::layout::LABELS;
 use workspace::layout::TABLE_CELLS;
-ghost use Prim.Native.Nat.{_+_, _<_, _≤_, ℕ};
+ghost use Prim.Native.Nat.{_<_, _≤_};
 ghost use lib.ListN.{length};
-ghost use mathlib.Core.List.{List, map};
+ghost use mathlib.Core.List.{map};
 ghost use mathlib.Core.Path.{_≡_};
 ghost use Rattle.condition.specs.Answers.{kindOf};
-ghost use Rattle.document.specs.Lookup.{labelOf};
-ghost use Rattle.document.specs.Meaning.{add, columnMeant};
-ghost use Rattle.document.specs.Policy.{Doc, Policy};
-ghost use Rattle.form.specs.Walks.{columnFormsAt, columnLabelsAt, kindAt, labelledColumnsAt};
-ghost use Rattle.relations.specs.Labels.{Labels};
-ghost use Rattle.relations.specs.Tables.{Tables};
-ghost use Rattle.form.specs.TableWords.{tableLine};
-ghost use Rattle.lists.specs.Lists.{orZero};
-ghost use Rattle.stepping.specs.Stored.{ColumnsFilled, LineAt, Passes};
+ghost use Rattle.document.specs.Meaning.{columnMeant};
+ghost use Rattle.form.specs.Walks.{columnFormsAt, kindAt};
+ghost use Rattle.stepping.specs.Stored.{ColumnsFilled, LineAt};
+ghost use Rattle.tables.specs.Promises.{StoreLabelledColumnsPromise, StoreTablePromise};
 
 // The type that the word at a place of the line names.
 fn kind_at(line: &[u8], q: usize) -> Kind
@@ -75,7 +70,7 @@ fn store_labelled_columns(
     line: &[u8],
     cs: usize,
 ) -> usize
-    ensures { λ r. ⌜ ((d : Policy) (sets : List ℕ) → LineAt (now (text .entry)) at (now (line .entry)) → Labels (now (text .entry)) (now (labels .entry)) sets «labels_count» (d .labels) → k < 8 → length (labelledColumnsAt (now (line .entry)) cs) ≤ 16 → ColumnsFilled (now (text .entry)) (now (tables .entry)) (now (tables .exit)) k r (map columnMeant (labelledColumnsAt (now (line .entry)) cs)) (map (λ w. orZero (labelOf d w)) (columnLabelsAt (now (line .entry)) cs))) ⌝ }
+    ensures { λ r. ⌜ StoreLabelledColumnsPromise (now (text .entry)) (now (labels .entry)) «labels_count» (now (tables .entry)) (now (tables .exit)) k at (now (line .entry)) cs r ⌝ }
 {
     let mut c: usize = 0;
     let mut j = cs;
@@ -108,7 +103,7 @@ pub fn store_table(
     l: usize,
     cs: usize,
 )
-    ensures { λ _. ⌜ ((d : Doc) (sets : List ℕ) → LineAt (now (text .entry)) at (now (line .entry)) → Labels (now (text .entry)) (now (labels .entry)) sets «labels_count» (d .policy .labels) → Tables (now (text .entry)) (now (tables .entry)) k (d .policy .tables) → Passes d (now (line .entry)) (tableLine (now (line .entry)) t scheme l cs) → t ≤ length (now (line .entry)) → Tables (now (text .entry)) (now (tables .exit)) (k + 1) (add d (tableLine (now (line .entry)) t scheme l cs) .policy .tables)) ⌝ }
+    ensures { λ _. ⌜ StoreTablePromise (now (text .entry)) (now (labels .entry)) «labels_count» (now (tables .entry)) (now (tables .exit)) k at (now (line .entry)) t scheme l cs ⌝ }
 {
     let label = number(find_label(text, labels, labels_count, line, l));
     let pos = place(text, at, t);

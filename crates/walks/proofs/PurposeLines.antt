@@ -8,7 +8,7 @@ use mathlib.Core.Bool.{_&&_, true}
 use mathlib.Core.List.{List}
 use mathlib.Core.Option.{Option·map, some}
 use mathlib.Core.Path.{_∙_, _≡_, ap, sym}
-use Rattle.walks.specs.PurposeLine.{belowAt, beginsPurpose}
+use Rattle.walks.specs.PurposeLine.{beginsPurpose, belowAt}
 use Rattle.form.proofs.KeywordLaws.{keyword-at}
 use Rattle.form.proofs.LineLaws.{line-read}
 use Rattle.form.specs.Form.{Form, purpose}

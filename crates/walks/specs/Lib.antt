@@ -2,3 +2,4 @@
 pub mod PurposeLine
 pub mod Taken
 pub mod Walked
+pub mod Promises

@@ -14,18 +14,14 @@ use workspace::found::Found;
 use workspace::layout::LABELS;
 use workspace::layout::ROW_CELLS;
 use workspace::layout::TABLE_CELLS;
-ghost use Prim.Native.Nat.{_<_, _≤_, ℕ};
-ghost use lib.ListN.{length};
-ghost use mathlib.Core.List.{List, []};
+ghost use Prim.Native.Nat.{ℕ};
+ghost use mathlib.Core.List.{List};
 ghost use mathlib.Core.Path.{_≡_};
 ghost use Rattle.condition.specs.Answers.{kindOf};
-ghost use Rattle.document.specs.Lookup.{columnsAt};
 ghost use Rattle.document.specs.Policy.{Policy};
 ghost use Rattle.relations.specs.Labels.{Labels};
-ghost use Rattle.relations.specs.Rows.{FillingRow};
-ghost use Rattle.relations.specs.Tables.{Tables};
-ghost use Rattle.walks.specs.Walked.{CellsWalked, KeepsRows, LabelWalked, ValuesWalked, typedEnd};
-ghost use Rattle.stepping.specs.Stored.{LineAt};
+ghost use Rattle.walks.specs.Walked.{KeepsRows, LabelWalked, typedEnd};
+ghost use Rattle.walks.specs.Promises.{TakeCellsPromise, TakeValuesPromise};
 
 // The end of the value of the type that stands at a position.
 fn typed_end(line: &[u8], at: usize, kind: Kind) -> End
@@ -55,7 +51,7 @@ pub(crate) fn take_values(
     k: usize,
     is: usize,
 ) -> End
-    ensures { λ r. ⌜ KeepsRows (now (text .entry)) (now (rows .entry)) (now (rows .exit)) k × ((d : Policy) (count m : ℕ) (ls : List ℕ) → LineAt (now (text .entry)) at (now (line .entry)) → Tables (now (text .entry)) (now (tables .entry)) count (d .tables) → x < count → n ≡ length (columnsAt d x) → k < 1024 → FillingRow (now (text .entry)) (now (rows .entry)) k 0 m [] ls → ValuesWalked (now (text .entry)) (now (rows .entry)) (now (rows .exit)) (now (line .entry)) k n m ls (columnsAt d x) is r) ⌝ }
+    ensures { λ r. ⌜ TakeValuesPromise (now (text .entry)) at (now (line .entry)) (now (tables .entry)) x n (now (rows .entry)) (now (rows .exit)) k is r ⌝ }
 {
     let mut m: usize = 0;
     let mut j = is;
@@ -119,7 +115,7 @@ pub(crate) fn take_cells(
     k: usize,
     is: usize,
 ) -> End
-    ensures { λ r. ⌜ KeepsRows (now (text .entry)) (now (rows .entry)) (now (rows .exit)) k × ((d : Policy) (count : ℕ) (sets : List ℕ) → LineAt (now (text .entry)) at (now (line .entry)) → Labels (now (text .entry)) (now (labels .entry)) sets «labels_count» (d .labels) → Tables (now (text .entry)) (now (tables .entry)) count (d .tables) → x < count → n ≡ length (columnsAt d x) → k < 1024 → CellsWalked (now (text .entry)) (now (rows .entry)) (now (rows .exit)) (now (line .entry)) k n d (columnsAt d x) is r) ⌝ }
+    ensures { λ r. ⌜ TakeCellsPromise (now (text .entry)) at (now (line .entry)) (now (labels .entry)) «labels_count» (now (tables .entry)) x n (now (rows .entry)) (now (rows .exit)) k is r ⌝ }
 {
     let mut m: usize = 0;
     let mut j = is;

@@ -16,20 +16,9 @@ use workspace::layout::LABELS;
 use workspace::layout::ROW_CELLS;
 use workspace::layout::ROWS;
 use workspace::layout::TABLE_CELLS;
-ghost use Prim.Native.Nat.{_<_, ℕ};
-ghost use mathlib.Core.Bool.{true};
-ghost use mathlib.Core.List.{List};
-ghost use mathlib.Core.Option.{some};
 ghost use mathlib.Core.Path.{_≡_};
-ghost use Rattle.document.specs.Lookup.{schemeAt, tableOf};
-ghost use Rattle.document.specs.Policy.{Doc};
-ghost use Rattle.form.specs.Form.{byCell, byRow};
-ghost use Rattle.relations.specs.Labels.{Labels};
-ghost use Rattle.relations.specs.Rows.{Rows};
-ghost use Rattle.relations.specs.Tables.{Tables};
-ghost use Rattle.walks.specs.Taken.{NoLabels, TakesItems, TakesRow, closesAt, tableEnd};
-ghost use Rattle.stepping.specs.Stored.{LineAt};
-ghost use Rattle.text.specs.Words.{wordOf};
+ghost use Rattle.walks.specs.Taken.{closesAt, tableEnd};
+ghost use Rattle.walks.specs.Promises.{TakeLabelledPromise, TakeLedPromise, TakePlainPromise, TakeRowPromise};
 
 // Where the name of the table ends in a line that begins with `(row T`.
 fn table_end(line: &[u8]) -> End
@@ -68,7 +57,7 @@ fn take_plain(
     k: usize,
     is: usize,
 ) -> bool
-    ensures { λ r. ⌜ ((d : Doc) (count : ℕ) → LineAt (now (text .entry)) at (now (line .entry)) → Tables (now (text .entry)) (now (tables .entry)) count (d .policy .tables) → tableOf (d .policy) (wordOf (now (line .entry)) 5) ≡ some x → x < count → NoLabels (schemeAt (d .policy) x) → k < 1024 → Rows (now (text .entry)) (now (rows .entry)) k (d .rows) → TakesItems (now (text .entry)) (now (line .entry)) (now (rows .exit)) k is d r) ⌝ }
+    ensures { λ r. ⌜ TakePlainPromise (now (text .entry)) at (now (line .entry)) (now (tables .entry)) x (now (rows .entry)) (now (rows .exit)) k is r ⌝ }
 {
     let n = table_width(tables, x);
     let r = take_values(text, at, line, tables, x, n, rows, k, is);
@@ -95,7 +84,7 @@ fn take_led(
     k: usize,
     is: usize,
 ) -> bool
-    ensures { λ r. ⌜ ((d : Doc) (sets : List ℕ) (count : ℕ) → LineAt (now (text .entry)) at (now (line .entry)) → Labels (now (text .entry)) (now (labels .entry)) sets «labels_count» (d .policy .labels) → Tables (now (text .entry)) (now (tables .entry)) count (d .policy .tables) → tableOf (d .policy) (wordOf (now (line .entry)) 5) ≡ some x → x < count → schemeAt (d .policy) x ≡ byRow → k < 1024 → Rows (now (text .entry)) (now (rows .entry)) k (d .rows) → TakesItems (now (text .entry)) (now (line .entry)) (now (rows .exit)) k is d r) ⌝ }
+    ensures { λ r. ⌜ TakeLedPromise (now (text .entry)) at (now (line .entry)) (now (labels .entry)) «labels_count» (now (tables .entry)) x (now (rows .entry)) (now (rows .exit)) k is r ⌝ }
 {
     let l = take_label(text, line, labels, labels_count, rows, k, 0, is);
     let End::At(j) = l else {
@@ -126,7 +115,7 @@ fn take_labelled(
     k: usize,
     is: usize,
 ) -> bool
-    ensures { λ r. ⌜ ((d : Doc) (sets : List ℕ) (count : ℕ) → LineAt (now (text .entry)) at (now (line .entry)) → Labels (now (text .entry)) (now (labels .entry)) sets «labels_count» (d .policy .labels) → Tables (now (text .entry)) (now (tables .entry)) count (d .policy .tables) → tableOf (d .policy) (wordOf (now (line .entry)) 5) ≡ some x → x < count → schemeAt (d .policy) x ≡ byCell → k < 1024 → Rows (now (text .entry)) (now (rows .entry)) k (d .rows) → TakesItems (now (text .entry)) (now (line .entry)) (now (rows .exit)) k is d r) ⌝ }
+    ensures { λ r. ⌜ TakeLabelledPromise (now (text .entry)) at (now (line .entry)) (now (labels .entry)) «labels_count» (now (tables .entry)) x (now (rows .entry)) (now (rows .exit)) k is r ⌝ }
 {
     let n = table_width(tables, x);
     let r = take_cells(
@@ -165,7 +154,7 @@ pub fn take_row(
     rows: &mut [usize; ROW_CELLS],
     k: usize,
 ) -> bool
-    ensures { λ r. ⌜ ((d : Doc) (sets : List ℕ) → LineAt (now (text .entry)) at (now (line .entry)) → Labels (now (text .entry)) (now (labels .entry)) sets «labels_count» (d .policy .labels) → Tables (now (text .entry)) (now (tables .entry)) «tables_count» (d .policy .tables) → Rows (now (text .entry)) (now (rows .entry)) k (d .rows) → TakesRow (now (text .entry)) (now (line .entry)) (now (rows .exit)) k d r) × (r ≡ true → k < 1024) ⌝ }
+    ensures { λ r. ⌜ TakeRowPromise (now (text .entry)) at (now (line .entry)) (now (labels .entry)) «labels_count» (now (tables .entry)) «tables_count» (now (rows .entry)) (now (rows .exit)) k r ⌝ }
 {
     if ROWS <= k {
         return false;

@@ -3,13 +3,13 @@ use Prim.Native.Nat.{_+_, ℕ}
 use lib.ListN.{getD}
 use mathlib.Core.Bool.{Bool}
 use mathlib.Core.List.{List}
-use mathlib.Core.Path.{_∙_, _≡_, ap, refl, sym}
+use mathlib.Core.Path.{_∙_, _≡_, ap, sym}
 use native.Mathlib.Nat.{zero-add}
 use Rattle.workspace.proofs.TabulatedLaws.{findIndex-map, tabulated-map, tabulated-same}
 use Rattle.workspace.specs.Tabulated.{tabulated}
 use Rattle.lists.specs.Lists.{findIndex}
 use Rattle.text.specs.Names.{Name}
-use Rattle.text.specs.Words.{Word, isCalled, wordAt}
+use Rattle.text.specs.Words.{wordAt}
 
 module _ {A : Type 0} (t : Name → Bool) (called : A → Name) (text ws : List ℕ) (f : ℕ → A) (k : ℕ) where
   -- names whose positions stand from `base` on

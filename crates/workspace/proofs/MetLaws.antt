@@ -4,7 +4,7 @@ use lib.Dec.{eqb}
 use lib.ListN.{length}
 use mathlib.Core.Bool.{Bool, _||_, false, true, true≢false}
 use mathlib.Core.List.{List, []}
-use mathlib.Core.Path.{_∙_, _≡_, ap, refl, subst, sym}
+use mathlib.Core.Path.{_∙_, _≡_, ap, sym}
 use Rattle.workspace.proofs.HashLaws.{same-print}
 use Rattle.workspace.specs.Hash.{printOf}
 use Rattle.workspace.specs.Met.{Met, highBit, lowBit, marked, metWords}

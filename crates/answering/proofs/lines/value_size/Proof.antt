@@ -3,8 +3,8 @@ use Prim.Native.Nat.{_<_, ℕ}
 use Rattle.answering.proofs.LineLaws.{sizes-more}
 use Rattle.answering.specs.Lines.{Sizes}
 use borrow.Author.Needs.{needs}
-use lib.ListN.{getD, length}
-use mathlib.Core.List.{List, []}
+use lib.ListN.{length}
+use mathlib.Core.List.{[]}
 use mathlib.Core.Path.{_∙_, _≡_, ap, subst, sym}
 use Rattle.answering.proofs.lines.value_size.Statement.{statement}
 use Rattle.answering.proofs.lines.value_size.Tie as tie

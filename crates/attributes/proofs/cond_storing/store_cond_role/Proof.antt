@@ -2,7 +2,7 @@
 use Rattle.lists.specs.Lists.{orZero}
 use Rattle.document.specs.Lookup.{roleOf}
 use Rattle.text.specs.Words.{wordOf}
-use mathlib.Core.Path.{_∙_, ap, refl, sym}
+use mathlib.Core.Path.{_∙_, ap}
 use Rattle.stepping.proofs.NamedLaws.{cond-stored, print-placed}
 use borrow.Author.Needs.{needs}
 use Rattle.attributes.proofs.cond_storing.store_cond_role.Statement.{statement}

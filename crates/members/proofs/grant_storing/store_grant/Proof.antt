@@ -1,9 +1,8 @@
 -- `members::grant_storing::store_grant` meets its contract: both names are known. Assumes nothing.
-use mathlib.Core.Option.{none, some}
 use Rattle.lists.specs.Lists.{orZero}
 use Rattle.document.specs.Lookup.{condRoleOf, purposeOf}
 use Rattle.text.specs.Words.{wordOf}
-use mathlib.Core.Path.{_∙_, ap, refl, sym}
+use mathlib.Core.Path.{_∙_, ap}
 use Rattle.stepping.proofs.NamedLaws.{grant-stored}
 use borrow.Author.Needs.{needs}
 use Rattle.members.proofs.grant_storing.store_grant.Statement.{statement}

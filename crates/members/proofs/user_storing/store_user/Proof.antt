@@ -1,9 +1,8 @@
 -- `members::user_storing::store_user` meets its contract: the line is kept by its start and end. Assumes nothing.
-use mathlib.Core.Option.{none, some}
 use Rattle.lists.specs.Lists.{orZero}
 use Rattle.document.specs.Lookup.{roleOf}
 use Rattle.text.specs.Words.{wordOf}
-use mathlib.Core.Path.{_∙_, ap, refl, sym}
+use mathlib.Core.Path.{_∙_, ap}
 use Rattle.stepping.proofs.NamedLaws.{print-placed, user-stored}
 use borrow.Author.Needs.{needs}
 use Rattle.members.proofs.user_storing.store_user.Statement.{statement}

@@ -1,9 +1,9 @@
 -- `nodes::storing::store_role_below` meets its contract: the parent is found by its name. Assumes nothing.
-use mathlib.Core.Option.{none, some}
+use mathlib.Core.Option.{some}
 use Rattle.lists.specs.Lists.{orZero}
 use Rattle.document.specs.Lookup.{roleOf}
 use Rattle.text.specs.Words.{wordOf}
-use mathlib.Core.Path.{_∙_, ap, refl, sym}
+use mathlib.Core.Path.{_∙_, ap}
 use Rattle.stepping.proofs.NamedLaws.{hash-placed, role-parent, role-stored}
 use borrow.Author.Needs.{needs}
 use Rattle.nodes.proofs.storing.store_role_below.Statement.{statement}

@@ -1,6 +1,6 @@
 -- `nodes::storing::store_role_root` meets its contract: a root is its own parent. Assumes nothing.
-use mathlib.Core.Option.{none, bind}
-use mathlib.Core.Path.{_∙_, ap, refl, sym}
+use mathlib.Core.Option.{bind, none}
+use mathlib.Core.Path.{_∙_, sym}
 use Rattle.principals.proofs.IndexLaws.{nodes-length}
 use Rattle.stepping.proofs.NamedLaws.{hash-placed, role-stored}
 use borrow.Author.Needs.{needs}

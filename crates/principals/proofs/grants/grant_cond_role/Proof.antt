@@ -1,7 +1,7 @@
 -- `principals::grants::grant_cond_role` meets its contract: what the array has is the grant's. Assumes nothing.
 use borrow.Author.Needs.{needs}
 use native.Mathlib.Omega.{arith}
-use Rattle.principals.proofs.GrantLaws.{grant-below, condRole-there}
+use Rattle.principals.proofs.GrantLaws.{condRole-there, grant-below}
 use Rattle.principals.proofs.grants.grant_cond_role.Statement.{statement}
 use Rattle.principals.proofs.grants.grant_cond_role.Tie as tie
 

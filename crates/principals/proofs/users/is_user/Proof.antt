@@ -1,7 +1,6 @@
 -- `principals::users::is_user` meets its contract: another print is another name's. Assumes nothing.
 use borrow.Author.Needs.{needs}
 use mathlib.Core.Path.{_∙_, sym}
-use native.Mathlib.Omega.{arith}
 use Rattle.principals.proofs.UserLaws.{other-role, printed-other, same-role}
 use Rattle.text.specs.Words.{isCalled, wordOf}
 use Rattle.principals.proofs.users.is_user.Statement.{statement}

@@ -1,6 +1,5 @@
 -- `query::clock::is_leap` meets its contract.
 -- Assumes nothing.
-use borrow.Author.Needs.{needs}
 use Rattle.query.proofs.ClockLaws.{by-hundred, not-by-four, not-by-hundred}
 use Rattle.query.proofs.clock.is_leap.Statement.{statement}
 use Rattle.query.proofs.clock.is_leap.Tie as tie

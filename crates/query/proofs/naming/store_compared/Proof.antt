@@ -3,7 +3,6 @@
 -- Assumes nothing.
 use Prim.Native.Nat.{_-_}
 use borrow.Author.Needs.{needs}
-use lib.ListN.{length-set}
 use native.Mathlib.Omega.{arith}
 use Rattle.query.proofs.NamingLaws.{Comparing, comparing-done, comparing-full, comparing-more, comparing-short, comparing-start}
 use Rattle.query.proofs.naming.store_compared.Statement.{statement}

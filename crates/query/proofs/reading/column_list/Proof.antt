@@ -2,11 +2,10 @@
 -- Assumes nothing.
 use Prim.Native.Nat.{_+_}
 use borrow.Author.Needs.{needs}
-use lib.ListN.{getD, length}
+use lib.ListN.{getD}
 use mathlib.Core.Path.{_∙_, _≡_, sym}
 use native.Mathlib.Omega.{arith}
 use Rattle.form.proofs.PartLaws.{names-to, space-before}
-use Rattle.form.specs.Walks.{namesAt}
 use Rattle.query.proofs.PartsRead.{columns-no-space, columns-none, columns-open, columns-read, columns-shut, columns-wrong, names-few}
 use Rattle.query.proofs.WholeLaws.{closes-before}
 use Rattle.text.proofs.EndLaws.{end-none}

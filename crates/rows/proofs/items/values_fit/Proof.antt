@@ -1,13 +1,13 @@
 -- `rows::items::values_fit` meets its contract. The loop's invariant: with the items passed, those left are as many as wanted
 -- exactly when all are. Assumes nothing.
 use borrow.Author.Needs.{needs}
-use Prim.Native.Nat.{_-_, _≤_, _+_}
+use Prim.Native.Nat.{_+_, _-_, _≤_}
 use lib.ListN.{getD, length}
 use mathlib.Core.Path.{_∙_, _≡_, ap, sym}
 use mathlib.Core.Bool.{Bool, cond, not}
 use lib.Dec.{eqb}
 use native.Mathlib.Omega.{arith}
-use borrow.Author.Tests.{not-true, not-false}
+use borrow.Author.Tests.{not-false, not-true}
 use Rattle.lists.specs.Lists.{holdsOf}
 use Rattle.form.specs.Walks.{itemsAt}
 use Rattle.form.proofs.WalkSteps.{item-after, item-inside}

@@ -1,8 +1,8 @@
 -- `tables::label_storing::set_of` meets its contract. The loop's invariant: the set holds the purposes that were passed, and the others are left.
 -- Assumes nothing.
-use Prim.Native.Nat.{_-_, _+_, _<_}
+use Prim.Native.Nat.{_+_, _-_, _<_}
 use borrow.Author.Needs.{needs}
-use lib.ListN.{getD, length}
+use lib.ListN.{length}
 use mathlib.Core.Path.{_∙_, _≡_, ap, subst, sym}
 use native.Mathlib.Omega.{arith}
 use Rattle.document.specs.Lookup.{purposeOf}

@@ -4,7 +4,7 @@ use Prim.Native.Nat.{_+_, _-_, _≤_, ℕ}
 use borrow.Author.Needs.{needs}
 use borrow.Author.Tests.{ne-eqb, not-true}
 use lib.ListN.{length}
-use mathlib.Core.Bool.{false, true}
+use mathlib.Core.Bool.{true}
 use mathlib.Core.Path.{_∙_, _≡_, ap₂, sym}
 use native.Mathlib.Omega.{arith}
 use Rattle.workspace.proofs.SameLaws.{differ-at, differ-behind, same-before, same-behind, same-beyond, same-empty}
