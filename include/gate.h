@@ -12,7 +12,7 @@
  * - `out` overlaps no text, and `figures` overlaps nothing else. Texts are only read, so they may overlap.
  * - No pointer is null. Where a length is 0, any other pointer will do; nothing is read or written through it.
  * - Until the call returns, no other thread writes the texts, and none touches `out` or `figures`.
- * - The calling thread has room on its stack: a call takes up to 354 KB (measured). Threads with small stacks need a larger one.
+ * - The calling thread has room on its stack: a call takes up to 369 KB (measured). Threads with small stacks need a larger one.
  * Nothing is owed of what the texts, the clock and the buffer hold. Every input has an outcome, and every call returns.
  *
  * What the calls give is proved for every input, as crates/gate/specs/Exports.antt says it (ExportsCheck, ExportsAsk,
