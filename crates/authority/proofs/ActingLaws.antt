@@ -5,7 +5,7 @@ use mathlib.Core.List.{List, map}
 use mathlib.Core.Option.{bind, some}
 use mathlib.Core.Path.{_∙_, _≡_, ap, subst, sym}
 use native.Mathlib.Omega.{arith}
-use Rattle.authority.specs.Values.{Values}
+use Rattle.belonging.specs.Values.{Values}
 use Rattle.document.specs.Meaning.{givenOf}
 use Rattle.document.specs.Policy.{Given, Policy, User}
 use Rattle.form.specs.Walks.{givensAt}

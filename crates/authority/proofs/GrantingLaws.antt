@@ -6,7 +6,7 @@ use mathlib.Core.List.{List, [], _∷_}
 use mathlib.Core.Option.{Option, none, some}
 use mathlib.Core.Path.{_∙_, _≡_, ap, refl, sym}
 use native.Mathlib.Omega.{arith}
-use Rattle.authority.specs.Held.{Held, conditionHolds}
+use Rattle.belonging.specs.Held.{Held, conditionHolds}
 use Rattle.document.specs.Policy.{CondRole, Grant, Policy, User, treeOf}
 use Rattle.principals.proofs.IndexLaws.{conds-length}
 use Rattle.workspace.proofs.TabulatedLaws.{tabulated-at, tabulated-found, tabulated-none, tabulated-there}

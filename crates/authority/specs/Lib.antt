@@ -1,6 +1,4 @@
 -- What the code that finds the first grant answers. Assumes nothing.
-pub mod Values
-pub mod Held
 pub mod Purposes
 pub mod Authorities
 pub mod Promises

@@ -1,8 +1,8 @@
 // The first grant that authorises a purpose.
-use crate::belonging::store_held;
-use crate::line::line_of;
-use crate::values::VALUES;
-use crate::values::store_values;
+use belonging::held::store_held;
+use belonging::line::line_of;
+use belonging::values::VALUES;
+use belonging::values::store_values;
 use index::counts::Counts;
 use principals::conds::cond_role_role;
 use principals::grants::grant_cond_role;
@@ -28,7 +28,7 @@ ghost use mathlib.Core.Bool.{true};
 ghost use mathlib.Core.List.{List};
 ghost use mathlib.Core.Path.{_≡_};
 ghost use Rattle.authority.specs.Authorities.{Authorities};
-ghost use Rattle.authority.specs.Held.{Held, conditionHolds};
+ghost use Rattle.belonging.specs.Held.{Held, conditionHolds};
 ghost use Rattle.document.specs.Policy.{CondRole, Node, Policy, User, treeOf};
 ghost use Rattle.workspace.specs.Found.{foundAs};
 ghost use Rattle.principals.specs.Nodes.{Nodes};

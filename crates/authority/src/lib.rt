@@ -1,6 +1,3 @@
-// Who may ask for what: the tree of purposes, a user's values, who belongs to a conditional role, and the first grant.
-pub mod belonging;
+// Who may ask for what: the tree of purposes, and the first grant.
 pub mod grants;
-mod line;
 pub mod purposes;
-pub mod values;

@@ -3,7 +3,7 @@ use borrow.Author.Needs.{needs}
 use mathlib.Core.Path.{sym}
 use native.Mathlib.Omega.{arith}
 use Rattle.authority.proofs.GrantingLaws.{nothing-there, truth-there}
-use Rattle.authority.specs.Held.{conditionHolds}
+use Rattle.belonging.specs.Held.{conditionHolds}
 use Rattle.authority.proofs.grants.holds_at.Statement.{statement}
 use Rattle.authority.proofs.grants.holds_at.Tie as tie
 
