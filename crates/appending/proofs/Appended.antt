@@ -19,8 +19,8 @@ use Rattle.form.specs.Form.{byRow}
 use Rattle.form.specs.RowText.{rowText}
 use Rattle.import.proofs.ReadBack.{lines-cut}
 use Rattle.import.proofs.RowLaws.{unfit-first}
-use Rattle.import.specs.Importing.{firstUnfit, oneLabel, recordLines}
-use Rattle.import.specs.Records.{Entry}
+use Rattle.import.specs.Importing.{oneLabel, recordLines}
+use Rattle.csv.specs.Records.{Entry, firstUnfit}
 use Rattle.lists.proofs.ListLaws.{there-some}
 use Rattle.lists.proofs.Tests.{and-both, and-left, and-right}
 use Rattle.lists.specs.Lists.{allOf, orZero, there}

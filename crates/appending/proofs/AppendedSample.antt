@@ -9,7 +9,7 @@ use Rattle.appending.specs.Computing.{computing}
 use Rattle.document.specs.Check.{Accepted, check}
 use Rattle.document.specs.Policy.{emptyDoc}
 use Rattle.import.specs.Importing.{importing}
-use Rattle.import.specs.Records.{Entry, Split, malformed, records, split}
+use Rattle.csv.specs.Records.{Entry, Split, malformed, records, split}
 use Rattle.text.proofs.RefusalLaws.{Accepts, accepted-is, acceptedOr}
 use Rattle.text.specs.Bytes.{ascii}
 use Rattle.text.specs.Refusal.{accepted}

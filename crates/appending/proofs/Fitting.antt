@@ -11,7 +11,7 @@ use Rattle.appending.specs.Appended.{fitsColumns}
 use Rattle.condition.specs.Kinds.{hasKind}
 use Rattle.document.specs.Policy.{Column}
 use Rattle.document.specs.TypeFaults.{mistypedValue}
-use Rattle.import.specs.Records.{Entry}
+use Rattle.csv.specs.Records.{Entry}
 use Rattle.lists.proofs.ListLaws.{there-none}
 use Rattle.lists.proofs.Tests.{and-both, and-left, and-right}
 use Rattle.lists.specs.Lists.{there}

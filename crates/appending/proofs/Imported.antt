@@ -10,8 +10,8 @@ use Rattle.document.specs.Check.{Accepted, check}
 use Rattle.document.specs.Lookup.{schemeOf}
 use Rattle.form.specs.Form.{byRow}
 use Rattle.import.proofs.ReadBack.{was-accepted}
-use Rattle.import.specs.Importing.{firstUnfit, importing, recordLines}
-use Rattle.import.specs.Records.{Entry}
+use Rattle.import.specs.Importing.{importing, recordLines}
+use Rattle.csv.specs.Records.{Entry, firstUnfit}
 use Rattle.lists.proofs.Tests.{and-left, and-right, true-not-false}
 use Rattle.lists.specs.Lists.{isEmpty}
 use Rattle.text.specs.Names.{Name, isName}

@@ -26,8 +26,8 @@ use Rattle.form.specs.Form.{Form, Item, Scheme, byRow, row}
 use Rattle.form.specs.FormReader.{formOf}
 use Rattle.form.specs.RowText.{labelCount, rowText}
 use Rattle.import.specs.Importing.{oneLabel}
-use Rattle.import.specs.Fields.{Field}
-use Rattle.import.specs.Records.{Entry}
+use Rattle.csv.specs.Fields.{Field}
+use Rattle.csv.specs.Records.{Entry}
 use Rattle.lists.proofs.ListLaws.{map-inv, map-map, there-none}
 use Rattle.lists.proofs.Tests.{and-both, and-left, and-right, not-false}
 use Rattle.lists.specs.Lists.{allOf, holdsOf, orZero, there}

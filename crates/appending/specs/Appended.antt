@@ -12,7 +12,7 @@ use Rattle.document.specs.Lookup.{columnsAt, labelOf, schemeAt, schemeOf, table
 use Rattle.document.specs.Policy.{Column, Row}
 use Rattle.document.specs.TypeFaults.{mistypedValue}
 use Rattle.form.specs.Form.{byRow}
-use Rattle.import.specs.Records.{Entry, records, split}
+use Rattle.csv.specs.Records.{Entry, records, split}
 use Rattle.lists.specs.Lists.{allOf, isEmpty, there}
 use Rattle.text.specs.Names.{Name}
 use Rattle.text.specs.Refusal.{accepted}

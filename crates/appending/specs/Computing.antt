@@ -4,10 +4,11 @@ use Rattle.purpose.specs.Computing as purpose
 use Rattle.text.specs.Computing as text
 use Rattle.condition.specs.Computing as condition
 use Rattle.form.specs.Computing as form
+use Rattle.csv.specs.Computing as csv
 use Rattle.import.specs.Computing as import
 use Rattle.document.specs.Computing as document
 use Rattle.appending.specs.Appended as Appended
 
 unfoldable pub computing : Unit {0}
-unfolding mathlib.Core.Option.bind mathlib.Core.List.flatten lists.computing purpose.computing text.computing condition.computing form.computing import.computing document.computing Appended.fitsColumns Appended.rowFor Appended.appended
+unfolding mathlib.Core.Option.bind mathlib.Core.List.flatten lists.computing purpose.computing text.computing condition.computing form.computing csv.computing import.computing document.computing Appended.fitsColumns Appended.rowFor Appended.appended
 computing = tt

@@ -5,8 +5,8 @@ use mathlib.Core.Bool.{false, true}
 use mathlib.Core.List.{List, [], _∷_, append-nil}
 use mathlib.Core.Path.{_∙_, _≡_, ap, refl, subst, sym}
 use native.Mathlib.Omega.{arith}
-use Rattle.import.proofs.FieldLaws.{plain-more, plain-none, plain-stop}
-use Rattle.import.specs.Fields.{isPlain, plainBytes}
+use Rattle.csv.proofs.FieldLaws.{plain-more, plain-none, plain-stop}
+use Rattle.csv.specs.Fields.{isPlain, plainBytes}
 use Rattle.import.specs.Placement.{PlainCopied, PlainCopying}
 use Rattle.import.specs.declared.rows.Placed.{Placed}
 use Rattle.writing.proofs.Writing.{Ahead, done, start, step, wrote-nothing}

@@ -11,14 +11,14 @@ use native.Mathlib.Nat.{suc-mul}
 use native.Mathlib.Omega.{arith}
 use Rattle.form.specs.RowText.{spaced}
 use Rattle.import.proofs.RowLaws.{line-bytes, lines-one, spaced-one, unfit-first}
-use Rattle.import.specs.Fields.{Field}
-use Rattle.import.specs.Importing.{afterImport, firstUnfit, ifWritable, importable, importing, lengthOnly, longestBuffer, measureImport, recordLine, recordLines, refusalAt, refuseUnfit, wellFormed}
+use Rattle.csv.specs.Fields.{Field}
+use Rattle.import.specs.Importing.{afterImport, ifWritable, importable, importing, lengthOnly, longestBuffer, measureImport, recordLine, recordLines, refusalAt, refuseUnfit, wellFormed}
 use Rattle.import.specs.Outside.{Imports, importedAs, inBrief, lengthWithin}
 use Rattle.import.specs.Placement.{RowsPlaced}
-use Rattle.import.specs.Records.{Entry, Split, malformed, records, split}
-use Rattle.import.specs.Scanned.{fieldSize, placeOf, scanOf, sizeOf, totalSize}
+use Rattle.csv.specs.Records.{Entry, Split, firstUnfit, malformed, records, split}
+use Rattle.csv.specs.Scanned.{fieldSize, placeOf, scanOf, sizeOf, totalSize}
 use Rattle.import.specs.declared.importing.Imported.the-variants as imported
-use Rattle.import.specs.declared.records.Scan.the-variants as scan
+use Rattle.csv.specs.declared.records.Scan.the-variants as scan
 use Rattle.lists.proofs.Tests.{and-left, and-right}
 use Rattle.lists.specs.Lists.{allOf}
 use Rattle.text.proofs.RefusalLaws.{accepted-same, not-refused}

@@ -6,7 +6,7 @@ use mathlib.Core.Path.{_∙_, _≡_, ap}
 use native.Mathlib.Omega.{arith}
 use Rattle.import.proofs.ImportLaws.{Taken, admits-all, admits-room, was-taken}
 use Rattle.import.specs.Importing.{ifWritable, importable, importing, lengthOnly, longestBuffer, measureImport, recordLines, refusalAt, wellFormed}
-use Rattle.import.specs.Records.{Entry, Split, records, split}
+use Rattle.csv.specs.Records.{Entry, Split, records, split}
 use Rattle.text.proofs.RefusalLaws.{accepted-same, bind-accepted}
 use Rattle.text.specs.Names.{Name}
 use Rattle.text.specs.Refusal.{Result, _>>=_, accepted, refused}

@@ -9,12 +9,12 @@ use Rattle.form.proofs.RowBack.{itemsOf, placelessItem, row-back, row-read, row
 use Rattle.form.specs.Form.{Form, Item, attr, condRole, grant, label, labelled, plain, purpose, role, row, table, user}
 use Rattle.form.specs.RowText.{itemTexts, rowText, spaced}
 use Rattle.import.proofs.RowLaws.{lines-one, spaced-one, unfit-first}
-use Rattle.import.proofs.FieldLaws.{not-name}
+use Rattle.csv.proofs.FieldLaws.{not-name}
 use Rattle.import.proofs.ImportLaws.{was-taken}
-use Rattle.import.specs.Importing.{firstUnfit, importable, importing, oneLabel, recordLine, recordLines}
+use Rattle.import.specs.Importing.{importable, importing, oneLabel, recordLine, recordLines}
 use Rattle.import.specs.ReadBack.{ReadsBack, itemWords, lineWords, linesRead, rowWords, wholeLines}
-use Rattle.import.specs.Fields.{Field}
-use Rattle.import.specs.Records.{Entry, records, split}
+use Rattle.csv.specs.Fields.{Field}
+use Rattle.csv.specs.Records.{Entry, firstUnfit, records, split}
 use Rattle.lists.proofs.KeptLaws.{all-append}
 use Rattle.lists.proofs.Tests.{and-both, and-left, and-right}
 use Rattle.lists.specs.Lists.{allOf}

@@ -10,14 +10,14 @@ use mathlib.Core.Path.{_∙_, _≡_, ap, refl, subst, sym}
 use native.Mathlib.Omega.{arith}
 use Rattle.form.proofs.RowBack.{rowText-bytes}
 use Rattle.form.specs.RowText.{itemTexts, spaced}
-use Rattle.import.proofs.FieldLaws.{eats-field, field-fit, field-is, field-plain}
-use Rattle.import.proofs.RecordLaws.{eats-fields, end-next, fields-broken, fields-last, fields-more}
-use Rattle.import.proofs.ScanLaws.{record-none, record-other, record-read, records-end, records-step}
+use Rattle.csv.proofs.FieldLaws.{eats-field, field-fit, field-is, field-plain}
+use Rattle.csv.proofs.RecordLaws.{eats-fields, end-next, fields-broken, fields-last, fields-more}
+use Rattle.csv.proofs.ScanLaws.{record-none, record-other, record-read, records-end, records-step}
 use Rattle.writing.proofs.Writing.{Ahead, both, done, start, step}
-use Rattle.import.specs.Importing.{firstUnfit, oneLabel, recordLine, recordLines}
+use Rattle.import.specs.Importing.{oneLabel, recordLine, recordLines}
 use Rattle.import.specs.Placement.{FieldPlaced, FieldsPlaced, Placing, RowPlaced, RowsPlaced}
-use Rattle.import.specs.Fields.{Field, field, plainBytes}
-use Rattle.import.specs.Records.{Entry, Split, entryBefore, fields, fieldsUpTo, goOn, malformed, recordEnd, recordOf, records, recordsUpTo, split, width}
+use Rattle.csv.specs.Fields.{Field, field, plainBytes}
+use Rattle.csv.specs.Records.{Entry, Split, entryBefore, fields, fieldsUpTo, firstUnfit, goOn, malformed, recordEnd, recordOf, records, recordsUpTo, split, width}
 use Rattle.writing.specs.Write.{Wrote}
 use Rattle.import.specs.declared.rows.Placed.{Placed}
 use Rattle.lists.proofs.Tests.{and-left, and-right}

@@ -2,16 +2,14 @@
 use Prim.Native.Nat.{ℕ}
 use lib.Dec.{ltb}
 use lib.ListN.{drop, length}
-use mathlib.Core.Bool.{_&&_, cond, not}
+use mathlib.Core.Bool.{_&&_, not}
 use mathlib.Core.List.{List, [], _++_, _∷_, flatten, map}
 use mathlib.Core.Option.{Option, none, some}
 use Rattle.form.specs.Form.{Scheme, byRow}
 use Rattle.form.specs.RowText.{rowText}
-use Rattle.import.specs.Fields.{Field}
-use Rattle.import.specs.Records.{Entry, Split, malformed, records, split}
-use Rattle.lists.specs.Lists.{allOf}
+use Rattle.csv.specs.Fields.{Field}
+use Rattle.csv.specs.Records.{Entry, Split, firstUnfit, malformed, records, split}
 use Rattle.text.specs.Names.{Name, isName}
-use Rattle.text.specs.Numbers.{isValue}
 use Rattle.text.specs.Refusal.{Refusal, Result, _>>=_, _>>_, accepted, file, refuseIf, refused}
 
 -- the refusal of this number, which hands back the empty part at a place of the file
@@ -22,11 +20,6 @@ refusalAt n place = record { number = n; source = file; start = place; len = 0 }
 unfoldable pub wellFormed : Split → Result (List Entry)
 wellFormed (malformed place) = refused (refusalAt 19 place)
 wellFormed (split es) = accepted es
-
--- the place of the first record of which a field is no name and no number
-unfoldable pub firstUnfit : List Entry → Option ℕ
-firstUnfit [] = none
-firstUnfit (e ∷ es) = cond (allOf isValue (e .fields)) (firstUnfit es) (some (e .at))
 
 -- 20 at such a record, where there is one
 unfoldable pub refuseUnfit : Option ℕ → Result (Unit {0})

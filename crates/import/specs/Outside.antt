@@ -6,7 +6,7 @@ use mathlib.Core.Bool.{cond}
 use mathlib.Core.List.{List}
 use mathlib.Core.Path.{_≡_}
 use Rattle.import.specs.Importing.{afterImport, importing, lengthOnly, recordLines}
-use Rattle.import.specs.Records.{Entry}
+use Rattle.csv.specs.Records.{Entry}
 use Rattle.import.specs.declared.importing.Imported.{Imported}
 use Rattle.import.specs.declared.importing.Imported.the-variants as imported
 use Rattle.import.specs.declared.importing.Judged.{Judged}

@@ -6,9 +6,9 @@ use mathlib.Core.List.{List, [], _∷_}
 use mathlib.Core.Option.{none, some}
 use mathlib.Core.Path.{_≡_}
 use Rattle.form.specs.RowText.{spaced}
-use Rattle.import.specs.Fields.{Field, field, plainBytes}
-use Rattle.import.specs.Importing.{firstUnfit, recordLine, recordLines}
-use Rattle.import.specs.Records.{Entry, fields, records, split}
+use Rattle.csv.specs.Fields.{Field, field, plainBytes}
+use Rattle.import.specs.Importing.{recordLine, recordLines}
+use Rattle.csv.specs.Records.{Entry, fields, firstUnfit, records, split}
 use Rattle.import.specs.declared.rows.Placed.{Placed}
 use Rattle.lists.specs.Lists.{allOf}
 use Rattle.text.specs.Names.{Name}

@@ -1,7 +1,7 @@
 // Importing a comma-separated file as row lines: judged and measured first, and then written straight into the lent buffer.
-use crate::records::Scan;
-use crate::records::scan_file;
 use crate::rows::put_rows;
+use csv::records::Scan;
+use csv::records::scan_file;
 use text::refusals::Reason;
 use text::refusals::Refusal;
 use text::refusals::Source;
@@ -12,9 +12,9 @@ ghost use mathlib.Core.List.{List};
 ghost use mathlib.Core.Path.{_≡_};
 ghost use Rattle.import.specs.Importing.{ifWritable, importable, measureImport, refusalAt};
 ghost use Rattle.import.specs.Outside.{Imports, importedAs, inBrief, judgedAs, lengthWithin};
-ghost use Rattle.import.specs.Records.{Entry, records, split};
-ghost use Rattle.import.specs.Scanned.{scanOf};
-ghost use Rattle.import.specs.declared.records.Scan.the-variants as scan;
+ghost use Rattle.csv.specs.Records.{Entry, records, split};
+ghost use Rattle.csv.specs.Scanned.{scanOf};
+ghost use Rattle.csv.specs.declared.records.Scan.the-variants as scan;
 ghost use Rattle.text.specs.Names.{isName};
 ghost use Rattle.text.specs.Reasons.{reasonNumber, refusalOf};
 

@@ -1,5 +1,5 @@
 // Row lines, written from a file of which it is known that its fields are names and numbers.
-use crate::fields::is_plain;
+use csv::fields::is_plain;
 use text::bytes::byte_at;
 use text::walking::skip_byte;
 use writing::bytes::put_byte;

@@ -2,7 +2,7 @@
 -- same as to write them all at the start, and both places went on by as much. Assumes nothing.
 use Prim.Native.Nat.{_+_, _-_, _<_, _≤_}
 use Rattle.import.proofs.CopyLaws.{Copying, copy-more, copy-part, copy-start}
-use Rattle.import.proofs.FieldLaws.{plain-stop}
+use Rattle.csv.proofs.FieldLaws.{plain-stop}
 use Rattle.writing.proofs.Writing.{wrote-byte}
 use borrow.Author.Needs.{needs}
 use borrow.Author.Tests.{not-false, not-true}

@@ -1,8 +1,8 @@
 -- `import::rows::put_field` meets its contract. Assumes nothing.
 use Prim.Native.Nat.{_+_}
-use Rattle.import.proofs.FieldLaws.{plain-room}
+use Rattle.csv.proofs.FieldLaws.{plain-room}
 use Rattle.import.proofs.RowLaws.{field-placed}
-use Rattle.import.specs.Fields.{plainBytes}
+use Rattle.csv.specs.Fields.{plainBytes}
 use Rattle.text.proofs.WalkingLaws.{past-forward}
 use Rattle.text.specs.Walking.{past}
 use borrow.Author.Needs.{needs}

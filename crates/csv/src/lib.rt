@@ -1,0 +1,3 @@
+// Comma-separated files: their fields and records.
+pub mod fields;
+pub mod records;
