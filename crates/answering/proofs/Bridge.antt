@@ -54,8 +54,8 @@ module _ (cs : List ℕ) (f g : Row → Bool) where
       ∙ flatten-keep (λ r. f r && g r) line rs
       ∙ ap (λ l. flatten (map line l)) (keep-both f g rs)
 
-module _ {text ts ws : List ℕ} {count : ℕ} {os : List Bool} {s : List ℕ} {g : Sought} {ops cs : List ℕ} {d : Doc} {q : Query} {marks : List Bool} {x : Tally}
-    (p : Prepared text ts ws count os s g ops cs d q) (j : Judged d q marks x) where
+module _ {text ts ws : List ℕ} {count : ℕ} {os : List Bool} {s : List ℕ} {g : Sought} {read cs : List ℕ} {d : Doc} {q : Query} {marks : List Bool} {x : Tally}
+    (p : Prepared text ts ws count os s g read cs d q) (j : Judged d q marks x) where
   -- the lines of the marked rows are those of the rows given
   lines-given : linesMarked text ws (take (g .chosen) cs) marks count ≡ flatten (map (λ r. rowLine (take (g .chosen) cs) (r .values)) (keep (isGiven d q) (rowsIn (q .table) (d .rows))))
   unfolding rowsIn

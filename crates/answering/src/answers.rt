@@ -4,6 +4,7 @@ use crate::lines::put_lines;
 use judging::fates::judge_rows;
 use judging::sought::Sought;
 use judging::tally::Tally;
+use judging::tests::TEST_CELLS;
 use workspace::layout::COLUMNS;
 use workspace::layout::LABELS;
 use workspace::layout::ROW_CELLS;
@@ -142,11 +143,11 @@ pub fn answer_rows(
     opened: &[bool; LABELS],
     query: &[u8],
     s: Sought,
-    ops: &[usize; 64],
+    tests: &[usize; TEST_CELLS],
     columns: &[usize; 80],
     out: &mut [u8],
 ) -> Measured
-    ensures { λ x. ⌜ ((d : Doc) (q : Query) → Prepared (now (text .entry)) (now (tables .entry)) (now (rows .entry)) count (now (opened .entry)) (now (query .entry)) s (now (ops .entry)) (now (columns .entry)) d q → Writes (answerTo q (seenRows d q)) (now (out .entry)) (now (out .exit)) x) ⌝ }
+    ensures { λ x. ⌜ ((d : Doc) (q : Query) → Prepared (now (text .entry)) (now (tables .entry)) (now (rows .entry)) count (now (opened .entry)) (now (query .entry)) s (now (tests .entry)) (now (columns .entry)) d q → Writes (answerTo q (seenRows d q)) (now (out .entry)) (now (out .exit)) x) ⌝ }
 {
     // A prepared query passes these: they keep lengths from wrapping.
     if TEXT_BYTES < text.len() {
@@ -167,7 +168,7 @@ pub fn answer_rows(
         opened,
         query,
         s,
-        ops,
+        tests,
         columns,
         &mut marks,
     );

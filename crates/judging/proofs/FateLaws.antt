@@ -13,7 +13,6 @@ use Rattle.answer.specs.Seen.{rowsIn}
 use Rattle.judging.proofs.TestLaws.{stored-more}
 use Rattle.judging.specs.Judging.{Judgeable, JudgedTo, countedBy, fateHere, fateOf, passedBy}
 use Rattle.judging.specs.Prepared.{Judged, Prepared}
-use Rattle.judging.specs.Tests.{Tested}
 use Rattle.judging.specs.declared.fates.Fate.the-variants as fate
 use Rattle.judging.specs.declared.fates.Fate.{Fate}
 use Rattle.judging.specs.declared.sought.Sought.{Sought}
@@ -85,11 +84,11 @@ module _ (text ws : List ℕ) (count : ℕ) (os : List Bool) (s : List ℕ) (g :
           go true e = fate-withheld e
           go false e = fate-judged e z (met ∙ ap (λ (b : Bool). not b && matches (q .condition) (rowIn text ws r .values)) e) z refl
 
--- a prepared query is ready for the rows, once its comparisons are read
-pub judgeable : (text ts ws : List ℕ) (count : ℕ) (os : List Bool) (s : List ℕ) (g : Sought) (ops cs : List ℕ) (d : Doc) (q : Query) → Prepared text ts ws count os s g ops cs d q
+-- a prepared query is ready for the rows
+pub judgeable : (text ts ws : List ℕ) (count : ℕ) (os : List Bool) (s : List ℕ) (g : Sought) (rs cs : List ℕ) (d : Doc) (q : Query) → Prepared text ts ws count os s g rs cs d q
     → (code : coded.Scheme) → (g .table < 8 → schemeIn ts (g .table) ≡ schemeBy code (tableLabelIn ts (g .table)) (columnLabelsIn ts (g .table)))
-    → (rs : List ℕ) → Tested s rs (g .tests) (q .condition) → Judgeable text ws count os s g code cs rs d q
-judgeable text ts ws count os s g ops cs d q pr code is rs tested = record {
+    → Judgeable text ws count os s g code cs rs d q
+judgeable text ts ws count os s g rs cs d q pr code is = record {
   rows = pr .rows;
   table = pr .table;
   label = tableLabelIn ts (g .table);
@@ -100,7 +99,7 @@ judgeable text ts ws count os s g ops cs d q pr code is rs tested = record {
       ∙ ap (schemeAt (d .policy)) (sym (pr .table));
   opened = pr .opened;
   named = pr .named;
-  tested = tested;
+  tested = pr .tested;
 }
 
 -- the second test, where the row is withheld and where it is not

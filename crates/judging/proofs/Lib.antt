@@ -1,6 +1,8 @@
--- Laws of judging the rows. Assumes nothing.
+-- Laws of reading the comparisons and of judging the rows. Assumes nothing.
 pub mod ValueLaws
 pub mod OpenCells
+pub mod ConstantLaws
 pub mod TestLaws
+pub mod TypeLaws
 pub mod MatchLaws
 pub mod FateLaws

@@ -1,4 +1,5 @@
--- The condition of a prepared query: running its program by the comparisons that were read is evaluating it. Assumes nothing.
+-- The condition of a query as it was read: what is wrong with its types, and that running its program by the comparisons is evaluating
+-- it. Assumes nothing.
 use Prim.Native.Nat.{_+_, _<_, _≤_, suc, zero, ℕ}
 use lib.ListN.{drop, getD, getElem?, length, length-append, length-map, take}
 use lib.Seq.{getD-drop, getD-take, length-take-le}
@@ -8,19 +9,20 @@ use mathlib.Core.Option.{Option, Option·getD, Option·map, bind, none, some}
 use mathlib.Core.Path.{_∙_, _≡_, ap, refl, subst, sym}
 use native.Mathlib.Omega.{arith}
 use Rattle.answer.specs.Answer.{matches}
-use Rattle.judging.specs.Prepared.{Prepared}
-use Rattle.judging.specs.Tests.{ProgramOf, TestOf, Tested, comparisonBy, testIn}
+use Rattle.judging.proofs.TypeLaws.{tabulated-taken, wrong-read}
+use Rattle.judging.specs.Reading.{Comparable, TestsRead, firstWrong, wrongBy}
+use Rattle.judging.specs.Tests.{ProgramOf, TestOf, comparisonBy, testIn}
 use Rattle.judging.specs.declared.sought.Sought.{Sought}
 use Rattle.judging.specs.declared.tests.TestRead.{TestRead}
 use Rattle.condition.proofs.CondLaws.{holds-map}
 use Rattle.condition.specs.Answers.{comparedAt, comparedIn, heldRead}
 use Rattle.condition.specs.Comparison.{Comparison, meets}
 use Rattle.condition.specs.Cond.{Cond, Conds, both, comparisons, comparisonsIn, comparisonsOf, either, last, mapCond, more, negate, test}
-use Rattle.condition.specs.CondForm.{Compared, conditionInForm}
+use Rattle.condition.specs.CondForm.{Compared, conditionInForm, mistyped}
 use Rattle.condition.specs.Kinds.{numbers}
 use Rattle.condition.specs.declared.conditions.Read.{Read}
 use Rattle.document.specs.Lookup.{columnKind, columnOf, columnsAt}
-use Rattle.document.specs.Policy.{Column, Doc, Policy}
+use Rattle.document.specs.Policy.{Column, Policy}
 use Rattle.relations.proofs.TableLaws.{column-at, column-inside, table-inside}
 use Rattle.relations.specs.Tables.{Tables, columnIn, columnKindIn}
 use Rattle.lists.proofs.ListLaws.{all-map, findIndex-found, map-map, there-some}
@@ -29,12 +31,14 @@ use Rattle.lists.specs.Lists.{allOf, orZero, there}
 use Rattle.program.proofs.ProgramLaws.{Agree, program-holds}
 use Rattle.program.specs.Program.{Programmed, comesTo}
 use Rattle.query.specs.QueryPlaces.{conditionAt}
-use Rattle.query.specs.Query.{Query, columnComparison}
+use Rattle.query.specs.Query.{columnComparison}
 use Rattle.query.specs.declared.reading.Test.the-variants as tests
 use Rattle.query.specs.declared.reading.Test.{Test}
 use Rattle.text.specs.Numbers.{Value}
 use Rattle.text.specs.Reader.{Left, from}
-use Rattle.text.specs.Words.{isCalled, wordAt}
+use Rattle.text.specs.Offending.{leftmost}
+use Rattle.text.specs.Words.{Word, isCalled, wordAt}
+use Rattle.workspace.proofs.TabulatedLaws.{tabulated-same}
 
 -- a condition has one comparison at least
 mutual
@@ -115,12 +119,24 @@ module _ (text ts : List ℕ) (k t : ℕ) (d : Policy) (tables : Tables text ts 
     value = wordAt s (h .place i);
   }
 
--- ---- the condition of a prepared query
+  -- and tells what is wrong with its types
+  wrong-is : (y n : ℕ) (x : TestRead) → TestOf ts t s op c y n x → wrongBy s x ≡ mistyped (columnKind (columnsAt d t) (comparedAt s op .of)) (comparedAt s op)
+  wrong-is y n x h =
+      wrong-read ts t s op c y n x h
+      ∙ ap (λ k. mistyped k (comparedAt s op)) (h .kind (table-inside text ts k t d tables inside) (column-inside text ts k t d tables inside c number-inside) ∙ sym kind-is)
 
-module _ (text ts ws : List ℕ) (count : ℕ) (os : List Bool) (s : List ℕ) (g : Sought) (ops cs : List ℕ) (d : Doc) (q : Query)
-    (pr : Prepared text ts ws count os s g ops cs d q) (long : g .tests ≤ length ops) where
+-- ---- the condition of a query whose columns are known
+
+module _ (text ts s : List ℕ) (g : Sought) (ops cs : List ℕ) (d : Policy) (pr : Comparable text ts s g ops cs d) (long : g .tests ≤ length ops) where
   abbrev columns : List Column
-  columns = columnsAt (d .policy) (g .table)
+  columns = columnsAt d (g .table)
+
+  abbrev resolved : Option (Cond Comparison)
+  resolved = Option·map (mapCond (columnComparison columns)) (conditionAt s (g .test))
+
+  -- what is wrong with the types of a comparison
+  abbrev wrong : Compared → Option Word
+  wrong x = mistyped (columnKind columns (x .of)) x
 
   abbrev number : ℕ → ℕ
   number p = orZero (columnOf columns (comparedAt s p .of))
@@ -141,8 +157,8 @@ module _ (text ts ws : List ℕ) (count : ℕ) (os : List Bool) (s : List ℕ) (
   compared-many = ap length (sym (pr .compared)) ∙ length-map (take (g .tests) ops) (comparedAt s) ∙ length-take-le (g .tests) ops long
 
   -- no comparisons, and so no condition
-  absent-here : g .tests ≡ 0 → (vs : List Value) → matches (q .condition) vs ≡ true
-  absent-here e vs = ap (λ c. matches c vs) (pr .condition) ∙ matches-none (columnComparison columns) vs (conditionAt s (g .test)) (compared-many ∙ e)
+  absent-here : g .tests ≡ 0 → (vs : List Value) → matches resolved vs ≡ true
+  absent-here e vs = matches-none (columnComparison columns) vs (conditionAt s (g .test)) (compared-many ∙ e)
 
   -- the comparisons that were read, by the numbers of their places
   module _ (trues falses : List ℕ) (flips : List Bool) (rs : List ℕ)
@@ -156,7 +172,7 @@ module _ (text ts ws : List ℕ) (count : ℕ) (os : List Bool) (s : List ℕ) (
       says-it j l =
           says j l
           ∙ ap (λ (c : Comparison). meets c (getD vs (c .of) []))
-          (comparison-is text ts (pr .tableCount) (g .table) (d .policy) (pr .tables) (pr .inside) s (getD ops j 0) (getD cs (g .chosen + j) 0) (there-at j l) (number-at j l) (getD trues j 0) (getD falses j 0) (testIn rs j) (each j l))
+          (comparison-is text ts (pr .tableCount) (g .table) d (pr .tables) (pr .inside) s (getD ops j 0) (getD cs (g .chosen + j) 0) (there-at j l) (number-at j l) (getD trues j 0) (getD falses j 0) (testIn rs j) (each j l))
 
       agreed : Agree F holdsOfIt 0 (map (comparedAt s) (take (g .tests) ops))
       agreed j h =
@@ -178,9 +194,9 @@ module _ (text ts ws : List ℕ) (count : ℕ) (os : List Bool) (s : List ℕ) (
         some-here : 1 ≤ length (comparedIn (conditionInForm (from s at)))
         some-here = omega (arith, least, ap length compared-here, length-map (take (g .tests) ops) (comparedAt s), length-take-le (g .tests) ops long)
 
-        held-here : matches (q .condition) vs ≡ heldRead holdsOfIt (conditionInForm (from s at))
+        held-here : matches resolved vs ≡ heldRead holdsOfIt (conditionInForm (from s at))
         held-here =
-            ap (λ c. matches c vs) (pr .condition ∙ ap (Option·map (mapCond (columnComparison columns))) here)
+            ap (λ c. matches (Option·map (mapCond (columnComparison columns)) c) vs) here
             ∙ matches-read (columnComparison columns) vs (conditionInForm (from s at)) some-here
 
         runs-read : (o : Option (Cond Compared × Left)) → conditionInForm (from s at) ≡ o → comesTo (λ odd. F) trues falses flips (g .tests) ≡ heldRead holdsOfIt o
@@ -193,23 +209,37 @@ module _ (text ts ws : List ℕ) (count : ℕ) (os : List Bool) (s : List ℕ) (
             ap (comesTo (λ odd. F) trues falses flips) (sym many)
             ∙ program-holds s at result trues falses flips p (r .0) (r .1) z fits (λ odd. F) holdsOfIt agree agree
 
-        runs-when : comesTo (λ odd. F) trues falses flips (g .tests) ≡ matches (q .condition) vs
+        runs-when : comesTo (λ odd. F) trues falses flips (g .tests) ≡ matches resolved vs
         runs-when = runs-read (conditionInForm (from s at)) refl ∙ sym held-here
 
-      runs-by : ProgramOf s (g .test) trues falses flips → 0 < g .tests → (t : Test) → g .test ≡ t → comesTo (λ odd. F) trues falses flips (g .tests) ≡ matches (q .condition) vs
+      runs-by : ProgramOf s (g .test) trues falses flips → 0 < g .tests → (t : Test) → g .test ≡ t → comesTo (λ odd. F) trues falses flips (g .tests) ≡ matches resolved vs
       unfolding conditionAt comparisonsIn
       runs-by p least tests.Always e = absurd (omega (arith, least, compared-many, ap (λ (z : Test). length (comparisonsIn (conditionAt s z))) e))
       runs-by p least (tests.When at n) e = runs-when at n e (p .result) (p .is at n e) least
 
-    pub condition-tested : ProgramOf s (g .test) trues falses flips → Tested s rs (g .tests) (q .condition)
-    condition-tested p = record {
-      few = pr .few;
-      sized = λ j l. each j l .sized;
-      trues = trues;
-      falses = falses;
-      flips = flips;
-      hit = λ j l. each j l .hit;
-      miss = λ j l. each j l .miss;
-      absent = absent-here;
-      runs = λ least F vs says. runs-by F vs says p least (g .test) refl;
+    -- 16, as the array tells it
+    wrong-told : firstWrong s rs (g .tests) ≡ leftmost (map wrong (comparisonsIn (conditionAt s (g .test))))
+    unfolding firstWrong
+    wrong-told =
+        ap leftmost
+        (tabulated-same (λ j. wrongBy s (testIn rs j)) (λ j. wrong (comparedAt s (getD ops j 0))) (g .tests)
+        (λ j l. wrong-is text ts (pr .tableCount) (g .table) d (pr .tables) (pr .inside) s (getD ops j 0) (getD cs (g .chosen + j) 0) (there-at j l) (number-at j l) (getD trues j 0) (getD falses j 0) (testIn rs j) (each j l))
+        ∙ tabulated-taken (λ p. wrong (comparedAt s p)) (g .tests) ops long
+        ∙ sym (map-map wrong (comparedAt s) (take (g .tests) ops))
+        ∙ ap (map wrong) (pr .compared))
+
+    pub tests-read : ProgramOf s (g .test) trues falses flips → TestsRead s g rs columns
+    tests-read p = record {
+      wrong = wrong-told;
+      tested = record {
+        few = pr .few;
+        sized = λ j l. each j l .sized;
+        trues = trues;
+        falses = falses;
+        flips = flips;
+        hit = λ j l. each j l .hit;
+        miss = λ j l. each j l .miss;
+        absent = absent-here;
+        runs = λ least F vs says. runs-by F vs says p least (g .test) refl;
+      };
     }

@@ -49,7 +49,7 @@ module _ (text ws : List ℕ) (r : ℕ) (s : List ℕ) (x : TestRead) (o : Op) (
   pub holds-numbers : x .kind ≡ 0 → Sized s x → (k n : ℕ) → k ≡ orZero (rank v) → n ≡ x .rank → b ≡ ranksMeet o k n → b ≡ testHolds text ws r s x
   unfolding testHolds meets valuesMeet kindOfCell
   holds-numbers z sized k n ek en h =
-      h ∙ (λ i. ranksMeet (eo i) ((ek ∙ ap (λ (w : Value). orZero (rank w)) ev) i) ((en ∙ sized .ranked) i))
+      h ∙ (λ i. ranksMeet (eo i) ((ek ∙ ap (λ (w : Value). orZero (rank w)) ev) i) ((en ∙ sized .ranked (ap kindOfCell z)) i))
       ∙ ap (λ (y : ℕ). valuesMeet (kindOfCell y) (operatorBy (x .operator)) (getD (rowIn text ws r .values) (x .column) []) (wordAt s (x .place))) (sym z)
 
   -- of names
@@ -71,126 +71,165 @@ stored-more P bs j b l old new =
 -- the array ws with comparison j stored, number by number
 module _ (ws : List ℕ) (j : ℕ) (x : TestRead) where
   abbrev with-column : List ℕ
-  with-column = set ws (8 * j) (x .column)
+  with-column = set ws (10 * j) (x .column)
 
   abbrev with-kind : List ℕ
-  with-kind = set with-column (8 * j + 1) (x .kind)
+  with-kind = set with-column (10 * j + 1) (x .kind)
 
   abbrev with-operator : List ℕ
-  with-operator = set with-kind (8 * j + 2) (x .operator)
+  with-operator = set with-kind (10 * j + 2) (x .operator)
+
+  abbrev with-sign : List ℕ
+  with-sign = set with-operator (10 * j + 3) (x .sign)
 
   abbrev with-place : List ℕ
-  with-place = set with-operator (8 * j + 3) (x .place)
+  with-place = set with-sign (10 * j + 4) (x .place)
 
   abbrev with-size : List ℕ
-  with-size = set with-place (8 * j + 4) (x .size)
+  with-size = set with-place (10 * j + 5) (x .size)
+
+  abbrev with-fits : List ℕ
+  with-fits = set with-size (10 * j + 6) (x .fits)
 
   abbrev with-rank : List ℕ
-  with-rank = set with-size (8 * j + 5) (x .rank)
+  with-rank = set with-fits (10 * j + 7) (x .rank)
 
   abbrev with-hit : List ℕ
-  with-hit = set with-rank (8 * j + 6) (x .hit)
+  with-hit = set with-rank (10 * j + 8) (x .hit)
 
   abbrev with-miss : List ℕ
-  with-miss = set with-hit (8 * j + 7) (x .miss)
+  with-miss = set with-hit (10 * j + 9) (x .miss)
 
-  module _ (l : 8 * j + 7 < length ws) where
-    pub long-column : 8 * j + 7 < length with-column
-    long-column = omega (arith, l, length-set ws (8 * j) (x .column))
+  module _ (l : 10 * j + 9 < length ws) where
+    pub long-column : 10 * j + 9 < length with-column
+    long-column = omega (arith, l, length-set ws (10 * j) (x .column))
 
-    pub long-kind : 8 * j + 7 < length with-kind
-    long-kind = omega (arith, long-column, length-set with-column (8 * j + 1) (x .kind))
+    pub long-kind : 10 * j + 9 < length with-kind
+    long-kind = omega (arith, long-column, length-set with-column (10 * j + 1) (x .kind))
 
-    pub long-operator : 8 * j + 7 < length with-operator
-    long-operator = omega (arith, long-kind, length-set with-kind (8 * j + 2) (x .operator))
+    pub long-operator : 10 * j + 9 < length with-operator
+    long-operator = omega (arith, long-kind, length-set with-kind (10 * j + 2) (x .operator))
 
-    pub long-place : 8 * j + 7 < length with-place
-    long-place = omega (arith, long-operator, length-set with-operator (8 * j + 3) (x .place))
+    pub long-sign : 10 * j + 9 < length with-sign
+    long-sign = omega (arith, long-operator, length-set with-operator (10 * j + 3) (x .sign))
 
-    pub long-size : 8 * j + 7 < length with-size
-    long-size = omega (arith, long-place, length-set with-place (8 * j + 4) (x .size))
+    pub long-place : 10 * j + 9 < length with-place
+    long-place = omega (arith, long-sign, length-set with-sign (10 * j + 4) (x .place))
 
-    pub long-rank : 8 * j + 7 < length with-rank
-    long-rank = omega (arith, long-size, length-set with-size (8 * j + 5) (x .rank))
+    pub long-size : 10 * j + 9 < length with-size
+    long-size = omega (arith, long-place, length-set with-place (10 * j + 5) (x .size))
 
-    pub long-hit : 8 * j + 7 < length with-hit
-    long-hit = omega (arith, long-rank, length-set with-rank (8 * j + 6) (x .hit))
+    pub long-fits : 10 * j + 9 < length with-fits
+    long-fits = omega (arith, long-size, length-set with-size (10 * j + 6) (x .fits))
 
-    column-is : getD with-miss (8 * j) 0 ≡ x .column
+    pub long-rank : 10 * j + 9 < length with-rank
+    long-rank = omega (arith, long-fits, length-set with-fits (10 * j + 7) (x .rank))
+
+    pub long-hit : 10 * j + 9 < length with-hit
+    long-hit = omega (arith, long-rank, length-set with-rank (10 * j + 8) (x .hit))
+
+    column-is : getD with-miss (10 * j) 0 ≡ x .column
     column-is =
-        getD-set-other with-hit (8 * j + 7) (8 * j) (x .miss) 0 (λ e. omega (arith, e))
-        ∙ getD-set-other with-rank (8 * j + 6) (8 * j) (x .hit) 0 (λ e. omega (arith, e))
-        ∙ getD-set-other with-size (8 * j + 5) (8 * j) (x .rank) 0 (λ e. omega (arith, e))
-        ∙ getD-set-other with-place (8 * j + 4) (8 * j) (x .size) 0 (λ e. omega (arith, e))
-        ∙ getD-set-other with-operator (8 * j + 3) (8 * j) (x .place) 0 (λ e. omega (arith, e))
-        ∙ getD-set-other with-kind (8 * j + 2) (8 * j) (x .operator) 0 (λ e. omega (arith, e))
-        ∙ getD-set-other with-column (8 * j + 1) (8 * j) (x .kind) 0 (λ e. omega (arith, e))
-        ∙ getD-set-same ws (8 * j) (x .column) 0 (omega (arith, l))
+        getD-set-other with-hit (10 * j + 9) (10 * j) (x .miss) 0 (λ e. omega (arith, e))
+        ∙ getD-set-other with-rank (10 * j + 8) (10 * j) (x .hit) 0 (λ e. omega (arith, e))
+        ∙ getD-set-other with-fits (10 * j + 7) (10 * j) (x .rank) 0 (λ e. omega (arith, e))
+        ∙ getD-set-other with-size (10 * j + 6) (10 * j) (x .fits) 0 (λ e. omega (arith, e))
+        ∙ getD-set-other with-place (10 * j + 5) (10 * j) (x .size) 0 (λ e. omega (arith, e))
+        ∙ getD-set-other with-sign (10 * j + 4) (10 * j) (x .place) 0 (λ e. omega (arith, e))
+        ∙ getD-set-other with-operator (10 * j + 3) (10 * j) (x .sign) 0 (λ e. omega (arith, e))
+        ∙ getD-set-other with-kind (10 * j + 2) (10 * j) (x .operator) 0 (λ e. omega (arith, e))
+        ∙ getD-set-other with-column (10 * j + 1) (10 * j) (x .kind) 0 (λ e. omega (arith, e))
+        ∙ getD-set-same ws (10 * j) (x .column) 0 (omega (arith, l))
 
-    kind-is : getD with-miss (8 * j + 1) 0 ≡ x .kind
+    kind-is : getD with-miss (10 * j + 1) 0 ≡ x .kind
     kind-is =
-        getD-set-other with-hit (8 * j + 7) (8 * j + 1) (x .miss) 0 (λ e. omega (arith, e))
-        ∙ getD-set-other with-rank (8 * j + 6) (8 * j + 1) (x .hit) 0 (λ e. omega (arith, e))
-        ∙ getD-set-other with-size (8 * j + 5) (8 * j + 1) (x .rank) 0 (λ e. omega (arith, e))
-        ∙ getD-set-other with-place (8 * j + 4) (8 * j + 1) (x .size) 0 (λ e. omega (arith, e))
-        ∙ getD-set-other with-operator (8 * j + 3) (8 * j + 1) (x .place) 0 (λ e. omega (arith, e))
-        ∙ getD-set-other with-kind (8 * j + 2) (8 * j + 1) (x .operator) 0 (λ e. omega (arith, e))
-        ∙ getD-set-same with-column (8 * j + 1) (x .kind) 0 (omega (arith, long-column))
+        getD-set-other with-hit (10 * j + 9) (10 * j + 1) (x .miss) 0 (λ e. omega (arith, e))
+        ∙ getD-set-other with-rank (10 * j + 8) (10 * j + 1) (x .hit) 0 (λ e. omega (arith, e))
+        ∙ getD-set-other with-fits (10 * j + 7) (10 * j + 1) (x .rank) 0 (λ e. omega (arith, e))
+        ∙ getD-set-other with-size (10 * j + 6) (10 * j + 1) (x .fits) 0 (λ e. omega (arith, e))
+        ∙ getD-set-other with-place (10 * j + 5) (10 * j + 1) (x .size) 0 (λ e. omega (arith, e))
+        ∙ getD-set-other with-sign (10 * j + 4) (10 * j + 1) (x .place) 0 (λ e. omega (arith, e))
+        ∙ getD-set-other with-operator (10 * j + 3) (10 * j + 1) (x .sign) 0 (λ e. omega (arith, e))
+        ∙ getD-set-other with-kind (10 * j + 2) (10 * j + 1) (x .operator) 0 (λ e. omega (arith, e))
+        ∙ getD-set-same with-column (10 * j + 1) (x .kind) 0 (omega (arith, long-column))
 
-    operator-is : getD with-miss (8 * j + 2) 0 ≡ x .operator
+    operator-is : getD with-miss (10 * j + 2) 0 ≡ x .operator
     operator-is =
-        getD-set-other with-hit (8 * j + 7) (8 * j + 2) (x .miss) 0 (λ e. omega (arith, e))
-        ∙ getD-set-other with-rank (8 * j + 6) (8 * j + 2) (x .hit) 0 (λ e. omega (arith, e))
-        ∙ getD-set-other with-size (8 * j + 5) (8 * j + 2) (x .rank) 0 (λ e. omega (arith, e))
-        ∙ getD-set-other with-place (8 * j + 4) (8 * j + 2) (x .size) 0 (λ e. omega (arith, e))
-        ∙ getD-set-other with-operator (8 * j + 3) (8 * j + 2) (x .place) 0 (λ e. omega (arith, e))
-        ∙ getD-set-same with-kind (8 * j + 2) (x .operator) 0 (omega (arith, long-kind))
+        getD-set-other with-hit (10 * j + 9) (10 * j + 2) (x .miss) 0 (λ e. omega (arith, e))
+        ∙ getD-set-other with-rank (10 * j + 8) (10 * j + 2) (x .hit) 0 (λ e. omega (arith, e))
+        ∙ getD-set-other with-fits (10 * j + 7) (10 * j + 2) (x .rank) 0 (λ e. omega (arith, e))
+        ∙ getD-set-other with-size (10 * j + 6) (10 * j + 2) (x .fits) 0 (λ e. omega (arith, e))
+        ∙ getD-set-other with-place (10 * j + 5) (10 * j + 2) (x .size) 0 (λ e. omega (arith, e))
+        ∙ getD-set-other with-sign (10 * j + 4) (10 * j + 2) (x .place) 0 (λ e. omega (arith, e))
+        ∙ getD-set-other with-operator (10 * j + 3) (10 * j + 2) (x .sign) 0 (λ e. omega (arith, e))
+        ∙ getD-set-same with-kind (10 * j + 2) (x .operator) 0 (omega (arith, long-kind))
 
-    place-is : getD with-miss (8 * j + 3) 0 ≡ x .place
+    sign-is : getD with-miss (10 * j + 3) 0 ≡ x .sign
+    sign-is =
+        getD-set-other with-hit (10 * j + 9) (10 * j + 3) (x .miss) 0 (λ e. omega (arith, e))
+        ∙ getD-set-other with-rank (10 * j + 8) (10 * j + 3) (x .hit) 0 (λ e. omega (arith, e))
+        ∙ getD-set-other with-fits (10 * j + 7) (10 * j + 3) (x .rank) 0 (λ e. omega (arith, e))
+        ∙ getD-set-other with-size (10 * j + 6) (10 * j + 3) (x .fits) 0 (λ e. omega (arith, e))
+        ∙ getD-set-other with-place (10 * j + 5) (10 * j + 3) (x .size) 0 (λ e. omega (arith, e))
+        ∙ getD-set-other with-sign (10 * j + 4) (10 * j + 3) (x .place) 0 (λ e. omega (arith, e))
+        ∙ getD-set-same with-operator (10 * j + 3) (x .sign) 0 (omega (arith, long-operator))
+
+    place-is : getD with-miss (10 * j + 4) 0 ≡ x .place
     place-is =
-        getD-set-other with-hit (8 * j + 7) (8 * j + 3) (x .miss) 0 (λ e. omega (arith, e))
-        ∙ getD-set-other with-rank (8 * j + 6) (8 * j + 3) (x .hit) 0 (λ e. omega (arith, e))
-        ∙ getD-set-other with-size (8 * j + 5) (8 * j + 3) (x .rank) 0 (λ e. omega (arith, e))
-        ∙ getD-set-other with-place (8 * j + 4) (8 * j + 3) (x .size) 0 (λ e. omega (arith, e))
-        ∙ getD-set-same with-operator (8 * j + 3) (x .place) 0 (omega (arith, long-operator))
+        getD-set-other with-hit (10 * j + 9) (10 * j + 4) (x .miss) 0 (λ e. omega (arith, e))
+        ∙ getD-set-other with-rank (10 * j + 8) (10 * j + 4) (x .hit) 0 (λ e. omega (arith, e))
+        ∙ getD-set-other with-fits (10 * j + 7) (10 * j + 4) (x .rank) 0 (λ e. omega (arith, e))
+        ∙ getD-set-other with-size (10 * j + 6) (10 * j + 4) (x .fits) 0 (λ e. omega (arith, e))
+        ∙ getD-set-other with-place (10 * j + 5) (10 * j + 4) (x .size) 0 (λ e. omega (arith, e))
+        ∙ getD-set-same with-sign (10 * j + 4) (x .place) 0 (omega (arith, long-sign))
 
-    size-is : getD with-miss (8 * j + 4) 0 ≡ x .size
+    size-is : getD with-miss (10 * j + 5) 0 ≡ x .size
     size-is =
-        getD-set-other with-hit (8 * j + 7) (8 * j + 4) (x .miss) 0 (λ e. omega (arith, e))
-        ∙ getD-set-other with-rank (8 * j + 6) (8 * j + 4) (x .hit) 0 (λ e. omega (arith, e))
-        ∙ getD-set-other with-size (8 * j + 5) (8 * j + 4) (x .rank) 0 (λ e. omega (arith, e))
-        ∙ getD-set-same with-place (8 * j + 4) (x .size) 0 (omega (arith, long-place))
+        getD-set-other with-hit (10 * j + 9) (10 * j + 5) (x .miss) 0 (λ e. omega (arith, e))
+        ∙ getD-set-other with-rank (10 * j + 8) (10 * j + 5) (x .hit) 0 (λ e. omega (arith, e))
+        ∙ getD-set-other with-fits (10 * j + 7) (10 * j + 5) (x .rank) 0 (λ e. omega (arith, e))
+        ∙ getD-set-other with-size (10 * j + 6) (10 * j + 5) (x .fits) 0 (λ e. omega (arith, e))
+        ∙ getD-set-same with-place (10 * j + 5) (x .size) 0 (omega (arith, long-place))
 
-    rank-is : getD with-miss (8 * j + 5) 0 ≡ x .rank
+    fits-is : getD with-miss (10 * j + 6) 0 ≡ x .fits
+    fits-is =
+        getD-set-other with-hit (10 * j + 9) (10 * j + 6) (x .miss) 0 (λ e. omega (arith, e))
+        ∙ getD-set-other with-rank (10 * j + 8) (10 * j + 6) (x .hit) 0 (λ e. omega (arith, e))
+        ∙ getD-set-other with-fits (10 * j + 7) (10 * j + 6) (x .rank) 0 (λ e. omega (arith, e))
+        ∙ getD-set-same with-size (10 * j + 6) (x .fits) 0 (omega (arith, long-size))
+
+    rank-is : getD with-miss (10 * j + 7) 0 ≡ x .rank
     rank-is =
-        getD-set-other with-hit (8 * j + 7) (8 * j + 5) (x .miss) 0 (λ e. omega (arith, e))
-        ∙ getD-set-other with-rank (8 * j + 6) (8 * j + 5) (x .hit) 0 (λ e. omega (arith, e))
-        ∙ getD-set-same with-size (8 * j + 5) (x .rank) 0 (omega (arith, long-size))
+        getD-set-other with-hit (10 * j + 9) (10 * j + 7) (x .miss) 0 (λ e. omega (arith, e))
+        ∙ getD-set-other with-rank (10 * j + 8) (10 * j + 7) (x .hit) 0 (λ e. omega (arith, e))
+        ∙ getD-set-same with-fits (10 * j + 7) (x .rank) 0 (omega (arith, long-fits))
 
-    hit-is : getD with-miss (8 * j + 6) 0 ≡ x .hit
+    hit-is : getD with-miss (10 * j + 8) 0 ≡ x .hit
     hit-is =
-        getD-set-other with-hit (8 * j + 7) (8 * j + 6) (x .miss) 0 (λ e. omega (arith, e))
-        ∙ getD-set-same with-rank (8 * j + 6) (x .hit) 0 (omega (arith, long-rank))
+        getD-set-other with-hit (10 * j + 9) (10 * j + 8) (x .miss) 0 (λ e. omega (arith, e))
+        ∙ getD-set-same with-rank (10 * j + 8) (x .hit) 0 (omega (arith, long-rank))
 
-    miss-is : getD with-miss (8 * j + 7) 0 ≡ x .miss
+    miss-is : getD with-miss (10 * j + 9) 0 ≡ x .miss
     miss-is =
-        getD-set-same with-hit (8 * j + 7) (x .miss) 0 (omega (arith, long-hit))
+        getD-set-same with-hit (10 * j + 9) (x .miss) 0 (omega (arith, long-hit))
 
-    cell-kept : (p : ℕ) → p < 8 * j → getD with-miss p 0 ≡ getD ws p 0
+    cell-kept : (p : ℕ) → p < 10 * j → getD with-miss p 0 ≡ getD ws p 0
     cell-kept p h =
-        getD-set-other with-hit (8 * j + 7) p (x .miss) 0 (λ e. omega (arith, h, e))
-        ∙ getD-set-other with-rank (8 * j + 6) p (x .hit) 0 (λ e. omega (arith, h, e))
-        ∙ getD-set-other with-size (8 * j + 5) p (x .rank) 0 (λ e. omega (arith, h, e))
-        ∙ getD-set-other with-place (8 * j + 4) p (x .size) 0 (λ e. omega (arith, h, e))
-        ∙ getD-set-other with-operator (8 * j + 3) p (x .place) 0 (λ e. omega (arith, h, e))
-        ∙ getD-set-other with-kind (8 * j + 2) p (x .operator) 0 (λ e. omega (arith, h, e))
-        ∙ getD-set-other with-column (8 * j + 1) p (x .kind) 0 (λ e. omega (arith, h, e))
-        ∙ getD-set-other ws (8 * j) p (x .column) 0 (λ e. omega (arith, h, e))
+        getD-set-other with-hit (10 * j + 9) p (x .miss) 0 (λ e. omega (arith, h, e))
+        ∙ getD-set-other with-rank (10 * j + 8) p (x .hit) 0 (λ e. omega (arith, h, e))
+        ∙ getD-set-other with-fits (10 * j + 7) p (x .rank) 0 (λ e. omega (arith, h, e))
+        ∙ getD-set-other with-size (10 * j + 6) p (x .fits) 0 (λ e. omega (arith, h, e))
+        ∙ getD-set-other with-place (10 * j + 5) p (x .size) 0 (λ e. omega (arith, h, e))
+        ∙ getD-set-other with-sign (10 * j + 4) p (x .place) 0 (λ e. omega (arith, h, e))
+        ∙ getD-set-other with-operator (10 * j + 3) p (x .sign) 0 (λ e. omega (arith, h, e))
+        ∙ getD-set-other with-kind (10 * j + 2) p (x .operator) 0 (λ e. omega (arith, h, e))
+        ∙ getD-set-other with-column (10 * j + 1) p (x .kind) 0 (λ e. omega (arith, h, e))
+        ∙ getD-set-other ws (10 * j) p (x .column) 0 (λ e. omega (arith, h, e))
 
     pub test-stored : TestStored ws with-miss j x
     test-stored = record {
-      is = λ i. record { column = column-is i; kind = kind-is i; operator = operator-is i; place = place-is i; size = size-is i; rank = rank-is i; hit = hit-is i; miss = miss-is i };
-      kept = λ k h i. record { column = cell-kept (8 * k) (omega (arith, h)) i; kind = cell-kept (8 * k + 1) (omega (arith, h)) i; operator = cell-kept (8 * k + 2) (omega (arith, h)) i; place = cell-kept (8 * k + 3) (omega (arith, h)) i; size = cell-kept (8 * k + 4) (omega (arith, h)) i; rank = cell-kept (8 * k + 5) (omega (arith, h)) i; hit = cell-kept (8 * k + 6) (omega (arith, h)) i; miss = cell-kept (8 * k + 7) (omega (arith, h)) i };
+      is = λ i. record { column = column-is i; kind = kind-is i; operator = operator-is i; sign = sign-is i; place = place-is i; size = size-is i; fits = fits-is i; rank = rank-is i; hit = hit-is i; miss = miss-is i };
+      kept = λ k h i. record { column = cell-kept (10 * k) (omega (arith, h)) i; kind = cell-kept (10 * k + 1) (omega (arith, h)) i; operator = cell-kept (10 * k + 2) (omega (arith, h)) i; sign = cell-kept (10 * k + 3) (omega (arith, h)) i; place = cell-kept (10 * k + 4) (omega (arith, h)) i; size = cell-kept (10 * k + 5) (omega (arith, h)) i; fits = cell-kept (10 * k + 6) (omega (arith, h)) i; rank = cell-kept (10 * k + 7) (omega (arith, h)) i; hit = cell-kept (10 * k + 8) (omega (arith, h)) i; miss = cell-kept (10 * k + 9) (omega (arith, h)) i };
     }
 
 -- what is read of comparison j stands there, and of those before it what stood there

@@ -1,4 +1,6 @@
--- What judging the rows gives. Assumes nothing.
+-- What reading the comparisons and judging the rows give. Assumes nothing.
+pub mod Constants
 pub mod Tests
+pub mod Reading
 pub mod Prepared
 pub mod Judging

@@ -1,23 +1,20 @@
 -- Contract: A query prepared for the rows: what the lent arrays say of it.
 use Prim.Native.Nat.{_+_, _<_, _≤_, ℕ}
 use lib.Dec.{eqb}
-use lib.ListN.{drop, getD, getElem?, length, take}
+use lib.ListN.{getD, getElem?, length, take}
 use mathlib.Core.Bool.{Bool, _&&_, false, true}
-use mathlib.Core.List.{List, map}
-use mathlib.Core.Option.{Option·map, some}
+use mathlib.Core.List.{List}
+use mathlib.Core.Option.{some}
 use mathlib.Core.Path.{_≡_}
 use Rattle.answer.specs.Exactly.{isGiven, isUnmatchedRow, isWithheldRow}
 use Rattle.answer.specs.Seen.{rowsIn}
-use Rattle.condition.specs.Answers.{comparedAt}
-use Rattle.condition.specs.Cond.{comparisonsIn, mapCond}
-use Rattle.document.specs.Lookup.{columnOf, columnsAt}
 use Rattle.document.specs.Policy.{Doc, Row}
 use Rattle.relations.specs.Labels.{Opened}
 use Rattle.relations.specs.Rows.{Rows}
 use Rattle.relations.specs.Tables.{Tables}
-use Rattle.lists.specs.Lists.{allOf, countOf, orZero, there}
-use Rattle.query.specs.QueryPlaces.{conditionAt}
-use Rattle.query.specs.Query.{Query, Wanted, columnComparison, countsOnly, named, select}
+use Rattle.lists.specs.Lists.{countOf}
+use Rattle.query.specs.Query.{Query, Wanted, countsOnly, named, select}
+use Rattle.judging.specs.Tests.{Tested}
 use Rattle.judging.specs.declared.sought.Sought.{Sought}
 use Rattle.judging.specs.declared.tally.Tally.{Tally}
 
@@ -27,9 +24,9 @@ wantedBy true cs = select cs
 wantedBy false cs = countsOnly
 
 -- the arrays hold the document's tables ts and rows ws; g is what is sought of the rows, os says which labels are open to the query's
--- purpose; of the numbers cs of columns the first are selected, and then those follow that its comparisons name, whose operators
--- stand at the places ops of the query's text s
-pub record Prepared (text ts ws : List ℕ) (count : ℕ) (os : List Bool) (s : List ℕ) (g : Sought) (ops cs : List ℕ) (d : Doc) (q : Query) : Type 0 where
+-- purpose; of the numbers cs of columns the first are selected, and then those follow that its comparisons name, which are read
+-- from the query's text s
+pub record Prepared (text ts ws : List ℕ) (count : ℕ) (os : List Bool) (s : List ℕ) (g : Sought) (read cs : List ℕ) (d : Doc) (q : Query) : Type 0 where
   pub small : length text ≤ 60000
   pub tableCount : ℕ
   pub tables : Tables text ts tableCount (d .policy .tables)
@@ -37,14 +34,10 @@ pub record Prepared (text ts ws : List ℕ) (count : ℕ) (os : List Bool) (s : 
   pub rows : Rows text ws count (d .rows)
   pub table : q .table ≡ g .table
   pub opened : Opened (d .policy) (q .purpose) os
-  pub few : g .tests ≤ 64
   pub fewChosen : g .chosen ≤ 16
   pub wanted : q .wanted ≡ wantedBy (g .select) (take (g .chosen) cs)
   pub named : take (g .chosen + g .tests) cs ≡ named q
-  pub condition : q .condition ≡ Option·map (mapCond (columnComparison (columnsAt (d .policy) (g .table)))) (conditionAt s (g .test))
-  pub compared : map (comparedAt s) (take (g .tests) ops) ≡ comparisonsIn (conditionAt s (g .test))
-  pub numbers : take (g .tests) (drop (g .chosen) cs) ≡ map (λ x. orZero (columnOf (columnsAt (d .policy) (g .table)) (x .of))) (comparisonsIn (conditionAt s (g .test)))
-  pub allThere : allOf (λ x. there (columnOf (columnsAt (d .policy) (g .table)) (x .of))) (comparisonsIn (conditionAt s (g .test))) ≡ true
+  pub tested : Tested s read (g .tests) (q .condition)
 
 -- each row is judged: the marks say which rows of the query's table are given, and the counts are those of its rows
 pub record Judged (d : Doc) (q : Query) (marks : List Bool) (x : Tally) : Type 0 where

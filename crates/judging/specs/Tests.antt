@@ -1,5 +1,6 @@
--- Contract: the comparisons of a query's condition as they are read before the rows, eight numbers for each, and which hold of a row.
+-- Contract: the comparisons of a query's condition as they are read, ten numbers for each, and which hold of a row.
 use Prim.Native.Nat.{_*_, _+_, _<_, _≤_, ℕ}
+use lib.Dec.{eqb}
 use lib.ListN.{getD, length}
 use mathlib.Core.Bool.{Bool, true}
 use mathlib.Core.List.{List, []}
@@ -10,6 +11,7 @@ use Rattle.judging.specs.declared.tests.TestRead.{TestRead}
 use Rattle.condition.specs.Answers.{operatorBy, operatorOf}
 use Rattle.condition.specs.Comparison.{Comparison, meets}
 use Rattle.condition.specs.Cond.{Cond}
+use Rattle.condition.specs.Kinds.{hasKind, numbers}
 use Rattle.condition.specs.declared.conditions.Read.{Read}
 use Rattle.workspace.specs.Cells.{kindOfCell}
 use Rattle.relations.specs.Rows.{rowIn}
@@ -27,14 +29,16 @@ use Rattle.text.specs.Words.{wordAt}
 -- the comparison of number j
 abbrev pub testIn : List ℕ → ℕ → TestRead
 testIn ws j = record {
-  column = getD ws (8 * j) 0;
-  kind = getD ws (8 * j + 1) 0;
-  operator = getD ws (8 * j + 2) 0;
-  place = getD ws (8 * j + 3) 0;
-  size = getD ws (8 * j + 4) 0;
-  rank = getD ws (8 * j + 5) 0;
-  hit = getD ws (8 * j + 6) 0;
-  miss = getD ws (8 * j + 7) 0;
+  column = getD ws (10 * j) 0;
+  kind = getD ws (10 * j + 1) 0;
+  operator = getD ws (10 * j + 2) 0;
+  sign = getD ws (10 * j + 3) 0;
+  place = getD ws (10 * j + 4) 0;
+  size = getD ws (10 * j + 5) 0;
+  fits = getD ws (10 * j + 6) 0;
+  rank = getD ws (10 * j + 7) 0;
+  hit = getD ws (10 * j + 8) 0;
+  miss = getD ws (10 * j + 9) 0;
 }
 
 -- comparison j is stored, and the others stay
@@ -46,17 +50,19 @@ pub record TestStored (before after : List ℕ) (j : ℕ) (x : TestRead) : Type 
 abbrev pub comparisonBy : List ℕ → TestRead → Comparison
 comparisonBy s x = record { of = x .column; kind = kindOfCell (x .kind); op = operatorBy (x .operator); value = wordAt s (x .place) }
 
--- its size and its rank are those of its value
+-- its size is that of its value, and of a number so is its rank
 pub record Sized (s : List ℕ) (x : TestRead) : Type 0 where
   pub size : x .size ≡ length (wordAt s (x .place))
-  pub ranked : x .rank ≡ orZero (rank (wordAt s (x .place)))
+  pub ranked : kindOfCell (x .kind) ≡ numbers → x .rank ≡ orZero (rank (wordAt s (x .place)))
 
 -- x is read of the comparison of column c of table t whose operator stands at a place of s; it goes on with y or n
 pub record TestOf (ts : List ℕ) (t : ℕ) (s : List ℕ) (op c y n : ℕ) (x : TestRead) : Type 0 where
   pub column : x .column ≡ c
   pub kind : t < 8 → c < 16 → kindOfCell (x .kind) ≡ columnKindIn ts t c
   pub operator : operatorBy (x .operator) ≡ operatorOf (wordAt s op)
+  pub sign : x .sign ≡ op
   pub place : x .place ≡ nextWord s (nextWord s op)
+  pub fits : eqb (x .fits) 1 ≡ hasKind (kindOfCell (x .kind)) (wordAt s (x .place))
   pub sized : Sized s x
   pub hit : x .hit ≡ y
   pub miss : x .miss ≡ n

@@ -3,7 +3,6 @@ use crate::comparing::row_matches;
 use crate::sought::Sought;
 use crate::tally::Tally;
 use crate::tests::TEST_CELLS;
-use crate::tests::read_tests;
 use form::lines::Scheme;
 use relations::labels::opened_at;
 use relations::rows::row_label;
@@ -223,7 +222,7 @@ fn judge_each(
     x
 }
 
-// Reads the comparisons, and judges each row once.
+// Judges each row once, by the scheme of the table.
 fn judge_bounded(
     text: &[u8],
     tables: &[usize; TABLE_CELLS],
@@ -232,15 +231,13 @@ fn judge_bounded(
     opened: &[bool; LABELS],
     query: &[u8],
     s: Sought,
-    ops: &[usize; 64],
+    tests: &[usize; TEST_CELLS],
     columns: &[usize; 80],
     marks: &mut [bool; ROWS],
 ) -> Tally
     requires { ⌜ (s .chosen ≤ 16) × (s .tests ≤ 64) × (count ≤ 1024) ⌝ }
-    ensures { λ x. ⌜ ((d : Doc) (q : Query) → Prepared (now (text .entry)) (now (tables .entry)) (now (rows .entry)) count (now (opened .entry)) (now (query .entry)) s (now (ops .entry)) (now (columns .entry)) d q → Judged d q (now (marks .exit)) x) ⌝ }
+    ensures { λ x. ⌜ ((d : Doc) (q : Query) → Prepared (now (text .entry)) (now (tables .entry)) (now (rows .entry)) count (now (opened .entry)) (now (query .entry)) s (now (tests .entry)) (now (columns .entry)) d q → Judged d q (now (marks .exit)) x) ⌝ }
 {
-    let mut tests = [0usize; TEST_CELLS];
-    read_tests(tables, query, s, ops, columns, &mut tests);
     let scheme = table_scheme(tables, s.table);
     judge_each(
         text,
@@ -251,7 +248,7 @@ fn judge_bounded(
         s,
         scheme,
         columns,
-        &tests,
+        tests,
         marks,
     )
 }
@@ -266,11 +263,11 @@ pub fn judge_rows(
     opened: &[bool; LABELS],
     query: &[u8],
     s: Sought,
-    ops: &[usize; 64],
+    tests: &[usize; TEST_CELLS],
     columns: &[usize; 80],
     marks: &mut [bool; ROWS],
 ) -> Tally
-    ensures { λ x. ⌜ ((d : Doc) (q : Query) → Prepared (now (text .entry)) (now (tables .entry)) (now (rows .entry)) count (now (opened .entry)) (now (query .entry)) s (now (ops .entry)) (now (columns .entry)) d q → Judged d q (now (marks .exit)) x) ⌝ }
+    ensures { λ x. ⌜ ((d : Doc) (q : Query) → Prepared (now (text .entry)) (now (tables .entry)) (now (rows .entry)) count (now (opened .entry)) (now (query .entry)) s (now (tests .entry)) (now (columns .entry)) d q → Judged d q (now (marks .exit)) x) ⌝ }
 {
     if s.chosen <= COLUMNS {
         if s.tests <= 64 {
@@ -283,7 +280,7 @@ pub fn judge_rows(
                     opened,
                     query,
                     s,
-                    ops,
+                    tests,
                     columns,
                     marks,
                 );

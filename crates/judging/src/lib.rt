@@ -1,7 +1,10 @@
-// The rows of a query's table, each judged once: those that pass are marked, and all are counted.
+// The comparisons of a query read once, and their types (16); the rows of its table, each judged once: those that pass are marked,
+// and all are counted.
 pub mod cells;
 mod comparing;
+mod constants;
 pub mod fates;
 pub mod sought;
 pub mod tally;
-mod tests;
+pub mod tests;
+pub mod types;

@@ -1,6 +1,6 @@
-// The comparisons of a query, read once before the rows into one array.
+// The comparisons of a query, read once into one array: 16 is told from it, and the rows are judged by it.
+use crate::constants::read_constant;
 use crate::sought::Sought;
-use condition::comparisons::known_rank;
 use condition::kinds::op_at;
 use condition::kinds::op_code;
 use program::programs::read_program;
@@ -8,39 +8,38 @@ use query::reading::Test;
 use relations::tables::column_kind;
 use text::walking::next_word;
 use text::words::word_end;
+use workspace::layout::COLUMNS;
 use workspace::layout::TABLE_CELLS;
 use workspace::store::kind_cell;
 ghost use Prim.Native.Nat.{_+_, _<_, _≤_, ℕ};
 ghost use lib.ListN.{getD, length};
-ghost use mathlib.Core.Bool.{Bool};
 ghost use mathlib.Core.List.{List};
 ghost use mathlib.Core.Path.{_≡_};
-ghost use Rattle.judging.specs.Prepared.{Prepared};
-ghost use Rattle.judging.specs.Tests.{ProgramOf, TestOf, TestStored, Tested, testIn};
-ghost use Rattle.document.specs.Policy.{Doc};
-ghost use Rattle.query.specs.Query.{Query};
+ghost use Rattle.judging.specs.Reading.{Comparable, TestsRead};
+ghost use Rattle.judging.specs.Tests.{ProgramOf, TestOf, TestStored, testIn};
+ghost use Rattle.document.specs.Lookup.{columnsAt};
+ghost use Rattle.document.specs.Policy.{Policy};
 
-// How many numbers hold the comparisons of a condition: eight for each of 64.
-pub(crate) const TEST_CELLS: usize = 512;
+// How many comparisons a condition has at most.
+pub(crate) const TESTS: usize = 64;
 
-// A comparison as it is read: the number of its column, its type as a number, the code of its operator, where its value stands in
-// the query, how long the value is, and its rank; and the comparison to go on with where it holds, and where it does not.
+// How many numbers hold them: ten for each.
+pub const TEST_CELLS: usize = 640;
+
+// A comparison as it is read: the number of its column, its type as a number, the code of its operator and where that stands in the
+// query; where its value stands, how long it is, 1 if it is of the type and else 0, and its rank, if it is a number; and the
+// comparison to go on with where it holds, and where it does not.
 pub(crate) struct TestRead {
     pub column: usize,
     pub kind: usize,
     pub operator: usize,
+    pub sign: usize,
     pub place: usize,
     pub size: usize,
+    pub fits: usize,
     pub rank: usize,
     pub hit: usize,
     pub miss: usize,
-}
-
-// A rank, as a number of the array.
-fn rank_number(n: u64) -> usize
-    ensures { λ r. ⌜ r ≡ n ⌝ }
-{
-    n as usize
 }
 
 // Reads the comparison of column c of table t whose operator stands at a place of the query.
@@ -58,16 +57,20 @@ fn read_test(
     let name = next_word(query, op);
     let place = next_word(query, name);
     let end = word_end(query, place);
-    let kind = kind_cell(column_kind(tables, t, c));
+    let size = end - place;
+    let typed = column_kind(tables, t, c);
+    let kind = kind_cell(typed);
     let operator = op_code(op_at(query, op));
-    let rank = rank_number(known_rank(query, place));
+    let value = read_constant(query, place, typed);
     TestRead {
         column: c,
         kind,
         operator,
+        sign: op,
         place,
-        size: end - place,
-        rank,
+        size,
+        fits: value.fits,
+        rank: value.rank,
         hit,
         miss,
     }
@@ -79,15 +82,17 @@ fn store_test(tests: &mut [usize; TEST_CELLS], j: usize, x: TestRead)
     ensures { λ _. ⌜ TestStored (now (tests .entry)) (now (tests .exit)) j x ⌝ }
 {
     let cells: &mut [usize] = tests;
-    let at = 8 * j;
+    let at = 10 * j;
     cells[at] = x.column;
     cells[at + 1] = x.kind;
     cells[at + 2] = x.operator;
-    cells[at + 3] = x.place;
-    cells[at + 4] = x.size;
-    cells[at + 5] = x.rank;
-    cells[at + 6] = x.hit;
-    cells[at + 7] = x.miss;
+    cells[at + 3] = x.sign;
+    cells[at + 4] = x.place;
+    cells[at + 5] = x.size;
+    cells[at + 6] = x.fits;
+    cells[at + 7] = x.rank;
+    cells[at + 8] = x.hit;
+    cells[at + 9] = x.miss;
 }
 
 // Comparison j, as it was stored.
@@ -95,16 +100,18 @@ pub(crate) fn test_at(tests: &[usize; TEST_CELLS], j: usize) -> TestRead
     requires { ⌜ j < 64 ⌝ }
     ensures { λ x. ⌜ x ≡ testIn (now (tests .entry)) j ⌝ }
 {
-    let at = 8 * j;
+    let at = 10 * j;
     TestRead {
         column: tests[at],
         kind: tests[at + 1],
         operator: tests[at + 2],
-        place: tests[at + 3],
-        size: tests[at + 4],
-        rank: tests[at + 5],
-        hit: tests[at + 6],
-        miss: tests[at + 7],
+        sign: tests[at + 3],
+        place: tests[at + 4],
+        size: tests[at + 5],
+        fits: tests[at + 6],
+        rank: tests[at + 7],
+        hit: tests[at + 8],
+        miss: tests[at + 9],
     }
 }
 
@@ -159,8 +166,8 @@ fn store_tests(
     }
 }
 
-// Reads the comparisons of a prepared query, and where its condition goes on behind each.
-pub(crate) fn read_tests(
+// Reads the comparisons of a query whose columns are known, and where its condition goes on behind each.
+pub fn read_tests(
     tables: &[usize; TABLE_CELLS],
     query: &[u8],
     s: Sought,
@@ -168,9 +175,15 @@ pub(crate) fn read_tests(
     columns: &[usize; 80],
     tests: &mut [usize; TEST_CELLS],
 )
-    requires { ⌜ (s .chosen ≤ 16) × (s .tests ≤ 64) ⌝ }
-    ensures { λ _. ⌜ ((text ws : List ℕ) (count : ℕ) (os : List Bool) (d : Doc) (q : Query) → Prepared text (now (tables .entry)) ws count os (now (query .entry)) s (now (ops .entry)) (now (columns .entry)) d q → Tested (now (query .entry)) (now (tests .exit)) (s .tests) (q .condition)) ⌝ }
+    ensures { λ _. ⌜ ((text : List ℕ) (d : Policy) → Comparable text (now (tables .entry)) (now (query .entry)) s (now (ops .entry)) (now (columns .entry)) d → TestsRead (now (query .entry)) s (now (tests .exit)) (columnsAt d (s .table))) ⌝ }
 {
+    // A query passes these: they keep numbers within the arrays.
+    if COLUMNS < s.chosen {
+        return;
+    }
+    if TESTS < s.tests {
+        return;
+    }
     let mut trues = [0usize; 64];
     let mut falses = [0usize; 64];
     let mut flips = [false; 64];

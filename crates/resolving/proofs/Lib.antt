@@ -3,5 +3,4 @@ pub mod TableReads
 pub mod Resolving
 pub mod PartyLaws
 pub mod TakenLaws
-pub mod TypeLaws
 pub mod OpennessLaws

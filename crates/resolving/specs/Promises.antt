@@ -1,19 +1,16 @@
 -- Contract: what functions of this crate promise, where it takes more than a line.
-use Prim.Native.Nat.{_+_, _<_, _≤_, ℕ}
-use lib.ListN.{drop, getElem?, length, take}
+use Prim.Native.Nat.{_<_, _≤_, ℕ}
+use lib.ListN.{getElem?, length, take}
 use mathlib.Core.Bool.{Bool}
 use mathlib.Core.List.{List, [], _∷_, map}
 use mathlib.Core.Path.{_≡_}
-use Rattle.condition.specs.Answers.{comparedAt}
-use Rattle.condition.specs.CondForm.{mistyped}
-use Rattle.document.specs.Lookup.{columnKind, columnOf, columnsAt, schemeAt}
+use Rattle.document.specs.Lookup.{columnOf, columnsAt, schemeAt}
 use Rattle.document.specs.Open.{columnOpen, labelOpen, tableOpen}
 use Rattle.document.specs.Policy.{Policy}
 use Rattle.lists.specs.Lists.{orZero}
 use Rattle.query.specs.Naming.{wordsAt}
 use Rattle.relations.specs.Labels.{Opened}
 use Rattle.relations.specs.Tables.{Tables, columnLabelIn}
-use Rattle.resolving.specs.Resolved.{Compares}
 use Rattle.text.specs.CodeEnds.{offendingOf}
 use Rattle.text.specs.Offending.{leftmost, missing, unless}
 use Rattle.text.specs.Words.{wordOf}
@@ -40,17 +37,3 @@ ClosedPartPromise tables t opened query at places n columns x =
     (d : Policy) (text : List ℕ) (k p : ℕ) → Tables text tables k (d .tables) → t < k → n ≤ 80 → Opened d p opened →
     take n columns ≡ map (λ w. orZero (columnOf (columnsAt d t) w)) (wordsAt query n places) →
     offendingOf query x ≡ leftmost (unless (tableOpen (labelOpen d p) (schemeAt d t)) (wordOf query at) ∷ missing (λ w. columnOpen (labelOpen d p) (schemeAt d t) (orZero (columnOf (columnsAt d t) w))) (wordsAt query n places) ∷ [])
-
--- types::first_mistyped: what mistyped_comparison finds, by places and numbers in lists of any length
-abbrev pub FirstMistypedPromise : (tables : List ℕ) (t : ℕ) (query ops : List ℕ) (m : ℕ) (columns : List ℕ) (base : ℕ) (x : Offending) → Type 0
-FirstMistypedPromise tables t query ops m columns base x =
-    (d : Policy) (text : List ℕ) (k : ℕ) → Tables text tables k (d .tables) → t < k → m ≤ length ops → base + m ≤ length columns →
-    Compares (columnsAt d t) (map (comparedAt query) (take m ops)) (take m (drop base columns)) →
-    offendingOf query x ≡ leftmost (map (λ x. mistyped (columnKind (columnsAt d t) (x .of)) x) (map (comparedAt query) (take m ops)))
-
--- types::mistyped_comparison: the first operator or value of the wrong type among m comparisons, whose operators stand at the places `ops` and whose columns are the numbers from `base` on
-abbrev pub MistypedComparisonPromise : (tables : List ℕ) (t : ℕ) (query ops : List ℕ) (m : ℕ) (columns : List ℕ) (base : ℕ) (x : Offending) → Type 0
-MistypedComparisonPromise tables t query ops m columns base x =
-    (d : Policy) (text : List ℕ) (k : ℕ) → Tables text tables k (d .tables) → t < k → m ≤ 64 → base + m ≤ 80 →
-    Compares (columnsAt d t) (map (comparedAt query) (take m ops)) (take m (drop base columns)) →
-    offendingOf query x ≡ leftmost (map (λ x. mistyped (columnKind (columnsAt d t) (x .of)) x) (map (comparedAt query) (take m ops)))

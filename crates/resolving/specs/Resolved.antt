@@ -1,13 +1,11 @@
 -- Contract: what the code's answers stand for that resolve the names of a query.
 use Prim.Native.Nat.{ℕ}
 use lib.ListN.{take}
-use mathlib.Core.Bool.{true}
 use mathlib.Core.List.{List, map}
 use mathlib.Core.Path.{_≡_}
-use Rattle.condition.specs.CondForm.{Compared}
 use Rattle.document.specs.Lookup.{columnOf}
 use Rattle.document.specs.Policy.{Column}
-use Rattle.lists.specs.Lists.{allOf, orZero, there}
+use Rattle.lists.specs.Lists.{orZero, there}
 use Rattle.query.specs.Naming.{wordsAt}
 use Rattle.text.specs.CodeEnds.{offendingOf}
 use Rattle.text.specs.Offending.{missing}
@@ -19,8 +17,3 @@ use Rattle.text.specs.declared.offending.Offending.the-variants as offending
 pub record Resolves (cs : List Column) (s : List ℕ) (n : ℕ) (places : List ℕ) (r : Offending) (numbers : List ℕ) : Type 0 where
   pub offends : offendingOf s r ≡ missing (λ w. there (columnOf cs w)) (wordsAt s n places)
   pub numbered : r ≡ offending.Nothing → take n numbers ≡ map (λ w. orZero (columnOf cs w)) (wordsAt s n places)
-
--- the numbers are those of the columns that the comparisons name, and all of these are there
-pub record Compares (cs : List Column) (xs : List Compared) (numbers : List ℕ) : Type 0 where
-  pub are : numbers ≡ map (λ x. orZero (columnOf cs (x .of))) xs
-  pub there : allOf (λ x. there (columnOf cs (x .of))) xs ≡ true

@@ -1,5 +1,4 @@
-// The names of a query resolved against a document, and what is wrong with them: 12, 13 and 15 to 17.
+// The names of a query resolved against a document, and what is wrong with them: 12, 13, 15 and 17.
 pub mod columns;
 pub mod openness;
 pub mod parties;
-pub mod types;

@@ -7,7 +7,6 @@ use mathlib.Core.List.{List, [], _++_, _∷_, append-assoc, map}
 use mathlib.Core.Option.{Option, Option·getD, Option·map, none, some}
 use mathlib.Core.Path.{_∙_, _≡_, ap, refl, subst, sym}
 use native.Mathlib.Omega.{arith}
-use Rattle.condition.specs.Answers.{comparedAt}
 use Rattle.condition.specs.Cond.{comparisonsIn, mapCond}
 use Rattle.condition.specs.CondForm.{Compared, mistyped}
 use Rattle.document.specs.Lookup.{columnKind, columnOf, columnsAt, columnsOf, purposeOf, schemeAt, schemeOf, tableOf}
@@ -16,7 +15,10 @@ use Rattle.document.specs.Policy.{Column, Doc, Policy}
 use Rattle.form.specs.Form.{Scheme}
 use Rattle.workspace.specs.Found.{FoundBelow, foundAs}
 use Rattle.relations.specs.Labels.{Opened}
+use Rattle.relations.specs.Tables.{Tables}
 use Rattle.judging.specs.Prepared.{Prepared, wantedBy}
+use Rattle.judging.specs.Reading.{Comparable, TestsRead, firstWrong}
+use Rattle.judging.specs.Tests.{Tested}
 use Rattle.lists.proofs.ListLaws.{all-map, all-parts, map-append, map-map}
 use Rattle.lists.specs.Lists.{allOf, orZero, there}
 use Rattle.query.proofs.BodiesRead.{wanted-count, wanted-there}
@@ -25,10 +27,10 @@ use Rattle.query.specs.Naming.{NamesPlaced, TestsPlaced, wordsAt}
 use Rattle.query.specs.Query.{closedPart, columnComparison, mistypedQuery, named, openFor, resolved, select, unknownColumn, wantedOf}
 use Rattle.query.specs.QueryForm.{QueryForm, namedWords, selectedWords}
 use Rattle.query.specs.QueryPlaces.{IsQuery, chosenCount, comparisonCount, conditionAt, formAt, isSelect, wantedAt}
-use Rattle.resolving.specs.Resolved.{Compares, Resolves}
+use Rattle.resolving.specs.Resolved.{Resolves}
 use Rattle.text.specs.CodeEnds.{offendingOf}
 use Rattle.stages.proofs.Chain.{no-word, number-found}
-use Rattle.stages.specs.Stages.{ColumnsKnown, InTable, Ready}
+use Rattle.stages.specs.Stages.{ColumnsKnown, Granted, InTable, soughtIn}
 use Rattle.text.proofs.OffendingLaws.{leftmost-only, missing-none}
 use Rattle.text.specs.Offending.{leftmost, missing, unless}
 use Rattle.text.specs.Words.{Word, wordOf}
@@ -178,26 +180,31 @@ module _ {d : Policy} {s : List ℕ} (q : Question) {t k : ℕ} {numbers ops : L
       sym (all-map (λ w. there (columnOf (columnsAt d t) w)) (λ (x : Compared). x .of) comparisons)
       ∙ all-parts (λ w. there (columnOf (columnsAt d t) w)) selected-words compared-words (ap (allOf (λ w. there (columnOf (columnsAt d t) w))) (sym words-are) ∙ columns .allThere) .1
 
-  -- 16: the comparisons' columns are right, so what is mistyped is what the definition says
-  compares : Compares (columnsAt d t) (map (comparedAt s) (take m ops)) (take m (drop chosen numbers))
-  compares = record {
-    are = last-numbers ∙ ap (map (λ x. K (x .of))) (sym (tests .compared));
-    there = ap (allOf (λ x. there (columnOf (columnsAt d t) (x .of)))) (tests .compared) ∙ all-there;
-  }
+  -- the comparisons can be read, g being what is sought as the code finds it
+  pub comparable : {g : Sought} {text ts : List ℕ} → g ≡ soughtIn q t → Tables text ts k (d .tables) → Comparable text ts s g ops numbers d
+  unfolding soughtIn
+  comparable {text} {ts} e held = subst (λ g. Comparable text ts s g ops numbers d) (sym e) (record {
+    tableCount = k;
+    tables = held;
+    inside = table .inside;
+    few = tests .few;
+    fewChosen = read .few .columns;
+    compared = tests .compared;
+    numbers = last-numbers;
+    allThere = all-there;
+  })
 
-  types-are : leftmost (map (λ x. mistyped (columnKind (columnsAt d t) (x .of)) x) (map (comparedAt s) (take m ops))) ≡ mistypedQuery d (formAt s q)
+  -- 16: what is mistyped is what the definition says
+  types-are : leftmost (map (λ x. mistyped (columnKind (columnsAt d t) (x .of)) x) comparisons) ≡ mistypedQuery d (formAt s q)
   unfolding mistypedQuery formAt
-  types-are =
-      ap (λ xs. leftmost (map (λ x. mistyped (columnKind (columnsAt d t) (x .of)) x) xs)) (tests .compared)
-      ∙ ap (λ ys. leftmost (map (λ x. mistyped (columnKind ys (x .of)) x) comparisons)) (sym (columns-are table))
+  types-are = ap (λ ys. leftmost (map (λ x. mistyped (columnKind ys (x .of)) x) comparisons)) (sym (columns-are table))
 
-  pub types-judged : (x : Offending) {b n : ℕ} → b ≡ chosen → n ≡ m
-      → (n ≤ 64 → b + n ≤ 80 → Compares (columnsAt d t) (map (comparedAt s) (take n ops)) (take n (drop b numbers)) → offendingOf s x ≡ leftmost (map (λ x. mistyped (columnKind (columnsAt d t) (x .of)) x) (map (comparedAt s) (take n ops))))
-      → offendingOf s x ≡ mistypedQuery d (formAt s q)
-  types-judged x {b} {n} e h f =
-      let g = subst (λ i. i ≤ 64 → chosen + i ≤ 80 → Compares (columnsAt d t) (map (comparedAt s) (take i ops)) (take i (drop chosen numbers)) → offendingOf s x ≡ leftmost (map (λ x. mistyped (columnKind (columnsAt d t) (x .of)) x) (map (comparedAt s) (take i ops)))) h
-      (subst (λ i. n ≤ 64 → i + n ≤ 80 → Compares (columnsAt d t) (map (comparedAt s) (take n ops)) (take n (drop i numbers)) → offendingOf s x ≡ leftmost (map (λ x. mistyped (columnKind (columnsAt d t) (x .of)) x) (map (comparedAt s) (take n ops)))) e f) in
-      g (tests .few) (omega (arith, read .few .columns, tests .few)) compares ∙ types-are
+  pub types-judged : {g : Sought} {ws : List ℕ} (x : Offending) → g ≡ soughtIn q t → TestsRead s g ws (columnsAt d (g .table)) → (g .tests ≤ 64 → offendingOf s x ≡ firstWrong s ws (g .tests)) → offendingOf s x ≡ mistypedQuery d (formAt s q)
+  unfolding soughtIn
+  types-judged {ws} x e r h =
+      subst (λ g. g .tests ≤ 64 → offendingOf s x ≡ firstWrong s ws (g .tests)) e h (tests .few)
+      ∙ subst (λ g. TestsRead s g ws (columnsAt d (g .table))) e r .wrong
+      ∙ types-are
 
   wanted-are : wantedOf (columnsOf d (wordOf s (q .head .table))) (wantedAt s (q .wanted)) ≡ wantedBy (isSelect (q .wanted)) (take chosen numbers)
   unfolding formAt
@@ -213,38 +220,27 @@ module _ {d : Policy} {s : List ℕ} (q : Question) {t k : ℕ} {numbers ops : L
   unfolding formAt
   condition-is = ap (λ ys. Option·map (mapCond (columnComparison ys)) (conditionAt s (q .test))) (columns-are table)
 
--- what is sought of table t: so many comparisons n, whether it is a select, and of how many columns k
-abbrev sought : Question → ℕ → ℕ → Bool → ℕ → Sought
-sought q t n b k = record { table = t; test = q .test; tests = n; select = b; chosen = k }
+-- the query is prepared for the rows, once its comparisons are read
+module _ {text ts ws : List ℕ} {c : Counts} {os : List Bool} {s : List ℕ} (q : Question) {t : ℕ} {numbers ops rs : List ℕ} {d : Doc}
+    (h : Granted text ts ws c os s q d) (table : InTable (d .policy) (formAt s q) t (c .tables)) (columns : ColumnsKnown (d .policy) (formAt s q) t numbers) (tests : TestsPlaced s (q .test) ops) where
+  as-read : TestsRead s (soughtIn q t) rs (columnsAt (d .policy) (soughtIn q t .table)) → Prepared text ts ws (c .rows) os s (soughtIn q t) rs numbers d (resolved (d .policy) (formAt s q))
+  unfolding resolved formAt soughtIn
+  as-read r = record {
+    small = h .small;
+    tableCount = c .tables;
+    tables = h .tables;
+    inside = table .inside;
+    rows = h .rows;
+    table = number-is table;
+    opened = h .opened;
+    fewChosen = h .query .few .columns;
+    wanted = wanted-are q (h .query) table columns tests;
+    named = named-are q (h .query) table columns tests;
+    tested = subst (Tested s rs (comparisonCount (q .test))) (sym (condition-is q (h .query) table columns tests)) (r .tested);
+  }
 
--- what judging asks for, by the question's own numbers
-as-read : {text ts ws : List ℕ} {c : Counts} {os : List Bool} {s : List ℕ} (q : Question) {t : ℕ} {numbers ops : List ℕ} {d : Doc}
-    → Ready text ts ws c os s q t numbers ops d
-    → Prepared text ts ws (c .rows) os s (sought q t (comparisonCount (q .test)) (isSelect (q .wanted)) (chosenCount (q .wanted))) ops numbers d (resolved (d .policy) (formAt s q))
-unfolding resolved formAt
-as-read {c} q h = record {
-  small = h .granted .small;
-  tableCount = c .tables;
-  tables = h .granted .tables;
-  inside = h .table .inside;
-  rows = h .granted .rows;
-  table = number-is (h .table);
-  opened = h .granted .opened;
-  few = h .tests .few;
-  fewChosen = h .granted .query .few .columns;
-  wanted = wanted-are q (h .granted .query) (h .table) (h .columns) (h .tests);
-  named = named-are q (h .granted .query) (h .table) (h .columns) (h .tests);
-  condition = condition-is q (h .granted .query) (h .table) (h .columns) (h .tests);
-  compared = h .tests .compared;
-  numbers = last-numbers q (h .granted .query) (h .table) (h .columns) (h .tests);
-  allThere = all-there q (h .granted .query) (h .table) (h .columns) (h .tests);
-}
-
--- the same by the code's
-pub prepared : {text ts ws : List ℕ} {c : Counts} {os : List Bool} {s : List ℕ} (q : Question) {t : ℕ} {numbers ops : List ℕ} {d : Doc} {selecting : Bool} {n chosen : ℕ}
-    → n ≡ comparisonCount (q .test) → selecting ≡ isSelect (q .wanted) → chosen ≡ chosenCount (q .wanted) → Ready text ts ws c os s q t numbers ops d
-    → Prepared text ts ws (c .rows) os s (sought q t n selecting chosen) ops numbers d (resolved (d .policy) (formAt s q))
-prepared {text} {ts} {ws} {c} {os} {s} q {t} {numbers} {ops} {d} {selecting} {n} {chosen} e f g h =
-    subst (λ i. Prepared text ts ws (c .rows) os s (sought q t i selecting chosen) ops numbers d (resolved (d .policy) (formAt s q))) (sym e)
-    (subst (λ b. Prepared text ts ws (c .rows) os s (sought q t (comparisonCount (q .test)) b chosen) ops numbers d (resolved (d .policy) (formAt s q))) (sym f)
-    (subst (λ i. Prepared text ts ws (c .rows) os s (sought q t (comparisonCount (q .test)) (isSelect (q .wanted)) i) ops numbers d (resolved (d .policy) (formAt s q))) (sym g) (as-read q h)))
+  -- by what is sought as the code finds it
+  pub prepared : {g : Sought} → g ≡ soughtIn q t → TestsRead s g rs (columnsAt (d .policy) (g .table)) → Prepared text ts ws (c .rows) os s g rs numbers d (resolved (d .policy) (formAt s q))
+  prepared e r =
+      subst (λ g. Prepared text ts ws (c .rows) os s g rs numbers d (resolved (d .policy) (formAt s q))) (sym e)
+      (as-read (subst (λ g. TestsRead s g rs (columnsAt (d .policy) (g .table))) e r))

@@ -13,10 +13,10 @@ use Rattle.relations.specs.Rows.{Rows}
 use Rattle.relations.specs.Tables.{Tables}
 use Rattle.index.specs.Workspace.{Indexed}
 use Rattle.lists.specs.Lists.{allOf, orZero, there}
-use Rattle.query.specs.Naming.{TestsPlaced}
 use Rattle.query.specs.QueryForm.{QueryForm, namedWords}
-use Rattle.query.specs.QueryPlaces.{IsQuery, formAt}
+use Rattle.query.specs.QueryPlaces.{IsQuery, chosenCount, comparisonCount, formAt, isSelect}
 use Rattle.index.specs.declared.counts.Counts.{Counts}
+use Rattle.judging.specs.declared.sought.Sought.{Sought}
 use Rattle.query.specs.declared.reading.Question.{Question}
 
 -- the arrays hold an accepted document d; where the labels' names stand is not asked for
@@ -46,9 +46,6 @@ pub record ColumnsKnown (d : Policy) (q : QueryForm) (t : ℕ) (numbers : List �
   pub numbered : take number numbers ≡ map (λ w. orZero (columnOf (columnsAt d t) w)) (namedWords q)
   pub allThere : allOf (λ w. there (columnOf (columnsAt d t) w)) (namedWords q) ≡ true
 
--- the query is ready for the rows of table t: its columns have these numbers, and its operators stand at the places ops
-pub record Ready (text ts ws : List ℕ) (c : Counts) (os : List Bool) (s : List ℕ) (q : Question) (t : ℕ) (numbers ops : List ℕ) (d : Doc) : Type 0 where
-  pub granted : Granted text ts ws c os s q d
-  pub table : InTable (d .policy) (formAt s q) t (c .tables)
-  pub columns : ColumnsKnown (d .policy) (formAt s q) t numbers
-  pub tests : TestsPlaced s (q .test) ops
+-- what the question asks of the rows of table t
+unfoldable pub soughtIn : Question → ℕ → Sought
+soughtIn q t = record { table = t; test = q .test; tests = comparisonCount (q .test); select = isSelect (q .wanted); chosen = chosenCount (q .wanted) }

@@ -5,6 +5,9 @@ use crate::refusing::refused_at;
 use answering::answers::answer_rows;
 use index::counts::Counts;
 use judging::sought::Sought;
+use judging::tests::TEST_CELLS;
+use judging::tests::read_tests;
+use judging::types::mistyped_test;
 use query::naming::named_places;
 use query::reading::Question;
 use query::reading::chosen_count;
@@ -14,7 +17,6 @@ use relations::tables::find_table;
 use resolving::columns::NAMED;
 use resolving::columns::resolve_columns;
 use resolving::openness::closed_part;
-use resolving::types::mistyped_comparison;
 use text::offending::Offending;
 use text::refusals::Reason;
 use workspace::found::Found;
@@ -22,49 +24,58 @@ use workspace::layout::LABELS;
 use workspace::layout::ROW_CELLS;
 use workspace::layout::TABLE_CELLS;
 ghost use Rattle.document.specs.Policy.{Doc};
+ghost use mathlib.Core.Path.{_≡_};
+ghost use Rattle.judging.specs.Prepared.{Prepared};
+ghost use Rattle.query.specs.Query.{resolved};
+ghost use Rattle.query.specs.QueryForm.{QueryForm};
 ghost use Rattle.query.specs.QueryPlaces.{formAt};
-ghost use Rattle.stages.specs.Stages.{Granted, Ready};
+ghost use Rattle.stages.specs.Stages.{Granted, soughtIn};
 ghost use Rattle.stages.specs.Tails.{Gives, answerUnder, ifKnown};
 ghost use Rattle.text.specs.Refusal.{accepted};
 
-// The answer of the rows of table t, to a query that is ready for them.
+// What a query asks of the rows of table t.
+fn sought_in(q: Question, t: usize) -> Sought
+    ensures { λ r. ⌜ r ≡ soughtIn q t ⌝ }
+{
+    let wanted = q.wanted;
+    let test = q.test;
+    let tests = comparison_count(test);
+    let select = is_select(wanted);
+    let chosen = chosen_count(wanted);
+    Sought {
+        table: t,
+        test,
+        tests,
+        select,
+        chosen,
+    }
+}
+
+// The answer of the rows, to a query that is prepared for them.
 fn ask_rows(
     text: &[u8],
     tables: &[usize; TABLE_CELLS],
     rows: &[usize; ROW_CELLS],
-    c: Counts,
+    count: usize,
     opened: &[bool; LABELS],
     query: &[u8],
-    q: Question,
-    t: usize,
+    s: Sought,
+    tests: &[usize; TEST_CELLS],
     columns: &[usize; NAMED],
-    ops: &[usize; 64],
     grant: usize,
     out: &mut [u8],
 ) -> Answered
-    ensures { λ r. ⌜ ((d : Doc) → Ready (now (text .entry)) (now (tables .entry)) (now (rows .entry)) c (now (opened .entry)) (now (query .entry)) q t (now (columns .entry)) (now (ops .entry)) d → Gives (accepted (answerUnder d (formAt (now (query .entry)) q) grant)) (now (out .entry)) (now (out .exit)) r) ⌝ }
+    ensures { λ r. ⌜ ((d : Doc) (q : QueryForm) → Prepared (now (text .entry)) (now (tables .entry)) (now (rows .entry)) count (now (opened .entry)) (now (query .entry)) s (now (tests .entry)) (now (columns .entry)) d (resolved (d .policy) q) → Gives (accepted (answerUnder d q grant)) (now (out .entry)) (now (out .exit)) r) ⌝ }
 {
-    let wanted = q.wanted;
-    let test = q.test;
-    let m = comparison_count(test);
-    let select = is_select(wanted);
-    let chosen = chosen_count(wanted);
-    let sought = Sought {
-        table: t,
-        test,
-        tests: m,
-        select,
-        chosen,
-    };
     let x = answer_rows(
         text,
         tables,
         rows,
-        c.rows,
+        count,
         opened,
         query,
-        sought,
-        ops,
+        s,
+        tests,
         columns,
         out,
     );
@@ -104,11 +115,10 @@ pub(crate) fn ask_granted(
     if let Offending::At(at) = unknown {
         return refused_at(query, Reason::UnknownColumn, at);
     }
-    let wanted = q.wanted;
-    let test = q.test;
-    let chosen = chosen_count(wanted);
-    let m = comparison_count(test);
-    let wrong = mistyped_comparison(tables, t, query, &ops, m, &columns, chosen);
+    let s = sought_in(q, t);
+    let mut tests = [0usize; TEST_CELLS];
+    read_tests(tables, query, s, &ops, &columns, &mut tests);
+    let wrong = mistyped_test(&tests, s.tests);
     if let Offending::At(at) = wrong {
         return refused_at(query, Reason::MistypedQuery, at);
     }
@@ -120,13 +130,12 @@ pub(crate) fn ask_granted(
         text,
         tables,
         rows,
-        c,
+        c.rows,
         opened,
         query,
-        q,
-        t,
+        s,
+        &tests,
         &columns,
-        &ops,
         grant,
         out,
     )

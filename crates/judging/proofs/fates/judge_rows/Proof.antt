@@ -14,7 +14,7 @@ returns-2 : tie.Need-returns-2
 returns-2 c = λ d q pr. absurd (omega (arith, pr .rows .few, c .if3 .left))
 
 returns-3 : tie.Need-returns-3
-returns-3 c = λ d q pr. absurd (omega (arith, pr .few, c .if2 .left))
+returns-3 c = λ d q pr. absurd (omega (arith, pr .tested .few, c .if2 .left))
 
 returns-4 : tie.Need-returns-4
 returns-4 c = λ d q pr. absurd (omega (arith, pr .fewChosen, c .if1 .left))

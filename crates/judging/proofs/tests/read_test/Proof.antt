@@ -1,7 +1,9 @@
 -- `judging::tests::read_test` meets its contract. Assumes nothing.
+use Rattle.condition.specs.Kinds.{hasKind}
 use Rattle.text.specs.Walking.{nextWord}
+use Rattle.text.specs.Words.{wordAt}
 use borrow.Author.Needs.{needs}
-use mathlib.Core.Path.{_∙_, ap, refl}
+use mathlib.Core.Path.{_∙_, ap, refl, sym}
 use native.Mathlib.Omega.{arith}
 use Rattle.judging.proofs.tests.read_test.Statement.{statement}
 use Rattle.judging.proofs.tests.read_test.Tie as tie
@@ -15,6 +17,9 @@ next-word-requires-2 c κs = search needs
 word-end-requires : tie.Need-word-end-requires
 word-end-requires c κs = search needs
 
+sub-size : tie.Need-sub-size
+sub-size c = search needs
+
 column-kind-requires : tie.Need-column-kind-requires
 column-kind-requires c κs = search needs
 
@@ -27,23 +32,21 @@ op-at-requires c κs = search needs
 op-code-requires : tie.Need-op-code-requires
 op-code-requires c κs = search needs
 
-known-rank-requires : tie.Need-known-rank-requires
-known-rank-requires c κs = search needs
-
-rank-number-requires : tie.Need-rank-number-requires
-rank-number-requires c κs = search needs
-
-sub-t17 : tie.Need-sub-t17
-sub-t17 c = search needs
+read-constant-requires : tie.Need-read-constant-requires
+read-constant-requires c κs = search needs
 
 returns : tie.Need-returns
 returns c =
+    let s = c .before .before .before .before .before .before .before .before .before .args .query .now in
+    let typed = c .before .before .before .kind-cell .ensures in
     record {
       column = refl;
-      kind = λ small narrow. c .before .before .before .before .kind-cell .ensures ∙ c .before .before .before .before .before .column-kind .ensures small narrow;
-      operator = c .before .before .op-code .ensures ∙ c .before .before .before .op-at .ensures;
-      place = c .before .before .before .before .before .before .before .next-word2 .ensures ∙ ap (nextWord (c .before .before .before .before .before .before .before .before .before .before .args .query .now)) (c .before .before .before .before .before .before .before .before .next-word .ensures);
-      sized = record { size = omega (arith, c .before .before .before .before .before .before .word-end .ensures); ranked = c .rank-number .ensures ∙ c .before .known-rank .ensures };
+      kind = λ small narrow. typed ∙ c .before .before .before .before .column-kind .ensures small narrow;
+      operator = c .before .op-code .ensures ∙ c .before .before .op-at .ensures;
+      sign = refl;
+      place = c .before .before .before .before .before .before .next-word2 .ensures ∙ ap (nextWord s) (c .before .before .before .before .before .before .before .next-word .ensures);
+      fits = c .read-constant .ensures .fits ∙ ap (λ k. hasKind k (wordAt s (c .before .before .before .before .before .before .next-word2 .result))) (sym typed);
+      sized = record { size = omega (arith, c .before .before .before .before .before .word-end .ensures); ranked = λ e. c .read-constant .ensures .ranked (sym typed ∙ e) };
       hit = refl;
       miss = refl;
     }
@@ -55,11 +58,10 @@ read-test-spec =
     next-word-requires
     next-word-requires-2
     word-end-requires
+    sub-size
     column-kind-requires
     kind-cell-requires
     op-at-requires
     op-code-requires
-    known-rank-requires
-    rank-number-requires
-    sub-t17
+    read-constant-requires
     returns)

@@ -1,5 +1,5 @@
 -- `judging::tests::read_tests` meets its contract. Assumes nothing.
-use Rattle.judging.proofs.MatchLaws.{condition-tested}
+use Rattle.judging.proofs.MatchLaws.{tests-read}
 use borrow.Author.Needs.{needs}
 use native.Mathlib.Omega.{arith}
 use Rattle.judging.proofs.tests.read_tests.Statement.{statement}
@@ -12,9 +12,22 @@ store-tests-requires : tie.Need-store-tests-requires
 store-tests-requires c κs = search needs
 
 returns : tie.Need-returns
-returns c =
-    let a = c .before .before .before .before .before .before .before .before .before .before .args in
-    λ text ws count os d q pr. condition-tested text (a .tables .now) ws count os (a .query .now) (a .s) (a .ops .now) (a .columns .now) d q pr (omega (arith, pr .few, c .before .before .before .before .store-tests-arg .given .0)) _ _ _ _ (c .store-tests .ensures) (c .before .before .before .before .before .store-program .ensures)
+returns c = λ text d pr. absurd (omega (arith, pr .fewChosen, c .if1 .taken))
+
+returns-2 : tie.Need-returns-2
+returns-2 c = λ text d pr. absurd (omega (arith, pr .few, c .if2 .taken))
+
+returns-3 : tie.Need-returns-3
+returns-3 c =
+    let a = c .before .before .before .before .before .before .before .before .before .before .before .before .before .before .args in
+    λ text d pr. tests-read text (a .tables .now) (a .query .now) (a .s) (a .ops .now) (a .columns .now) d pr (omega (arith, pr .few, c .before .before .before .before .store-tests-arg .given .0)) _ _ _ _ (c .store-tests .ensures) (c .before .before .before .before .before .store-program .ensures)
 
 pub read-tests-spec : {M : Type 1} → statement M
-read-tests-spec = tie.close (tie.spec store-program-requires store-tests-requires returns)
+read-tests-spec =
+    tie.close
+    (tie.spec
+    returns
+    returns-2
+    store-program-requires
+    store-tests-requires
+    returns-3)

@@ -3,7 +3,7 @@
 use Rattle.document.specs.Lookup.{tableOf}
 use Rattle.query.specs.QueryPlaces.{formAt}
 use Rattle.stages.proofs.Chain.{gives-refused, gives-same, known-passes, known-refused, nothing-found, open-passes, open-refused, table-refused, typed-passes, typed-refused}
-use Rattle.stages.proofs.Preparing.{parts-judged, resolves-known, resolves-unknown, table-found, table-unknown, types-judged}
+use Rattle.stages.proofs.Preparing.{comparable, parts-judged, prepared, resolves-known, resolves-unknown, table-found, table-unknown, types-judged}
 use borrow.Author.Needs.{needs}
 use mathlib.Core.Path.{_∙_}
 use Rattle.stages.proofs.granted.ask_granted.Statement.{statement}
@@ -45,20 +45,20 @@ returns-2 c d held =
     let a = c .before .before .before .before .before .before .before .before .before .before .before .before .before .before .before .before .before .before .args in
     let table = table-found (d .policy) (formAt (a .query .now) (a .q)) (c .before .before .before .before .before .before .before .before .before .before .before .table .given .1) (c .before .before .before .before .before .before .before .before .before .before .before .before .before .find-table .ensures .0 (d .policy .tables) (held .tables)) (c .before .before .before .before .before .before .before .before .before .before .before .before .before .find-table .ensures .1) in
     let placed = c .before .before .before .before .before .before .before .named-places .ensures (held .query) in
-    let resolved = c .before .before .before .before .resolve-columns .ensures (d .policy) _ (held .tables) (table .inside) (placed .small) in
-    gives-refused (known-refused d _ _ (a .query .now) (c .before .before .unknown .given .1) (resolves-unknown (a .q) table placed resolved)) (c .refused-at2 .ensures)
+    let resolves = c .before .before .before .before .resolve-columns .ensures (d .policy) _ (held .tables) (table .inside) (placed .small) in
+    gives-refused (known-refused d _ _ (a .query .now) (c .before .before .unknown .given .1) (resolves-unknown (a .q) table placed resolves)) (c .refused-at2 .ensures)
 
 enum-told-2 : tie.Need-enum-told-2
 enum-told-2 c = search needs
 
-chosen-count-requires : tie.Need-chosen-count-requires
-chosen-count-requires c κs = search needs
+sought-in-requires : tie.Need-sought-in-requires
+sought-in-requires c κs = search needs
 
-comparison-count-requires : tie.Need-comparison-count-requires
-comparison-count-requires c κs = search needs
+read-tests-requires : tie.Need-read-tests-requires
+read-tests-requires c κs = search needs
 
-mistyped-comparison-requires : tie.Need-mistyped-comparison-requires
-mistyped-comparison-requires c κs = search needs
+mistyped-test-requires : tie.Need-mistyped-test-requires
+mistyped-test-requires c κs = search needs
 
 enum-known-wrong : tie.Need-enum-known-wrong
 enum-known-wrong c = search needs
@@ -69,13 +69,14 @@ refused-at-requires-3 c κs = search needs
 returns-3 : tie.Need-returns-3
 unfolding formAt tableOf
 returns-3 c d held =
-    let a = c .before .before .before .before .before .before .before .before .before .before .before .before .before .before .before .before .before .before .before .before .before .before .before .before .before .args in
-    let table = table-found (d .policy) (formAt (a .query .now) (a .q)) (c .before .before .before .before .before .before .before .before .before .before .before .before .before .before .before .before .before .before .table .given .1) (c .before .before .before .before .before .before .before .before .before .before .before .before .before .before .before .before .before .before .before .before .find-table .ensures .0 (d .policy .tables) (held .tables)) (c .before .before .before .before .before .before .before .before .before .before .before .before .before .before .before .before .before .before .before .before .find-table .ensures .1) in
-    let placed = c .before .before .before .before .before .before .before .before .before .before .before .before .before .before .named-places .ensures (held .query) in
-    let resolved = c .before .before .before .before .before .before .before .before .before .before .before .resolve-columns .ensures (d .policy) _ (held .tables) (table .inside) (placed .small) in
-    let columns = resolves-known (a .q) table placed resolved (c .before .before .before .before .before .before .before .before .before .enum-told2 .given .1) in
-    let types = types-judged (a .q) (held .query) table columns (placed .tests) (c .before .before .before .before .mistyped-comparison .result) (c .before .before .before .before .before .before .before .before .chosen-count .ensures) (c .before .before .before .before .before .before .before .comparison-count .ensures) (c .before .before .before .before .mistyped-comparison .ensures (d .policy) (a .text .now) _ (held .tables) (table .inside)) in
-    gives-refused (known-passes d _ _ (a .query .now) (c .before .before .before .before .before .before .before .before .before .enum-told2 .given .1) (resolves-unknown (a .q) table placed resolved) ∙ typed-refused d _ _ (a .query .now) (c .before .before .wrong .given .1) types) (c .refused-at3 .ensures)
+    let a = c .before .before .before .before .before .before .before .before .before .before .before .before .before .before .before .before .before .before .before .before .before .before .before .before .before .before .before .args in
+    let table = table-found (d .policy) (formAt (a .query .now) (a .q)) (c .before .before .before .before .before .before .before .before .before .before .before .before .before .before .before .before .before .before .before .before .table .given .1) (c .before .before .before .before .before .before .before .before .before .before .before .before .before .before .before .before .before .before .before .before .before .before .find-table .ensures .0 (d .policy .tables) (held .tables)) (c .before .before .before .before .before .before .before .before .before .before .before .before .before .before .before .before .before .before .before .before .before .before .find-table .ensures .1) in
+    let placed = c .before .before .before .before .before .before .before .before .before .before .before .before .before .before .before .before .named-places .ensures (held .query) in
+    let resolves = c .before .before .before .before .before .before .before .before .before .before .before .before .before .resolve-columns .ensures (d .policy) _ (held .tables) (table .inside) (placed .small) in
+    let columns = resolves-known (a .q) table placed resolves (c .before .before .before .before .before .before .before .before .before .before .before .enum-told2 .given .1) in
+    let read = c .before .before .before .before .before .before .read-tests .ensures (a .text .now) (d .policy) (comparable (a .q) (held .query) table columns (placed .tests) (c .before .before .before .before .before .before .before .before .before .before .sought-in .ensures) (held .tables)) in
+    let types = types-judged (a .q) (held .query) table columns (placed .tests) (c .before .before .before .before .mistyped-test .result) (c .before .before .before .before .before .before .before .before .before .before .sought-in .ensures) read (c .before .before .before .before .mistyped-test .ensures (a .query .now)) in
+    gives-refused (known-passes d _ _ (a .query .now) (c .before .before .before .before .before .before .before .before .before .before .before .enum-told2 .given .1) (resolves-unknown (a .q) table placed resolves) ∙ typed-refused d _ _ (a .query .now) (c .before .before .wrong .given .1) types) (c .refused-at3 .ensures)
 
 enum-told-3 : tie.Need-enum-told-3
 enum-told-3 c = search needs
@@ -92,14 +93,15 @@ refused-at-requires-4 c κs = search needs
 returns-4 : tie.Need-returns-4
 unfolding formAt tableOf
 returns-4 c d held =
-    let a = c .before .before .before .before .before .before .before .before .before .before .before .before .before .before .before .before .before .before .before .before .before .before .before .before .before .before .before .before .before .before .args in
-    let table = table-found (d .policy) (formAt (a .query .now) (a .q)) (c .before .before .before .before .before .before .before .before .before .before .before .before .before .before .before .before .before .before .before .before .before .before .before .table .given .1) (c .before .before .before .before .before .before .before .before .before .before .before .before .before .before .before .before .before .before .before .before .before .before .before .before .before .find-table .ensures .0 (d .policy .tables) (held .tables)) (c .before .before .before .before .before .before .before .before .before .before .before .before .before .before .before .before .before .before .before .before .before .before .before .before .before .find-table .ensures .1) in
-    let placed = c .before .before .before .before .before .before .before .before .before .before .before .before .before .before .before .before .before .before .before .named-places .ensures (held .query) in
-    let resolved = c .before .before .before .before .before .before .before .before .before .before .before .before .before .before .before .before .resolve-columns .ensures (d .policy) _ (held .tables) (table .inside) (placed .small) in
-    let columns = resolves-known (a .q) table placed resolved (c .before .before .before .before .before .before .before .before .before .before .before .before .before .before .enum-told2 .given .1) in
-    let types = types-judged (a .q) (held .query) table columns (placed .tests) (c .before .before .before .before .before .before .before .before .before .mistyped-comparison .result) (c .before .before .before .before .before .before .before .before .before .before .before .before .before .chosen-count .ensures) (c .before .before .before .before .before .before .before .before .before .before .before .before .comparison-count .ensures) (c .before .before .before .before .before .before .before .before .before .mistyped-comparison .ensures (d .policy) (a .text .now) _ (held .tables) (table .inside)) in
-    let closed = parts-judged (a .q) table placed resolved (c .before .before .before .before .before .before .before .before .before .before .before .before .before .before .enum-told2 .given .1) (c .before .before .before .before .closed-part .result) (held .opened) (c .before .before .before .before .closed-part .ensures (d .policy) (a .text .now) _ _ (held .tables) (table .inside)) in
-    gives-refused (known-passes d _ _ (a .query .now) (c .before .before .before .before .before .before .before .before .before .before .before .before .before .before .enum-told2 .given .1) (resolves-unknown (a .q) table placed resolved) ∙ typed-passes d _ _ (a .query .now) (c .before .before .before .before .before .before .before .enum-told3 .given .1) types ∙ open-refused d _ _ (a .query .now) (c .before .before .closed .given .1) closed) (c .refused-at4 .ensures)
+    let a = c .before .before .before .before .before .before .before .before .before .before .before .before .before .before .before .before .before .before .before .before .before .before .before .before .before .before .before .before .before .before .before .before .args in
+    let table = table-found (d .policy) (formAt (a .query .now) (a .q)) (c .before .before .before .before .before .before .before .before .before .before .before .before .before .before .before .before .before .before .before .before .before .before .before .before .before .table .given .1) (c .before .before .before .before .before .before .before .before .before .before .before .before .before .before .before .before .before .before .before .before .before .before .before .before .before .before .before .find-table .ensures .0 (d .policy .tables) (held .tables)) (c .before .before .before .before .before .before .before .before .before .before .before .before .before .before .before .before .before .before .before .before .before .before .before .before .before .before .before .find-table .ensures .1) in
+    let placed = c .before .before .before .before .before .before .before .before .before .before .before .before .before .before .before .before .before .before .before .before .before .named-places .ensures (held .query) in
+    let resolves = c .before .before .before .before .before .before .before .before .before .before .before .before .before .before .before .before .before .before .resolve-columns .ensures (d .policy) _ (held .tables) (table .inside) (placed .small) in
+    let columns = resolves-known (a .q) table placed resolves (c .before .before .before .before .before .before .before .before .before .before .before .before .before .before .before .before .enum-told2 .given .1) in
+    let read = c .before .before .before .before .before .before .before .before .before .before .before .read-tests .ensures (a .text .now) (d .policy) (comparable (a .q) (held .query) table columns (placed .tests) (c .before .before .before .before .before .before .before .before .before .before .before .before .before .before .before .sought-in .ensures) (held .tables)) in
+    let types = types-judged (a .q) (held .query) table columns (placed .tests) (c .before .before .before .before .before .before .before .before .before .mistyped-test .result) (c .before .before .before .before .before .before .before .before .before .before .before .before .before .before .before .sought-in .ensures) read (c .before .before .before .before .before .before .before .before .before .mistyped-test .ensures (a .query .now)) in
+    let closed = parts-judged (a .q) table placed resolves (c .before .before .before .before .before .before .before .before .before .before .before .before .before .before .before .before .enum-told2 .given .1) (c .before .before .before .before .closed-part .result) (held .opened) (c .before .before .before .before .closed-part .ensures (d .policy) (a .text .now) _ _ (held .tables) (table .inside)) in
+    gives-refused (known-passes d _ _ (a .query .now) (c .before .before .before .before .before .before .before .before .before .before .before .before .before .before .before .before .enum-told2 .given .1) (resolves-unknown (a .q) table placed resolves) ∙ typed-passes d _ _ (a .query .now) (c .before .before .before .before .before .before .before .enum-told3 .given .1) types ∙ open-refused d _ _ (a .query .now) (c .before .before .closed .given .1) closed) (c .refused-at4 .ensures)
 
 enum-told-4 : tie.Need-enum-told-4
 enum-told-4 c = search needs
@@ -113,15 +115,16 @@ same-length c = search needs
 returns-5 : tie.Need-returns-5
 unfolding formAt tableOf
 returns-5 c d held =
-    let a = c .before .before .before .before .before .before .before .before .before .before .before .before .before .before .before .before .before .before .before .before .before .before .before .before .before .before .before .before .before .before .before .before .before .before .args in
-    let table = table-found (d .policy) (formAt (a .query .now) (a .q)) (c .before .before .before .before .before .before .before .before .before .before .before .before .before .before .before .before .before .before .before .before .before .before .before .before .before .before .before .table .given .1) (c .before .before .before .before .before .before .before .before .before .before .before .before .before .before .before .before .before .before .before .before .before .before .before .before .before .before .before .before .before .find-table .ensures .0 (d .policy .tables) (held .tables)) (c .before .before .before .before .before .before .before .before .before .before .before .before .before .before .before .before .before .before .before .before .before .before .before .before .before .before .before .before .before .find-table .ensures .1) in
-    let placed = c .before .before .before .before .before .before .before .before .before .before .before .before .before .before .before .before .before .before .before .before .before .before .before .named-places .ensures (held .query) in
-    let resolved = c .before .before .before .before .before .before .before .before .before .before .before .before .before .before .before .before .before .before .before .before .resolve-columns .ensures (d .policy) _ (held .tables) (table .inside) (placed .small) in
-    let columns = resolves-known (a .q) table placed resolved (c .before .before .before .before .before .before .before .before .before .before .before .before .before .before .before .before .before .before .enum-told2 .given .1) in
-    let types = types-judged (a .q) (held .query) table columns (placed .tests) (c .before .before .before .before .before .before .before .before .before .before .before .before .before .mistyped-comparison .result) (c .before .before .before .before .before .before .before .before .before .before .before .before .before .before .before .before .before .chosen-count .ensures) (c .before .before .before .before .before .before .before .before .before .before .before .before .before .before .before .before .comparison-count .ensures) (c .before .before .before .before .before .before .before .before .before .before .before .before .before .mistyped-comparison .ensures (d .policy) (a .text .now) _ (held .tables) (table .inside)) in
-    let closed = parts-judged (a .q) table placed resolved (c .before .before .before .before .before .before .before .before .before .before .before .before .before .before .before .before .before .before .enum-told2 .given .1) (c .before .before .before .before .before .before .before .before .closed-part .result) (held .opened) (c .before .before .before .before .before .before .before .before .closed-part .ensures (d .policy) (a .text .now) _ _ (held .tables) (table .inside)) in
-    gives-same (known-passes d _ _ (a .query .now) (c .before .before .before .before .before .before .before .before .before .before .before .before .before .before .before .before .before .before .enum-told2 .given .1) (resolves-unknown (a .q) table placed resolved) ∙ typed-passes d _ _ (a .query .now) (c .before .before .before .before .before .before .before .before .before .before .before .enum-told3 .given .1) types ∙ open-passes d _ _ (a .query .now) (c .before .before .before .before .before .before .enum-told4 .given .1) closed)
-    (c .before .before .ask-rows .ensures d (record { granted = held; table = table; columns = columns; tests = placed .tests }))
+    let a = c .before .before .before .before .before .before .before .before .before .before .before .before .before .before .before .before .before .before .before .before .before .before .before .before .before .before .before .before .before .before .before .before .before .before .before .before .args in
+    let table = table-found (d .policy) (formAt (a .query .now) (a .q)) (c .before .before .before .before .before .before .before .before .before .before .before .before .before .before .before .before .before .before .before .before .before .before .before .before .before .before .before .before .before .table .given .1) (c .before .before .before .before .before .before .before .before .before .before .before .before .before .before .before .before .before .before .before .before .before .before .before .before .before .before .before .before .before .before .before .find-table .ensures .0 (d .policy .tables) (held .tables)) (c .before .before .before .before .before .before .before .before .before .before .before .before .before .before .before .before .before .before .before .before .before .before .before .before .before .before .before .before .before .before .before .find-table .ensures .1) in
+    let placed = c .before .before .before .before .before .before .before .before .before .before .before .before .before .before .before .before .before .before .before .before .before .before .before .before .before .named-places .ensures (held .query) in
+    let resolves = c .before .before .before .before .before .before .before .before .before .before .before .before .before .before .before .before .before .before .before .before .before .before .resolve-columns .ensures (d .policy) _ (held .tables) (table .inside) (placed .small) in
+    let columns = resolves-known (a .q) table placed resolves (c .before .before .before .before .before .before .before .before .before .before .before .before .before .before .before .before .before .before .before .before .enum-told2 .given .1) in
+    let read = c .before .before .before .before .before .before .before .before .before .before .before .before .before .before .before .read-tests .ensures (a .text .now) (d .policy) (comparable (a .q) (held .query) table columns (placed .tests) (c .before .before .before .before .before .before .before .before .before .before .before .before .before .before .before .before .before .before .before .sought-in .ensures) (held .tables)) in
+    let types = types-judged (a .q) (held .query) table columns (placed .tests) (c .before .before .before .before .before .before .before .before .before .before .before .before .before .mistyped-test .result) (c .before .before .before .before .before .before .before .before .before .before .before .before .before .before .before .before .before .before .before .sought-in .ensures) read (c .before .before .before .before .before .before .before .before .before .before .before .before .before .mistyped-test .ensures (a .query .now)) in
+    let closed = parts-judged (a .q) table placed resolves (c .before .before .before .before .before .before .before .before .before .before .before .before .before .before .before .before .before .before .before .before .enum-told2 .given .1) (c .before .before .before .before .before .before .before .before .closed-part .result) (held .opened) (c .before .before .before .before .before .before .before .before .closed-part .ensures (d .policy) (a .text .now) _ _ (held .tables) (table .inside)) in
+    gives-same (known-passes d _ _ (a .query .now) (c .before .before .before .before .before .before .before .before .before .before .before .before .before .before .before .before .before .before .before .before .enum-told2 .given .1) (resolves-unknown (a .q) table placed resolves) ∙ typed-passes d _ _ (a .query .now) (c .before .before .before .before .before .before .before .before .before .before .before .enum-told3 .given .1) types ∙ open-passes d _ _ (a .query .now) (c .before .before .before .before .before .before .enum-told4 .given .1) closed)
+    (c .before .before .ask-rows .ensures d (formAt (a .query .now) (a .q)) (prepared (a .q) held table columns (placed .tests) (c .before .before .before .before .before .before .before .before .before .before .before .before .before .before .before .before .before .before .before .sought-in .ensures) read))
 
 pub ask-granted-spec : {M : Type 1} → statement M
 ask-granted-spec =
@@ -138,9 +141,9 @@ ask-granted-spec =
     refused-at-requires-2
     returns-2
     enum-told-2
-    chosen-count-requires
-    comparison-count-requires
-    mistyped-comparison-requires
+    sought-in-requires
+    read-tests-requires
+    mistyped-test-requires
     enum-known-wrong
     refused-at-requires-3
     returns-3

@@ -1,0 +1,94 @@
+-- The types of the comparisons that were read: the first that is wrong. Assumes nothing.
+use Prim.Native.Nat.{_<_, _≤_, suc, zero, ℕ}
+use borrow.Author.Tests.{eq-eqb, ne-eqb}
+use lib.Dec.{eqb}
+use lib.ListN.{getD, length, take}
+use lib.Seq.{take-suc}
+use mathlib.Core.Bool.{Bool, false, true}
+use mathlib.Core.List.{List, [], _++_, _∷_, map}
+use mathlib.Core.Logic.{⊎-elim}
+use mathlib.Core.Option.{Option, Option·none-ne-some, Option·some-ne-none, none, some}
+use mathlib.Core.Path.{_∙_, _≡_, ap, refl, sym}
+use native.Mathlib.Nat.{eq-or-lt-of-le}
+use native.Mathlib.Omega.{arith}
+use Rattle.condition.specs.Answers.{comparedAt, operatorBy}
+use Rattle.condition.specs.CondForm.{mistyped}
+use Rattle.condition.specs.Kinds.{hasKind, takes}
+use Rattle.judging.specs.Reading.{wrongBy}
+use Rattle.judging.specs.Tests.{TestOf}
+use Rattle.judging.specs.declared.tests.TestRead.{TestRead}
+use Rattle.lists.proofs.ListLaws.{map-append}
+use Rattle.text.proofs.OffendingLaws.{leftmost-fail, leftmost-nil, leftmost-on, leftmost-only, unless-false, unless-true}
+use Rattle.text.specs.Offending.{leftmost, unless}
+use Rattle.text.specs.Words.{Word, wordAt, wordOf}
+use Rattle.workspace.specs.Cells.{kindOfCell}
+use Rattle.workspace.specs.Tabulated.{tabulated}
+
+-- ---- the first word of a list by its numbers
+
+-- one more behind a list that has none is the first
+leftmost-behind : (xs : List (Option Word)) (y : Option Word) → leftmost xs ≡ none → leftmost (xs ++ (y ∷ [])) ≡ y
+unfolding leftmost
+leftmost-behind [] y h = leftmost-only y
+leftmost-behind (none ∷ xs) y h = leftmost-behind xs y h
+leftmost-behind (some w ∷ xs) y h = absurd (Option·some-ne-none _ h)
+
+-- the first stays the first
+leftmost-stays : (xs ys : List (Option Word)) (w : Word) → leftmost xs ≡ some w → leftmost (xs ++ ys) ≡ some w
+unfolding leftmost
+leftmost-stays [] ys w h = absurd (Option·none-ne-some _ h)
+leftmost-stays (none ∷ xs) ys w h = leftmost-stays xs ys w h
+leftmost-stays (some v ∷ xs) ys w h = h
+
+module _ (f : ℕ → Option Word) where
+  pub none-below : (k : ℕ) → ((i : ℕ) → i < k → f i ≡ none) → leftmost (tabulated f k) ≡ none
+  unfolding tabulated
+  none-below zero h = leftmost-nil
+  none-below (suc k) h = leftmost-behind (tabulated f k) (f k) (none-below k (λ i l. h i (omega (arith, l)))) ∙ h k (omega arith)
+
+  pub first-below : (k j : ℕ) (w : Word) → j < k → ((i : ℕ) → i < j → f i ≡ none) → f j ≡ some w → leftmost (tabulated f k) ≡ some w
+  unfolding tabulated
+  first-below zero j w l h e = absurd (omega (arith, l))
+  first-below (suc k) j w l h e = ⊎-elim (λ s. here s) (λ m. leftmost-stays (tabulated f k) (f k ∷ []) w (first-below k j w m h e)) (eq-or-lt-of-le le)
+    where
+      le : j ≤ k
+      le = omega (arith, l)
+
+      here : j ≡ k → leftmost (tabulated f k ++ (f k ∷ [])) ≡ some w
+      here s = leftmost-behind (tabulated f k) (f k) (none-below k (λ i m. h i (omega (arith, m, s)))) ∙ ap f (sym s) ∙ e
+
+-- the first m of a list, by their numbers
+pub tabulated-taken : {A : Type 0} (h : ℕ → A) (m : ℕ) (xs : List ℕ) → m ≤ length xs → tabulated (λ j. h (getD xs j 0)) m ≡ map h (take m xs)
+unfolding tabulated
+tabulated-taken h zero xs l = refl
+tabulated-taken h (suc m) xs l =
+    ap (λ ys. ys ++ (h (getD xs m 0) ∷ [])) (tabulated-taken h m xs (omega (arith, l)))
+    ∙ sym (map-append h (take m xs) (getD xs m 0 ∷ []))
+    ∙ ap (map h) (sym (take-suc xs m 0 (omega (arith, l))))
+
+-- ---- one comparison
+
+-- what was read of a comparison tells what is wrong with its types
+pub wrong-read : (ts : List ℕ) (t : ℕ) (s : List ℕ) (op c y n : ℕ) (x : TestRead) → TestOf ts t s op c y n x → wrongBy s x ≡ mistyped (kindOfCell (x .kind)) (comparedAt s op)
+unfolding wrongBy mistyped comparedAt
+wrong-read ts t s op c y n x h = λ i.
+    leftmost (unless (takes (kindOfCell (x .kind)) (h .operator i)) (wordOf s (h .sign i))
+    ∷ unless ((h .fits ∙ ap (λ p. hasKind (kindOfCell (x .kind)) (wordAt s p)) (h .place)) i) (wordOf s (h .place i))
+    ∷ [])
+
+-- what the code finds of a comparison, where b says whether the operator takes the type
+module _ (s : List ℕ) (x : TestRead) (b : Bool) (is : b ≡ takes (kindOfCell (x .kind)) (operatorBy (x .operator))) where
+  pub wrong-operator : b ≡ false → some (wordOf s (x .sign)) ≡ wrongBy s x
+  unfolding wrongBy
+  wrong-operator h = sym (leftmost-fail _ (wordOf s (x .sign)) (unless (eqb (x .fits) 1) (wordOf s (x .place)) ∷ []) (sym is ∙ h))
+
+  module _ (h : b ≡ true) where
+    by-value : wrongBy s x ≡ unless (eqb (x .fits) 1) (wordOf s (x .place))
+    unfolding wrongBy
+    by-value = leftmost-on _ (wordOf s (x .sign)) (unless (eqb (x .fits) 1) (wordOf s (x .place))) (sym is ∙ h)
+
+    pub wrong-nothing : x .fits ≡ 1 → none ≡ wrongBy s x
+    wrong-nothing e = sym (by-value ∙ unless-true (eqb (x .fits) 1) (wordOf s (x .place)) (eq-eqb (x .fits) 1 e))
+
+    pub wrong-value : (x .fits ≡ 1 → ⊥) → some (wordOf s (x .place)) ≡ wrongBy s x
+    wrong-value e = sym (by-value ∙ unless-false (eqb (x .fits) 1) (wordOf s (x .place)) (ne-eqb (x .fits) 1 e))

@@ -1,0 +1,55 @@
+-- Contract: what reading a query's comparisons needs of it, and what it gives: 16, and how the rows are judged.
+use Prim.Native.Nat.{_<_, _≤_, ℕ}
+use lib.Dec.{eqb}
+use lib.ListN.{drop, take}
+use mathlib.Core.Bool.{true}
+use mathlib.Core.List.{List, [], _∷_, map}
+use mathlib.Core.Option.{Option, Option·map}
+use mathlib.Core.Path.{_≡_}
+use Rattle.condition.specs.Answers.{comparedAt, operatorBy}
+use Rattle.condition.specs.Cond.{comparisonsIn, mapCond}
+use Rattle.condition.specs.CondForm.{mistyped}
+use Rattle.condition.specs.Kinds.{takes}
+use Rattle.document.specs.Lookup.{columnKind, columnOf, columnsAt}
+use Rattle.document.specs.Policy.{Column, Policy}
+use Rattle.judging.specs.Tests.{Tested, testIn}
+use Rattle.judging.specs.declared.sought.Sought.{Sought}
+use Rattle.judging.specs.declared.tests.TestRead.{TestRead}
+use Rattle.lists.specs.Lists.{allOf, orZero, there}
+use Rattle.query.specs.Query.{columnComparison}
+use Rattle.query.specs.QueryPlaces.{conditionAt}
+use Rattle.relations.specs.Tables.{Tables}
+use Rattle.text.specs.Offending.{leftmost, unless}
+use Rattle.text.specs.Words.{Word, wordOf}
+use Rattle.workspace.specs.Cells.{kindOfCell}
+use Rattle.workspace.specs.Tabulated.{tabulated}
+
+-- ---- what reading needs
+
+-- the columns that the comparisons of what is sought name are known: ts are the document's tables, ops are the places of the operators
+-- in the query's text s, and behind the numbers of the selected columns cs has those of the columns that are compared
+pub record Comparable (text ts s : List ℕ) (g : Sought) (ops cs : List ℕ) (d : Policy) : Type 0 where
+  pub tableCount : ℕ
+  pub tables : Tables text ts tableCount (d .tables)
+  pub inside : g .table < tableCount
+  pub few : g .tests ≤ 64
+  pub fewChosen : g .chosen ≤ 16
+  pub compared : map (comparedAt s) (take (g .tests) ops) ≡ comparisonsIn (conditionAt s (g .test))
+  pub numbers : take (g .tests) (drop (g .chosen) cs) ≡ map (λ x. orZero (columnOf (columnsAt d (g .table)) (x .of))) (comparisonsIn (conditionAt s (g .test)))
+  pub allThere : allOf (λ x. there (columnOf (columnsAt d (g .table)) (x .of))) (comparisonsIn (conditionAt s (g .test))) ≡ true
+
+-- ---- what it gives
+
+-- the operator of a comparison, or else its value, that is of the wrong type, as what was read tells it
+unfoldable pub wrongBy : List ℕ → TestRead → Option Word
+wrongBy s x = leftmost (unless (takes (kindOfCell (x .kind)) (operatorBy (x .operator))) (wordOf s (x .sign)) ∷ unless (eqb (x .fits) 1) (wordOf s (x .place)) ∷ [])
+
+-- the first of the wrong type among the m comparisons of the array ws
+unfoldable pub firstWrong : (s ws : List ℕ) → ℕ → Option Word
+firstWrong s ws m = leftmost (tabulated (λ j. wrongBy s (testIn ws j)) m)
+
+-- the comparisons of what is sought are read into the array ws: it tells what is of the wrong type (16), and what the condition,
+-- whose columns are among these, comes to of a row
+pub record TestsRead (s : List ℕ) (g : Sought) (ws : List ℕ) (columns : List Column) : Type 0 where
+  pub wrong : firstWrong s ws (g .tests) ≡ leftmost (map (λ x. mistyped (columnKind columns (x .of)) x) (comparisonsIn (conditionAt s (g .test))))
+  pub tested : Tested s ws (g .tests) (Option·map (mapCond (columnComparison columns)) (conditionAt s (g .test)))
