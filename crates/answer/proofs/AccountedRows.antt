@@ -9,7 +9,7 @@ use mathlib.Core.Path.{_∙_, _≡_, ap, refl, subst, sym}
 use native.Mathlib.Omega.{arith}
 use Rattle.answer.specs.Answer.{Answer, answerTo, counted, endLine, isPassed, isUnmatched, isWithheld, lineOf, matches, rowLine, rowLines}
 use Rattle.answer.specs.Exactly.{GivesExactly, isGiven, isUnmatchedRow, isWithheldRow}
-use Rattle.answer.specs.Seen.{Seen, onlyNamed, rowsIn, seenRow, seenRows, shown, withheld}
+use Rattle.answer.specs.Seen.{Seen, onlyNamed, rowsIn, seenIn, seenRow, seenRows, shown, withheld}
 use Rattle.condition.proofs.HoldsLaws.{holds-agree}
 use Rattle.condition.specs.Comparison.{Comparison, meets}
 use Rattle.condition.specs.Cond.{Cond, comparisonsIn}
@@ -21,7 +21,7 @@ use Rattle.lists.proofs.KeptLaws.{count-map, count-three, flatten-keep, map-agr
 use Rattle.lists.proofs.ListLaws.{map-map}
 use Rattle.lists.specs.Lists.{allOf, anyOf, countOf, keep, member}
 use Rattle.query.proofs.NamedAll.{condition-named, selected-named}
-use Rattle.query.specs.Query.{Query, Wanted, countsOnly, named, select, selected}
+use Rattle.query.specs.Query.{NamesParts, Query, Wanted, countsOnly, select, selected}
 use Rattle.text.specs.Bytes.{ascii}
 use Rattle.text.specs.Numbers.{Value}
 
@@ -29,7 +29,7 @@ use Rattle.text.specs.Numbers.{Value}
 
 -- of two columns the second is named: its value is seen, and the first's is not
 named-alone : (isOpen : Option ℕ → Bool) (t : ℕ) (a b : Value)
-    → seenRow isOpen unlabelled (1 ∷ []) (record { table = t; values = a ∷ b ∷ []; labels = [] }) ≡ shown ([] ∷ b ∷ [])
+    → seenRow isOpen unlabelled (1 ∷ []) (1 ∷ []) (record { table = t; values = a ∷ b ∷ []; labels = [] }) ≡ shown ([] ∷ b ∷ [])
 unfolding seenRow rowWithheld onlyNamed member anyOf
 named-alone isOpen t a b = refl
 
@@ -97,18 +97,18 @@ module _ (passes : List Value → Bool) (vs : List Value) where
   told-line cs true = refl
   told-line cs false = refl
 
-module _ (d : Doc) (q : Query) where
+module _ (d : Doc) (q : Query) (parts : NamesParts q) where
   -- what is seen of a row
   abbrev seen : Row → Seen
-  seen r = seenRow (labelOpen (d .policy) (q .purpose)) (schemeAt (d .policy) (q .table)) (named q) r
+  seen r = seenRow (labelOpen (d .policy) (q .purpose)) (schemeAt (d .policy) (q .source .table)) (q .source .withholding) (q .source .named) r
 
   -- a row's values in the named columns
   abbrev visible : Row → List Value
-  visible r = onlyNamed (named q) 0 (r .values)
+  visible r = onlyNamed (q .source .named) 0 (r .values)
 
   -- the condition holds of what is seen exactly when it holds of the row's own values
   own-values : (r : Row) → matches (q .condition) (visible r) ≡ matches (q .condition) (r .values)
-  own-values r = matches-seen (named q) (q .condition) (condition-named q) (r .values)
+  own-values r = matches-seen (q .source .named) (q .condition) (condition-named q parts) (r .values)
 
   -- a row is seen as withheld exactly when it is withheld
   withheld-rows : (r : Row) → isWithheld (seen r) ≡ isWithheldRow d q r
@@ -116,9 +116,9 @@ module _ (d : Doc) (q : Query) where
   withheld-rows r = told-withheld (matches (q .condition)) (visible r) (isWithheldRow d q r)
 
   -- so it is row by row
-  withheld-all : map isWithheld (seenRows d q) ≡ map (isWithheldRow d q) (rowsIn (q .table) (d .rows))
-  unfolding seenRows
-  withheld-all = map-map isWithheld seen (rowsIn (q .table) (d .rows)) ∙ ap (λ f. map f (rowsIn (q .table) (d .rows))) (λ i r. withheld-rows r i)
+  withheld-all : map isWithheld (seenRows d q) ≡ map (isWithheldRow d q) (rowsIn (q .source .table) (d .rows))
+  unfolding seenRows seenIn
+  withheld-all = map-map isWithheld seen (rowsIn (q .source .table) (d .rows)) ∙ ap (λ f. map f (rowsIn (q .source .table) (d .rows))) (λ i r. withheld-rows r i)
 
   -- a row passes exactly when it is given
   given-rows : (r : Row) → isPassed (matches (q .condition)) (seen r) ≡ isGiven d q r
@@ -131,9 +131,9 @@ module _ (d : Doc) (q : Query) where
   unmatched-rows r = told-unmatched (matches (q .condition)) (visible r) (isWithheldRow d q r) ∙ ap (λ b. not (isWithheldRow d q r) && not b) (own-values r)
 
   -- the columns that a select asks for are named
-  asked-named : (cs : List ℕ) → q .wanted ≡ select cs → allOf (λ c. member c (named q)) cs ≡ true
+  asked-named : (cs : List ℕ) → q .wanted ≡ select cs → allOf (λ c. member c (q .source .named)) cs ≡ true
   unfolding selected
-  asked-named cs e = subst (λ w. allOf (λ c. member c (named q)) (selected w) ≡ true) e (selected-named q)
+  asked-named cs e = subst (λ w. allOf (λ c. member c (q .source .named)) (selected w) ≡ true) e (selected-named q parts)
 
   -- a row has its line exactly when it is given
   given-line : (cs : List ℕ) → q .wanted ≡ select cs → (r : Row) → lineOf (matches (q .condition)) cs (seen r) ≡ cond (isGiven d q r) (rowLine cs (r .values)) []
@@ -141,7 +141,7 @@ module _ (d : Doc) (q : Query) where
   given-line cs e r =
       told-line (matches (q .condition)) (visible r) cs (isWithheldRow d q r)
       ∙ ap (λ b. cond (not (isWithheldRow d q r) && b) (rowLine cs (visible r)) []) (own-values r)
-      ∙ ap (λ l. cond (isGiven d q r) l []) (line-seen (named q) cs (asked-named cs e) (r .values))
+      ∙ ap (λ l. cond (isGiven d q r) l []) (line-seen (q .source .named) cs (asked-named cs e) (r .values))
 
 -- ---- the answer
 
@@ -150,24 +150,24 @@ count-seen : (f : Row → Seen) (p : Seen → Bool) (g : Row → Bool) → ((r :
 count-seen f p g h rs = count-map p f rs ∙ ap (λ t. countOf t rs) (λ i r. h r i)
 
 -- a select's lines are those of the rows given
-lines-given : (d : Doc) (q : Query) (cs : List ℕ) → q .wanted ≡ select cs
-    → rowLines (matches (q .condition)) (q .wanted) (seenRows d q) ≡ flatten (map (λ r. rowLine cs (r .values)) (keep (isGiven d q) (rowsIn (q .table) (d .rows))))
-unfolding rowLines seenRows
-lines-given d q cs e =
+lines-given : (d : Doc) (q : Query) → NamesParts q → (cs : List ℕ) → q .wanted ≡ select cs
+    → rowLines (matches (q .condition)) (q .wanted) (seenRows d q) ≡ flatten (map (λ r. rowLine cs (r .values)) (keep (isGiven d q) (rowsIn (q .source .table) (d .rows))))
+unfolding rowLines seenRows seenIn
+lines-given d q parts cs e =
     ap (λ w. rowLines (matches (q .condition)) w (seenRows d q)) e
-    ∙ ap flatten (map-map (lineOf (matches (q .condition)) cs) (seen d q) (rowsIn (q .table) (d .rows)))
-    ∙ ap (λ f. flatten (map f (rowsIn (q .table) (d .rows)))) (λ i r. given-line d q cs e r i)
-    ∙ flatten-keep (isGiven d q) (λ r. rowLine cs (r .values)) (rowsIn (q .table) (d .rows))
+    ∙ ap flatten (map-map (lineOf (matches (q .condition)) cs) (seen d q parts) (rowsIn (q .source .table) (d .rows)))
+    ∙ ap (λ f. flatten (map f (rowsIn (q .source .table) (d .rows)))) (λ i r. given-line d q parts cs e r i)
+    ∙ flatten-keep (isGiven d q) (λ r. rowLine cs (r .values)) (rowsIn (q .source .table) (d .rows))
 
 -- An answer but a count's gives a row exactly when it isn't withheld and its condition holds, in document order; and the
 -- three counts are of the rows.
-pub gives-exactly : (d : Doc) (q : Query) → GivesExactly d q (answerTo q (seenRows d q))
-unfolding answerTo counted seenRows rowLines
-gives-exactly d q = record {
-  passed = count-seen (seen d q) _ (isGiven d q) (given-rows d q) (rowsIn (q .table) (d .rows));
-  withheld = count-seen (seen d q) _ (isWithheldRow d q) (withheld-rows d q) (rowsIn (q .table) (d .rows));
-  unmatched = count-seen (seen d q) _ (isUnmatchedRow d q) (unmatched-rows d q) (rowsIn (q .table) (d .rows));
-  selects = λ cs e. ap (λ l. l ++ last) (lines-given d q cs e);
+pub gives-exactly : (d : Doc) (q : Query) → NamesParts q → GivesExactly d q (answerTo q (seenRows d q))
+unfolding answerTo counted seenRows seenIn rowLines
+gives-exactly d q parts = record {
+  passed = count-seen (seen d q parts) _ (isGiven d q) (given-rows d q parts) (rowsIn (q .source .table) (d .rows));
+  withheld = count-seen (seen d q parts) _ (isWithheldRow d q) (withheld-rows d q parts) (rowsIn (q .source .table) (d .rows));
+  unmatched = count-seen (seen d q parts) _ (isUnmatchedRow d q) (unmatched-rows d q parts) (rowsIn (q .source .table) (d .rows));
+  selects = λ cs e. ap (λ l. l ++ last) (lines-given d q parts cs e);
   counts = λ e. ap (λ w. rowLines (matches (q .condition)) w (seenRows d q) ++ last) e;
 }
   where
@@ -175,11 +175,11 @@ gives-exactly d q = record {
     last = endLine (answerTo q (seenRows d q) .passed) (answerTo q (seenRows d q) .withheld) (answerTo q (seenRows d q) .unmatched)
 
 -- The three counts add up to the number of the table's rows.
-pub counts-add-up : (d : Doc) (q : Query) (a : Answer) → GivesExactly d q a → a .passed + a .withheld + a .unmatched ≡ length (rowsIn (q .table) (d .rows))
+pub counts-add-up : (d : Doc) (q : Query) (a : Answer) → GivesExactly d q a → a .passed + a .withheld + a .unmatched ≡ length (rowsIn (q .source .table) (d .rows))
 unfolding isGiven isUnmatchedRow
 counts-add-up d q a g =
     (λ i. g .passed i + g .withheld i + g .unmatched i)
-    ∙ count-three (isWithheldRow d q) (λ r. matches (q .condition) (r .values)) (rowsIn (q .table) (d .rows))
+    ∙ count-three (isWithheldRow d q) (λ r. matches (q .condition) (r .values)) (rowsIn (q .source .table) (d .rows))
 
 -- There is only one such answer.
 pub only-answer : (d : Doc) (q : Query) (a b : Answer) → GivesExactly d q a → GivesExactly d q b → a ≡ b
@@ -197,6 +197,6 @@ only-answer d q a b g h = λ i. record { bytes = same-bytes (q .wanted) refl i; 
     same-bytes : (wanted : Wanted) → q .wanted ≡ wanted → a .bytes ≡ b .bytes
     same-bytes (select cs) e =
         g .selects cs e
-        ∙ (λ i. flatten (map (λ r. rowLine cs (r .values)) (keep (isGiven d q) (rowsIn (q .table) (d .rows)))) ++ endLine (p i) (w i) (u i))
+        ∙ (λ i. flatten (map (λ r. rowLine cs (r .values)) (keep (isGiven d q) (rowsIn (q .source .table) (d .rows)))) ++ endLine (p i) (w i) (u i))
         ∙ sym (h .selects cs e)
     same-bytes countsOnly e = g .counts e ∙ (λ i. endLine (p i) (w i) (u i)) ∙ sym (h .counts e)

@@ -15,14 +15,14 @@ use Rattle.form.specs.Form.{Scheme}
 use Rattle.answer.proofs.AcceptedOrRefused.{answered, is-answered}
 use Rattle.answer.specs.Answer.{answerTo, counted, isWithheld, lineOf, matches, rowLine, rowLines}
 use Rattle.answer.specs.Ask.{Answered, answerForm}
-use Rattle.answer.specs.Seen.{Seen, rowsIn, seenRow, seenRows, shown, withheld}
+use Rattle.answer.specs.Seen.{Seen, rowsIn, seenIn, seenRow, seenRows, shown, withheld}
 use Rattle.lists.proofs.Tests.{true-not-false}
 use Rattle.lists.specs.Lists.{countOf, orZero}
 use Rattle.purpose.specs.Compliance.{descends}
 use Rattle.query.proofs.Below.{forPurpose, grant-below, label-down, parts-down, party-down, resolved-down, toPurpose}
 use Rattle.query.specs.Authority.{Clock, firstGrant}
-use Rattle.query.specs.Query.{Query, mistypedQuery, named, resolved, select, unknownColumn}
-use Rattle.query.specs.QueryForm.{QueryForm, namedWords, selectedWords}
+use Rattle.query.specs.Query.{Query, mistypedQuery, resolved, select, unknownColumn}
+use Rattle.query.specs.QueryForm.{QueryForm, namedRefs, namedWords, selectedRefs, selectedWords, testedRefs}
 use Rattle.text.specs.Numbers.{Value}
 use Rattle.text.specs.Refusal.{accepted}
 use Rattle.text.specs.Words.{Word}
@@ -86,22 +86,22 @@ rows-printed passes cs (shown vs ∷ rs) = go (passes vs) (rows-printed passes c
     go false e = e
 
 -- where more labels are open, each row is withheld before or seen as before
-row-further : (isOpen isOpen′ : Option ℕ → Bool) → ((l : Option ℕ) → isOpen l ≡ true → isOpen′ l ≡ true) → (s : Scheme ℕ) (cs : List ℕ) (r : Row)
-    → (seenRow isOpen s cs r ≡ withheld) ⊎ (seenRow isOpen s cs r ≡ seenRow isOpen′ s cs r)
+row-further : (isOpen isOpen′ : Option ℕ → Bool) → ((l : Option ℕ) → isOpen l ≡ true → isOpen′ l ≡ true) → (s : Scheme ℕ) (hs ns : List ℕ) (r : Row)
+    → (seenRow isOpen s hs ns r ≡ withheld) ⊎ (seenRow isOpen s hs ns r ≡ seenRow isOpen′ s hs ns r)
 unfolding seenRow
-row-further isOpen isOpen′ wider s cs r = go (rowWithheld isOpen s cs (r .labels)) (rowWithheld isOpen′ s cs (r .labels)) refl refl
+row-further isOpen isOpen′ wider s hs ns r = go (rowWithheld isOpen s hs (r .labels)) (rowWithheld isOpen′ s hs (r .labels)) refl refl
   where
-    go : (a b : Bool) → rowWithheld isOpen s cs (r .labels) ≡ a → rowWithheld isOpen′ s cs (r .labels) ≡ b
-        → (seenRow isOpen s cs r ≡ withheld) ⊎ (seenRow isOpen s cs r ≡ seenRow isOpen′ s cs r)
+    go : (a b : Bool) → rowWithheld isOpen s hs (r .labels) ≡ a → rowWithheld isOpen′ s hs (r .labels) ≡ b
+        → (seenRow isOpen s hs ns r ≡ withheld) ⊎ (seenRow isOpen s hs ns r ≡ seenRow isOpen′ s hs ns r)
     go true b e f = inl (rw e)
     go false false e f = inr (rw (e, f))
-    go false true e f = true-not-false (rowWithheld-less isOpen isOpen′ wider s cs (r .labels) f) e
+    go false true e f = true-not-false (rowWithheld-less isOpen isOpen′ wider s hs (r .labels) f) e
 
 seen-further : (d : Doc) (q : Query) (p : ℕ) → ((l : Option ℕ) → labelOpen (d .policy) (q .purpose) l ≡ true → labelOpen (d .policy) p l ≡ true)
     → Further (seenRows d q) (seenRows d (toPurpose p q))
-unfolding seenRows toPurpose named
+unfolding seenRows seenIn toPurpose
 seen-further d q p wider =
-    map-further _ _ (row-further (labelOpen (d .policy) (q .purpose)) (labelOpen (d .policy) p) wider (schemeAt (d .policy) (q .table)) (named q)) (rowsIn (q .table) (d .rows))
+    map-further _ _ (row-further (labelOpen (d .policy) (q .purpose)) (labelOpen (d .policy) p) wider (schemeAt (d .policy) (q .source .table)) (q .source .withholding) (q .source .named)) (rowsIn (q .source .table) (d .rows))
 
 -- ---- the theorem
 
@@ -113,7 +113,7 @@ module _ (d : Doc) (q : QueryForm) (w : Word) (p : ℕ) (is-p : purposeOf (d .po
       × Sublistᴰ (passedRows (matches (resolved (d .policy) q .condition)) (seenRows d (resolved (d .policy) q)))
       (passedRows (matches (resolved (d .policy) q .condition)) (seenRows d (resolved (d .policy) (forPurpose w q))))
       × (s .answer .withheld ≤ r .answer .withheld)
-  unfolding answerTo counted forPurpose unknownColumn mistypedQuery namedWords selectedWords orZero
+  unfolding answerTo counted forPurpose unknownColumn mistypedQuery namedWords namedRefs selectedRefs testedRefs selectedWords orZero
   further-down c r h =
       let a = answered d c q r h in
       let g = grant-below (d .policy) _ p below c (a .user) (a .grant) (a .authorised) in

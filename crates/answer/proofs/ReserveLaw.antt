@@ -18,11 +18,12 @@ use Rattle.answer.proofs.RowLines.{AllBelow, Distinct, lines-cost}
 use Rattle.answer.specs.Answer.{answerTo, counted, endLine, isPassed, isUnmatched, isWithheld, lineOf, matches, rowLines}
 use Rattle.answer.specs.Ask.{Answered, answerForm, ask, askUnbounded, ifFits}
 use Rattle.answer.specs.Reserve.{IsReserve, SelectsOnce}
-use Rattle.answer.specs.Seen.{Seen, rowsIn, seenRows}
+use Rattle.answer.specs.Seen.{Seen, rowsIn, seenIn, seenRows}
 use Rattle.query.proofs.NamedColumns.{columnNumber}
+use Rattle.query.proofs.Sources.{named-words-are}
 use Rattle.query.specs.Authority.{Clock}
-use Rattle.query.specs.Query.{Query, Wanted, named, resolved, select, unknownColumn, wantedOf}
-use Rattle.query.specs.QueryForm.{QueryForm, namedWords, selectedWords}
+use Rattle.query.specs.Query.{Query, Wanted, resolved, select, sourceOf, unknownColumn, wantedOf}
+use Rattle.query.specs.QueryForm.{QueryForm, selectedWords}
 use Rattle.lists.proofs.ListLaws.{findIndex-found, keep-length, there-some}
 use Rattle.text.proofs.NameLaws.{sameName-equal, sameName-refl}
 use Rattle.text.proofs.OffendingLaws.{leftmost-head, leftmost-tail, unless-none}
@@ -137,12 +138,12 @@ all-known cols (w ∷ ws) vs e = (unless-none _ w (leftmost-head _ _ e), all-kno
 
 -- the rows that a query sees are no more than all rows
 seen-count : (d : Doc) (q : Query) → length (seenRows d q) ≤ length (d .rows)
-unfolding seenRows rowsIn
-seen-count d q = rw (length-map (keep (λ (r : Row). eqb (r .table) (q .table)) (d .rows))) (keep-length (λ (r : Row). eqb (r .table) (q .table)) (d .rows))
+unfolding seenRows seenIn rowsIn
+seen-count d q = rw (length-map (keep (λ (r : Row). eqb (r .table) (q .source .table)) (d .rows))) (keep-length (λ (r : Row). eqb (r .table) (q .source .table)) (d .rows))
 
-answer-cost : (d : Doc) (q : Query) (cs : List ℕ) → q .wanted ≡ select cs → Distinct [] cs → AllBelow (countAt (getElem? (d .policy .tables) (q .table))) cs → Rows d 60000
+answer-cost : (d : Doc) (q : Query) (cs : List ℕ) → q .wanted ≡ select cs → Distinct [] cs → AllBelow (countAt (getElem? (d .policy .tables) (q .source .table))) cs → Rows d 60000
     → length (answerTo q (seenRows d q) .bytes) ≤ 60021
-unfolding answerTo counted rowLines countOf seenRows
+unfolding answerTo counted rowLines countOf seenRows seenIn
 answer-cost d q cs w u b h =
     let rs : List Seen = seenRows d q in
     let f : List Value → Bool = matches (q .condition) in
@@ -152,7 +153,7 @@ answer-cost d q cs w u b h =
     (omega (
       arith,
       h .short,
-      lines-cost f (labelOpen (d .policy) (q .purpose)) (schemeAt (d .policy) (q .table)) (named q) cs (q .table) (d .policy .tables) (d .rows) u b (h .fit),
+      lines-cost f (labelOpen (d .policy) (q .purpose)) (schemeAt (d .policy) (q .source .table)) (q .source .withholding) (q .source .named) cs (q .source .table) (d .policy .tables) (d .rows) u b (h .fit),
       length-append (flatten (map (lineOf f cs) rs)) (endLine (countOf (isPassed f) rs) (countOf isWithheld rs) (countOf (isUnmatched f) rs)),
       endLine-length (countOf (isPassed f) rs) (countOf isWithheld rs) (countOf (isUnmatched f) rs)
           (omega (arith, h .short, n, m, keep-length (isPassed f) rs)) (omega (arith, h .short, n, m, keep-length isWithheld rs)) (omega (arith, h .short, n, m, keep-length (isUnmatched f) rs)),
@@ -161,7 +162,7 @@ answer-cost d q cs w u b h =
 -- a select that repeats no column, over a document whose rows are short and fit
 select-cost : (d : Doc) (q : QueryForm) (ws : List Word) → q .columns ≡ some ws → repeated ws ≡ none → unknownColumn (d .policy) q ≡ none → Rows d 60000
     → length (answerTo (resolved (d .policy) q) (seenRows d (resolved (d .policy) q)) .bytes) ≤ 60021
-unfolding repeated unknownColumn namedWords selectedWords resolved wantedOf columnsOf
+unfolding repeated unknownColumn selectedWords resolved sourceOf wantedOf columnsOf
 select-cost d q ws c r k h =
     answer-cost d (resolved (d .policy) q) (map (columnNumber cols) ws) (ap (wantedOf cols) c)
     (distinct-columns cols [] ws tt knows r)
@@ -171,7 +172,7 @@ select-cost d q ws c r k h =
     cols = columnsOf (d .policy) (q .table)
 
     knows : AllKnown cols ws
-    knows = all-known cols ws _ (rw c at (leftmost-head _ _ (leftmost-tail _ _ k)))
+    knows = all-known cols ws _ (rw (named-words-are q, c) at (leftmost-head _ _ (leftmost-tail _ _ k)))
 
 -- 60,021 is a reserve of every text
 pub reserve-60021 : (doc : List ℕ) → IsReserve doc 60021

@@ -127,10 +127,10 @@ unfolding rowLine
 rowLine-length cs vs = length-append (ascii "(row" ++ flatten (map (λ c. 32 ∷ getD vs c []) cs)) (ascii ")\n") ∙ omega (arith, length-append (ascii "(row") (flatten (map (λ c. 32 ∷ getD vs c []) cs)), items-length vs cs)
 
 -- the line of a row, if it has one, is no longer than the row's cost
-line-cost : (passes : List Value → Bool) (isOpen : Option ℕ → Bool) (s : Scheme ℕ) (ns cs : List ℕ) (r : Row) → Distinct [] cs → AllBelow (length (r .values)) cs
-    → length (lineOf passes cs (seenRow isOpen s ns r)) ≤ valuesCost (r .values)
+line-cost : (passes : List Value → Bool) (isOpen : Option ℕ → Bool) (s : Scheme ℕ) (hs ns cs : List ℕ) (r : Row) → Distinct [] cs → AllBelow (length (r .values)) cs
+    → length (lineOf passes cs (seenRow isOpen s hs ns r)) ≤ valuesCost (r .values)
 unfolding seenRow lineOf valuesCost
-line-cost passes isOpen s ns cs r u b = outer (rowWithheld isOpen s ns (r .labels))
+line-cost passes isOpen s hs ns cs r u b = outer (rowWithheld isOpen s hs (r .labels))
   where
     vs : List Value
     vs = onlyNamed ns 0 (r .values)
@@ -144,22 +144,22 @@ line-cost passes isOpen s ns cs r u b = outer (rowWithheld isOpen s ns (r .label
     outer false = inner (passes vs)
 
 -- the printed rows of a table are no longer than all rows
-pub lines-cost : (passes : List Value → Bool) (isOpen : Option ℕ → Bool) (s : Scheme ℕ) (ns cs : List ℕ) (t : ℕ) (ts : List Table) (rs : List Row) → Distinct [] cs → AllBelow (countAt (getElem? ts t)) cs → AllFit ts rs
-    → length (flatten (map (lineOf passes cs) (map (seenRow isOpen s ns) (rowsIn t rs)))) ≤ rowsCost rs
+pub lines-cost : (passes : List Value → Bool) (isOpen : Option ℕ → Bool) (s : Scheme ℕ) (hs ns cs : List ℕ) (t : ℕ) (ts : List Table) (rs : List Row) → Distinct [] cs → AllBelow (countAt (getElem? ts t)) cs → AllFit ts rs
+    → length (flatten (map (lineOf passes cs) (map (seenRow isOpen s hs ns) (rowsIn t rs)))) ≤ rowsCost rs
 unfolding flatten rowsIn keep rowsCost
-lines-cost passes isOpen s ns cs t ts [] u b f = zero-le
-lines-cost passes isOpen s ns cs t ts (r ∷ rs) u b f = go (lines-cost passes isOpen s ns cs t ts rs u b (f .1)) (eqb (r .table) t) refl
+lines-cost passes isOpen s hs ns cs t ts [] u b f = zero-le
+lines-cost passes isOpen s hs ns cs t ts (r ∷ rs) u b f = go (lines-cost passes isOpen s hs ns cs t ts rs u b (f .1)) (eqb (r .table) t) refl
   where
     rest : List Row
     rest = keep (λ r. eqb (r .table) t) rs
 
-    go : length (flatten (map (lineOf passes cs) (map (seenRow isOpen s ns) rest))) ≤ rowsCost rs → (x : Bool) → eqb (r .table) t ≡ x
-        → length (flatten (map (lineOf passes cs) (map (seenRow isOpen s ns) (cond x (r ∷ rest) rest)))) ≤ valuesCost (r .values) + rowsCost rs
+    go : length (flatten (map (lineOf passes cs) (map (seenRow isOpen s hs ns) rest))) ≤ rowsCost rs → (x : Bool) → eqb (r .table) t ≡ x
+        → length (flatten (map (lineOf passes cs) (map (seenRow isOpen s hs ns) (cond x (r ∷ rest) rest)))) ≤ valuesCost (r .values) + rowsCost rs
     go ih true p = omega (
       arith,
       ih,
-      length-append (lineOf passes cs (seenRow isOpen s ns r)) (flatten (map (lineOf passes cs) (map (seenRow isOpen s ns) rest))),
-      line-cost passes isOpen s ns cs r u
+      length-append (lineOf passes cs (seenRow isOpen s hs ns r)) (flatten (map (lineOf passes cs) (map (seenRow isOpen s hs ns) rest))),
+      line-cost passes isOpen s hs ns cs r u
           (subst (λ (n : ℕ). AllBelow n cs) (ap (λ (i : ℕ). countAt (getElem? ts i)) (sym (eqb-true (r .table) t p)) ∙ sym (f .0 .wide)) b),
     )
     go ih false p = omega (arith, ih)

@@ -1,28 +1,27 @@
 -- Two lists of rows that differ only in values that are free to differ are seen alike by every query that is not refused.
 -- Assumes nothing.
 use Prim.Native.Nat.{ℕ}
-use borrow.Author.Tests.{eqb-true}
 use lib.Dec.{eqb}
 use mathlib.Core.Bool.{Bool, cond, false, true}
 use mathlib.Core.List.{List, [], _∷_, map}
 use mathlib.Core.Option.{Option, none, some}
 use mathlib.Core.Path.{_∙_, _≡_, ap, refl, sym}
 use Rattle.document.proofs.OpenLaws.{shown-open}
-use Rattle.document.specs.Lookup.{columnsOf, purposeOf, schemeAt, userOf}
-use Rattle.document.specs.Open.{columnOpen, labelOpen, rowWithheld, tableOpen}
+use Rattle.document.specs.Lookup.{purposeOf, schemeAt, userOf}
+use Rattle.document.specs.Open.{cellOpen, columnOpen, labelOpen, rowWithheld, tableOpen}
 use Rattle.document.specs.Policy.{Policy, Row}
 use Rattle.form.specs.Form.{Scheme}
-use Rattle.answer.specs.Alike.{SameOrFree, differs, done, free, inTable, namedColumns, openTo, same, withheldFrom}
+use Rattle.answer.specs.Alike.{SameOrFree, differs, done, free, same, sees}
 use Rattle.answer.specs.Answer.{answerTo}
 use Rattle.answer.specs.Ask.{answerForm}
-use Rattle.answer.specs.Seen.{Seen, onlyNamed, rowsIn, seenRow, seenRows, shown, withheld}
-use Rattle.query.proofs.NamedColumns.{columns-known, columns-open, found-known, named-words, purpose-known, table-known, table-open}
+use Rattle.answer.specs.Seen.{Seen, onlyNamed, rowsIn, seenIn, seenRow, seenRows, shown, withheld}
+use Rattle.query.proofs.NamedColumns.{all-withhold, columns-open, purpose-known, source-known, table-open}
 use Rattle.query.specs.Authority.{Clock, firstGrant}
-use Rattle.query.specs.Query.{closedPart, mistypedQuery, named, resolved, unknownColumn, unknownParty}
-use Rattle.query.specs.QueryForm.{QueryForm, namedWords}
+use Rattle.query.specs.Query.{Source, closedPart, mistypedQuery, resolved, sources, unknownColumn, unknownParty}
+use Rattle.query.specs.QueryForm.{QueryForm}
 use Rattle.text.proofs.RefusalLaws.{bind-cong, refuseAt-accepted, then-cong}
 use Rattle.lists.proofs.Tests.{true-not-false}
-use Rattle.lists.specs.Lists.{holdsOf, keep, member, orZero}
+use Rattle.lists.specs.Lists.{anyOf, holdsOf, keep, member, orZero}
 use Rattle.text.specs.Numbers.{Value}
 use Rattle.text.specs.Refusal.{accepted, need, pointing, query, refuseAt}
 
@@ -45,17 +44,17 @@ onlyNamed-same f cs h (same {c} v r) = ap (λ l. cond (member c cs) v [] ∷ l) 
 onlyNamed-same f cs h (differs {c} v w e r) = rw (h c e) (ap (λ l. [] ∷ l) (onlyNamed-same f cs h r))
 
 -- two rows are seen alike, if values are free only where no column is named or the row is withheld
-seenRow-same : (isOpen : Option ℕ → Bool) (s : Scheme ℕ) (cs : List ℕ) (f : ℕ → Bool) (x y : Row) → y .labels ≡ x .labels
+seenRow-same : (isOpen : Option ℕ → Bool) (s : Scheme ℕ) (hs ns : List ℕ) (f : ℕ → Bool) (x y : Row) → y .labels ≡ x .labels
     → SameOrFree f 0 (x .values) (y .values)
-    → (rowWithheld isOpen s cs (x .labels) ≡ false → (c : ℕ) → f c ≡ true → member c cs ≡ false)
-    → seenRow isOpen s cs x ≡ seenRow isOpen s cs y
+    → (rowWithheld isOpen s hs (x .labels) ≡ false → (c : ℕ) → f c ≡ true → member c ns ≡ false)
+    → seenRow isOpen s hs ns x ≡ seenRow isOpen s hs ns y
 unfolding seenRow
-seenRow-same isOpen s cs f x y e v h = rw e (go (rowWithheld isOpen s cs (x .labels)) refl)
+seenRow-same isOpen s hs ns f x y e v h = rw e (go (rowWithheld isOpen s hs (x .labels)) refl)
   where
-    go : (b : Bool) → rowWithheld isOpen s cs (x .labels) ≡ b
-        → cond b withheld (shown (onlyNamed cs 0 (x .values))) ≡ cond b withheld (shown (onlyNamed cs 0 (y .values)))
+    go : (b : Bool) → rowWithheld isOpen s hs (x .labels) ≡ b
+        → cond b withheld (shown (onlyNamed ns 0 (x .values))) ≡ cond b withheld (shown (onlyNamed ns 0 (y .values)))
     go true w = refl
-    go false w = ap shown (onlyNamed-same f cs (h w) v)
+    go false w = ap shown (onlyNamed-same f ns (h w) v)
 
 -- rows that are kept alike and seen alike
 mapped-same : {d : Policy} {q : Option QueryForm} (k : Row → Bool) (f : Row → Seen)
@@ -70,53 +69,47 @@ mapped-same k f same-k same-f (rowAnd {r} {s} {rs} {ss} a as′) = go (k r) refl
     go true e rest = rw (← same-k r s a, e, same-f r s a e, rest)
     go false e rest = rw (← same-k r s a, e, rest)
 
--- in a row that is not withheld, of a table that is open to the query, a value that is free to differ is not named
-free-unnamed : (d : Policy) (q : QueryForm) (r : Row) (p : ℕ) → purposeOf d (q .purpose) ≡ some p → inTable d q r ≡ true
-    → tableOpen (labelOpen d p) (schemeAt d (r .table)) ≡ true
-    → ((k : ℕ) → member k (namedColumns d q) ≡ true → columnOpen (labelOpen d p) (schemeAt d (r .table)) k ≡ true)
-    → rowWithheld (labelOpen d p) (schemeAt d (r .table)) (namedColumns d q) (r .labels) ≡ false
-    → (c : ℕ) → free d (some q) r c ≡ true → member c (namedColumns d q) ≡ false
-unfolding openTo holdsOf withheldFrom free
-free-unnamed d q r p is-p in-table t k w c f = go (member c (namedColumns d q)) refl
+-- in a row that is not withheld, of the one table that the query reads and which is open, a value that is free to differ is not named
+free-unnamed : (d : Policy) (q : QueryForm) (x : Source) (r : Row) (p : ℕ) → purposeOf d (q .purpose) ≡ some p → sources d q ≡ x ∷ []
+    → x .withholding ≡ x .named → eqb (r .table) (x .table) ≡ true → tableOpen (labelOpen d p) (schemeAt d (x .table)) ≡ true
+    → ((k : ℕ) → member k (x .named) ≡ true → columnOpen (labelOpen d p) (schemeAt d (x .table)) k ≡ true)
+    → rowWithheld (labelOpen d p) (schemeAt d (x .table)) (x .withholding) (r .labels) ≡ false
+    → (c : ℕ) → free d (some q) r c ≡ true → member c (x .named) ≡ false
+unfolding free holdsOf anyOf sees
+free-unnamed d q x r p is-p is-x all-withhold here t k w c f = go (member c (x .named)) refl
   where
-    opened : member c (namedColumns d q) ≡ true → openTo d q r c ≡ true
-    opened m = rw is-p (shown-open (labelOpen d p) (schemeAt d (r .table)) (namedColumns d q) (r .labels) t k w c m)
+    opened : member c (x .named) ≡ true → cellOpen (labelOpen d p) (schemeAt d (x .table)) (r .labels) c ≡ true
+    opened m =
+        shown-open (labelOpen d p) (schemeAt d (x .table)) (x .named) (r .labels) t k
+        (ap (λ cs. rowWithheld (labelOpen d p) (schemeAt d (x .table)) cs (r .labels)) (sym all-withhold) ∙ w) c m
 
-    kept : withheldFrom d q r ≡ false
-    kept = rw is-p w
+    seen : member c (x .named) ≡ true → free d (some q) r c ≡ false
+    seen m = rw (is-p, is-x, here, w, m, opened m)
 
-    never : member c (namedColumns d q) ≡ true → free d (some q) r c ≡ false
-    never m = simp (opened m, in-table, m, kept)
-
-    go : (b : Bool) → member c (namedColumns d q) ≡ b → member c (namedColumns d q) ≡ false
+    go : (b : Bool) → member c (x .named) ≡ b → member c (x .named) ≡ false
     go false e = e
-    go true e = true-not-false f (never e)
+    go true e = true-not-false f (seen e)
 
 module _ (d : Policy) (q : QueryForm) (known-party : unknownParty d q ≡ none) (known-columns : unknownColumn d q ≡ none) (open-parts : closedPart d q ≡ none) where
-  same-names : namedColumns d q ≡ named (resolved d q)
-  unfolding namedColumns
-  same-names = found-known (columnsOf d (q .table)) (namedWords q) (columns-known d q known-columns) ∙ sym (named-words d q)
+  -- the table that the query reads
+  abbrev source : Source
+  source = resolved d q .source
 
-  in-table : (r : Row) → eqb (r .table) (resolved d q .table) ≡ true → inTable d q r ≡ true
-  unfolding inTable holdsOf
-  in-table r e = rw (table-known d q known-columns) e
+  -- what is seen of one of its rows
+  abbrev seen : Row → Seen
+  seen = seenRow (labelOpen d (resolved d q .purpose)) (schemeAt d (source .table)) (source .withholding) (source .named)
 
   -- a row of the queried table is seen alike
-  row-seen : (x y : Row) → RowAlike d (some q) x y → eqb (x .table) (resolved d q .table) ≡ true
-      → seenRow (labelOpen d (resolved d q .purpose)) (schemeAt d (resolved d q .table)) (named (resolved d q)) x
-      ≡ seenRow (labelOpen d (resolved d q .purpose)) (schemeAt d (resolved d q .table)) (named (resolved d q)) y
+  row-seen : (x y : Row) → RowAlike d (some q) x y → eqb (x .table) (source .table) ≡ true → seen x ≡ seen y
   row-seen x y a e =
-      let t : schemeAt d (x .table) ≡ schemeAt d (resolved d q .table) = ap (schemeAt d) (eqb-true _ _ e) in
-      seenRow-same (labelOpen d (resolved d q .purpose)) (schemeAt d (resolved d q .table)) (named (resolved d q)) (free d (some q) x) x y (a .labels) (a .values)
-      (λ w. rw (← same-names) (free-unnamed d q x (resolved d q .purpose) (purpose-known d q known-party) (in-table x e)
-      (rw t (table-open d q open-parts)) (rw (t, same-names) (columns-open d q open-parts)) (rw (t, same-names) w)))
+      seenRow-same (labelOpen d (resolved d q .purpose)) (schemeAt d (source .table)) (source .withholding) (source .named) (free d (some q) x) x y (a .labels) (a .values)
+      (free-unnamed d q source x (resolved d q .purpose) (purpose-known d q known-party) (source-known d q known-columns) (all-withhold d q) e
+      (table-open d q open-parts) (columns-open d q known-columns open-parts))
 
   -- alike rows are seen alike
   pub seen-same : {rs ss : List Row} → RowsAlike d (some q) rs ss → seenRows (record { policy = d; rows = rs }) (resolved d q) ≡ seenRows (record { policy = d; rows = ss }) (resolved d q)
-  unfolding seenRows rowsIn
-  seen-same a =
-      mapped-same (λ r. eqb (r .table) (resolved d q .table)) (seenRow (labelOpen d (resolved d q .purpose)) (schemeAt d (resolved d q .table)) (named (resolved d q)))
-      (λ x y b. rw (b .table)) row-seen a
+  unfolding seenRows seenIn rowsIn
+  seen-same a = mapped-same (λ r. eqb (r .table) (source .table)) seen (λ x y b. rw (b .table)) row-seen a
 
 -- Documents of one policy whose rows differ only in free values give the query the same outcome.
 pub same-outcome : (d : Policy) (rs ss : List Row) (c : Clock) (q : QueryForm) → RowsAlike d (some q) rs ss

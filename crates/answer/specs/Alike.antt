@@ -3,46 +3,39 @@
 use Prim.Native.Nat.{suc, ℕ}
 use lib.Dec.{eqb}
 use lib.ListN.{length}
-use mathlib.Core.Bool.{Bool, _||_, not, true}
+use mathlib.Core.Bool.{Bool, _&&_, not, true}
 use mathlib.Core.List.{List, [], _∷_, map}
 use mathlib.Core.Option.{Option, none, some}
 use mathlib.Core.Path.{_≡_}
 use Rattle.document.specs.Check.{Accepted, check}
-use Rattle.document.specs.Lookup.{columnOf, columnsOf, labelOf, purposeOf, schemeAt, schemeOf, tableOf}
+use Rattle.document.specs.Lookup.{labelOf, purposeOf, schemeAt, schemeOf, tableOf}
 use Rattle.document.specs.Open.{cellOpen, labelOpen, rowWithheld}
 use Rattle.document.specs.Policy.{Policy, Row}
 use Rattle.form.specs.Form.{table}
 use Rattle.form.specs.RowText.{labelCount, rowText}
-use Rattle.query.specs.QueryForm.{QueryForm, namedWords, queryOf}
+use Rattle.query.specs.Query.{Source, sources}
+use Rattle.query.specs.QueryForm.{QueryForm, queryOf}
 use Rattle.text.specs.Lines.{cut}
-use Rattle.lists.specs.Lists.{allOf, found, holdsOf, member, orZero}
+use Rattle.lists.specs.Lists.{allOf, anyOf, holdsOf, member, orZero}
 use Rattle.text.specs.Names.{Name, isName}
 use Rattle.text.specs.Numbers.{Value, isValue}
 use Rattle.text.specs.Refusal.{accepted}
 use Rattle.text.specs.Words.{plainWord}
 
--- the columns of the queried table that the query names, by number
-unfoldable pub namedColumns : Policy → QueryForm → List ℕ
-namedColumns d q = found (map (columnOf (columnsOf d (q .table))) (namedWords q))
+-- a query for the purpose p sees cell c of the row through a table that it reads: the row lies in that table and is not withheld,
+-- the column is named, and the cell is open
+unfoldable pub sees : Policy → ℕ → Row → ℕ → Source → Bool
+sees d p r c x =
+    eqb (r .table) (x .table)
+    && (not (rowWithheld (labelOpen d p) (schemeAt d (x .table)) (x .withholding) (r .labels))
+    && (member c (x .named) && cellOpen (labelOpen d p) (schemeAt d (x .table)) (r .labels) c))
 
--- the row lies in the table that the query names
-unfoldable pub inTable : Policy → QueryForm → Row → Bool
-inTable d q r = holdsOf (eqb (r .table)) (tableOf d (q .table))
-
--- the row is withheld from the query, be that answered or refused
-unfoldable pub withheldFrom : Policy → QueryForm → Row → Bool
-withheldFrom d q r =
-    holdsOf (λ p. rowWithheld (labelOpen d p) (schemeAt d (r .table)) (namedColumns d q) (r .labels)) (purposeOf d (q .purpose))
-
--- cell c of the row is open to the query's purpose; none is, to a purpose that the document does not know
-unfoldable pub openTo : Policy → QueryForm → Row → ℕ → Bool
-openTo d q r c = holdsOf (λ p. cellOpen (labelOpen d p) (schemeAt d (r .table)) (r .labels) c) (purposeOf d (q .purpose))
-
--- the value of cell c of the row may differ: the cell is closed to the purpose, stands in a table or column that the query
--- does not name, or lies in a row withheld from it; a text that is no query names nothing
+-- the value of cell c of the row may differ: the query, be it answered or refused, does not see it, since the cell is closed to the
+-- purpose, stands in a table or column that the query does not name, or lies in a row withheld from it. To a purpose that the
+-- document does not know every cell is closed, and a text that is no query names nothing
 unfoldable pub free : Policy → Option QueryForm → Row → ℕ → Bool
 free d none r c = true
-free d (some q) r c = not (openTo d q r c) || not (inTable d q r) || not (member c (namedColumns d q)) || withheldFrom d q r
+free d (some q) r c = not (holdsOf (λ p. anyOf (sees d p r c) (sources d q)) (purposeOf d (q .purpose)))
 
 -- two lists of values, the first for column c: each value is the same or free to differ
 pub data SameOrFree (f : ℕ → Bool) : ℕ → List Value → List Value → Type 0 where

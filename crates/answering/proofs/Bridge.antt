@@ -57,9 +57,9 @@ module _ (cs : List ℕ) (f g : Row → Bool) where
 module _ {text ts ws : List ℕ} {count : ℕ} {os : List Bool} {s : List ℕ} {g : Sought} {read cs : List ℕ} {d : Doc} {q : Query} {marks : List Bool} {x : Tally}
     (p : Prepared text ts ws count os s g read cs d q) (j : Judged d q marks x) where
   -- the lines of the marked rows are those of the rows given
-  lines-given : linesMarked text ws (take (g .chosen) cs) marks count ≡ flatten (map (λ r. rowLine (take (g .chosen) cs) (r .values)) (keep (isGiven d q) (rowsIn (q .table) (d .rows))))
+  lines-given : linesMarked text ws (take (g .chosen) cs) marks count ≡ flatten (map (λ r. rowLine (take (g .chosen) cs) (r .values)) (keep (isGiven d q) (rowsIn (q .source .table) (d .rows))))
   unfolding rowsIn
-  lines-given = marked-kept (take (g .chosen) cs) (λ r. eqb (r .table) (q .table)) (isGiven d q) text ws marks count (d .rows) (p .rows) (j .given)
+  lines-given = marked-kept (take (g .chosen) cs) (λ r. eqb (r .table) (q .source .table)) (isGiven d q) text ws marks count (d .rows) (p .rows) (j .given)
 
   -- the answer is the one that was written
   pub answer-is : answerTo q (seenRows d q) ≡ answerMarked text ws (take (g .chosen) cs) marks count (g .select) (x .passed) (x .withheld) (x .unmatched)
@@ -70,7 +70,7 @@ module _ {text ts ws : List ℕ} {count : ℕ} {os : List Bool} {s : List ℕ} {
       a = answerTo q (seenRows d q)
 
       exact : GivesExactly d q a
-      exact = gives-exactly d q
+      exact = gives-exactly d q (p .named)
 
       same-passed : a .passed ≡ x .passed
       same-passed = exact .passed ∙ sym (j .passed)

@@ -44,7 +44,7 @@ module _ (text ws : List ℕ) (count : ℕ) (os : List Bool) (s : List ℕ) (g :
   row-small = omega (arith, l, jd .rows .few)
 
   -- the table as the code reads it
-  table-here : (x : ℕ) → (r < 1024 → x ≡ rowTableIn ws r) → eqb x (g .table) ≡ eqb (rowIn text ws r .table) (q .table)
+  table-here : (x : ℕ) → (r < 1024 → x ≡ rowTableIn ws r) → eqb x (g .table) ≡ eqb (rowIn text ws r .table) (q .source .table)
   unfolding rowIn
   table-here x is = λ i. eqb (is row-small i) (sym (jd .table) i)
 
@@ -55,7 +55,7 @@ module _ (text ws : List ℕ) (count : ℕ) (os : List Bool) (s : List ℕ) (g :
   unfolding isWithheldRow rowIn
   withheld-here x h =
       h (d .policy) (q .purpose) (jd .label) (jd .labels) (jd .opened) row-small (jd .rows .marked r l)
-      ∙ (λ i. rowWithheld (labelOpen (d .policy) (q .purpose)) (jd .schemed i) (jd .named i) (labelsIn ws r))
+      ∙ (λ i. rowWithheld (labelOpen (d .policy) (q .purpose)) (jd .schemed i) (jd .withholding i) (labelsIn ws r))
 
   -- what the code gives for each row
   module _ (x : ℕ) (is : r < 1024 → x ≡ rowTableIn ws r) where
@@ -65,7 +65,7 @@ module _ (text ws : List ℕ) (count : ℕ) (os : List Bool) (s : List ℕ) (g :
 
     module _ (here : x ≡ g .table) (y : Bool)
         (held : (e : Policy) (p l : ℕ) (ls : List ℕ) → Opened e p os → r < 1024 → labelCountIn ws r ≤ labelRoom → y ≡ rowWithheld (labelOpen e p) (schemeBy code l ls) (take (g .chosen + g .tests) cs) (labelsIn ws r)) where
-      in-table : true ≡ eqb (rowIn text ws r .table) (q .table)
+      in-table : true ≡ eqb (rowIn text ws r .table) (q .source .table)
       in-table = sym (eq-eqb x (g .table) here) ∙ table-here x is
 
       fate-withheld : y ≡ true → fate.Withheld ≡ fateOf d q (rowIn text ws r)
@@ -98,7 +98,7 @@ judgeable text ts ws count os s g rs cs d q pr code is = record {
       ∙ sym (scheme-at text ts (pr .tableCount) (g .table) (d .policy) (pr .tables) (pr .inside))
       ∙ ap (schemeAt (d .policy)) (sym (pr .table));
   opened = pr .opened;
-  named = pr .named;
+  withholding = pr .withholding;
   tested = pr .tested;
 }
 
@@ -172,16 +172,16 @@ module _ (d : Doc) (q : Query) (row : ℕ → Row) where
   judged-none marks = record { given = λ r l. absurd (omega (arith, l)); passed = refl; withheld = refl; unmatched = refl }
 
   module _ (k : ℕ) (marks : List Bool) (x : Tally) (l : k < length marks) (h : JudgedTo d q row k marks x) where
-    row-adds : Adds x (fateOf d q (row k)) (eqb (row k .table) (q .table) && isGiven d q (row k)) (eqb (row k .table) (q .table) && isWithheldRow d q (row k)) (eqb (row k .table) (q .table) && isUnmatchedRow d q (row k))
+    row-adds : Adds x (fateOf d q (row k)) (eqb (row k .table) (q .source .table) && isGiven d q (row k)) (eqb (row k .table) (q .source .table) && isWithheldRow d q (row k)) (eqb (row k .table) (q .source .table) && isUnmatchedRow d q (row k))
     unfolding fateOf isGiven isUnmatchedRow
-    row-adds = fate-adds x (eqb (row k .table) (q .table)) (isWithheldRow d q (row k)) (matches (q .condition) (row k .values))
+    row-adds = fate-adds x (eqb (row k .table) (q .source .table)) (isWithheldRow d q (row k)) (matches (q .condition) (row k .values))
 
     fate-more : JudgedTo d q row (k + 1) (set marks k (passedBy (fateOf d q (row k)))) (countedBy x (fateOf d q (row k)))
     fate-more = record {
-      given = stored-more (λ r b. b ≡ (eqb (row r .table) (q .table) && isGiven d q (row r))) marks k (passedBy (fateOf d q (row k))) l (h .given) (row-adds .mark);
-      passed = row-adds .passed ∙ ap (λ (n : ℕ). n + cond (eqb (row k .table) (q .table) && isGiven d q (row k)) 1 0) (h .passed) ∙ sym (rows-more (q .table) row (isGiven d q) k);
-      withheld = row-adds .withheld ∙ ap (λ (n : ℕ). n + cond (eqb (row k .table) (q .table) && isWithheldRow d q (row k)) 1 0) (h .withheld) ∙ sym (rows-more (q .table) row (isWithheldRow d q) k);
-      unmatched = row-adds .unmatched ∙ ap (λ (n : ℕ). n + cond (eqb (row k .table) (q .table) && isUnmatchedRow d q (row k)) 1 0) (h .unmatched) ∙ sym (rows-more (q .table) row (isUnmatchedRow d q) k);
+      given = stored-more (λ r b. b ≡ (eqb (row r .table) (q .source .table) && isGiven d q (row r))) marks k (passedBy (fateOf d q (row k))) l (h .given) (row-adds .mark);
+      passed = row-adds .passed ∙ ap (λ (n : ℕ). n + cond (eqb (row k .table) (q .source .table) && isGiven d q (row k)) 1 0) (h .passed) ∙ sym (rows-more (q .source .table) row (isGiven d q) k);
+      withheld = row-adds .withheld ∙ ap (λ (n : ℕ). n + cond (eqb (row k .table) (q .source .table) && isWithheldRow d q (row k)) 1 0) (h .withheld) ∙ sym (rows-more (q .source .table) row (isWithheldRow d q) k);
+      unmatched = row-adds .unmatched ∙ ap (λ (n : ℕ). n + cond (eqb (row k .table) (q .source .table) && isUnmatchedRow d q (row k)) 1 0) (h .unmatched) ∙ sym (rows-more (q .source .table) row (isUnmatchedRow d q) k);
     }
 
     pub judged-more : (f : Fate) → f ≡ fateOf d q (row k) → (b : Bool) → b ≡ passedBy f → (y : Tally) → y ≡ countedBy x f → JudgedTo d q row (k + 1) (set marks k b) y
@@ -193,8 +193,8 @@ module _ (d : Doc) (q : Query) (row : ℕ → Row) where
 pub judged-all : (text ws : List ℕ) (count : ℕ) (d : Doc) (q : Query) (marks : List Bool) (x : Tally) → Rows text ws count (d .rows) → JudgedTo d q (rowIn text ws) count marks x → Judged d q marks x
 judged-all text ws count d q marks x rows h = record {
   given = λ r row e. let k = row-known text ws count (d .rows) rows r row e in
-      h .given r (k .0) ∙ ap (λ (z : Row). eqb (z .table) (q .table) && isGiven d q z) (sym (k .1));
-  passed = h .passed ∙ ap (λ (rs : List Row). countOf (isGiven d q) (rowsIn (q .table) rs)) (rows .are);
-  withheld = h .withheld ∙ ap (λ (rs : List Row). countOf (isWithheldRow d q) (rowsIn (q .table) rs)) (rows .are);
-  unmatched = h .unmatched ∙ ap (λ (rs : List Row). countOf (isUnmatchedRow d q) (rowsIn (q .table) rs)) (rows .are);
+      h .given r (k .0) ∙ ap (λ (z : Row). eqb (z .table) (q .source .table) && isGiven d q z) (sym (k .1));
+  passed = h .passed ∙ ap (λ (rs : List Row). countOf (isGiven d q) (rowsIn (q .source .table) rs)) (rows .are);
+  withheld = h .withheld ∙ ap (λ (rs : List Row). countOf (isWithheldRow d q) (rowsIn (q .source .table) rs)) (rows .are);
+  unmatched = h .unmatched ∙ ap (λ (rs : List Row). countOf (isUnmatchedRow d q) (rowsIn (q .source .table) rs)) (rows .are);
 }

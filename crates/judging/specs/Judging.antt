@@ -22,7 +22,7 @@ use Rattle.relations.specs.Rows.{Rows, labelsIn}
 use Rattle.relations.specs.Tables.{schemeBy}
 use Rattle.form.specs.declared.lines.Scheme as coded
 use Rattle.lists.specs.Lists.{countOf}
-use Rattle.query.specs.Query.{Query, named}
+use Rattle.query.specs.Query.{Query}
 
 -- cell c of row r is open to the purpose p
 unfoldable pub openIn : Policy → ℕ → List ℕ → ℕ → ℕ → Bool
@@ -37,7 +37,7 @@ fateHere held met = cond held fate.Withheld (cond met fate.Passed fate.Unmatched
 -- what becomes of a row
 unfoldable pub fateOf : Doc → Query → Row → Fate
 fateOf d q row =
-    cond (eqb (row .table) (q .table))
+    cond (eqb (row .table) (q .source .table))
     (fateHere (isWithheldRow d q row) (matches (q .condition) (row .values)))
     fate.Elsewhere
 
@@ -56,20 +56,20 @@ countedBy x fate.Passed = record { passed = x .passed + 1; withheld = x .withhel
 countedBy x fate.Unmatched = record { passed = x .passed; withheld = x .withheld; unmatched = x .unmatched + 1 }
 
 -- a query and what is read of it, ready for each of the rows: g is what is sought of them, in a table of this scheme; the numbers cs
--- are those of the columns that it names, and the condition's comparisons are read
+-- are those of the columns that withhold, and the condition's comparisons are read
 pub record Judgeable (text ws : List ℕ) (count : ℕ) (os : List Bool) (s : List ℕ) (g : Sought) (scheme : coded.Scheme) (cs read : List ℕ) (d : Doc) (q : Query) : Type 0 where
   pub rows : Rows text ws count (d .rows)
-  pub table : q .table ≡ g .table
+  pub table : q .source .table ≡ g .table
   pub label : ℕ
   pub labels : List ℕ
-  pub schemed : schemeBy scheme label labels ≡ schemeAt (d .policy) (q .table)
+  pub schemed : schemeBy scheme label labels ≡ schemeAt (d .policy) (q .source .table)
   pub opened : Opened (d .policy) (q .purpose) os
-  pub named : take (g .chosen + g .tests) cs ≡ named q
+  pub withholding : take (g .chosen + g .tests) cs ≡ q .source .withholding
   pub tested : Tested s read (g .tests) (q .condition)
 
 -- the same as Judged, for the first k rows
 pub record JudgedTo (d : Doc) (q : Query) (row : ℕ → Row) (k : ℕ) (marks : List Bool) (x : Tally) : Type 0 where
-  pub given : (r : ℕ) → r < k → getD marks r false ≡ (eqb (row r .table) (q .table) && isGiven d q (row r))
-  pub passed : x .passed ≡ countOf (isGiven d q) (rowsIn (q .table) (tabulated row k))
-  pub withheld : x .withheld ≡ countOf (isWithheldRow d q) (rowsIn (q .table) (tabulated row k))
-  pub unmatched : x .unmatched ≡ countOf (isUnmatchedRow d q) (rowsIn (q .table) (tabulated row k))
+  pub given : (r : ℕ) → r < k → getD marks r false ≡ (eqb (row r .table) (q .source .table) && isGiven d q (row r))
+  pub passed : x .passed ≡ countOf (isGiven d q) (rowsIn (q .source .table) (tabulated row k))
+  pub withheld : x .withheld ≡ countOf (isWithheldRow d q) (rowsIn (q .source .table) (tabulated row k))
+  pub unmatched : x .unmatched ≡ countOf (isUnmatchedRow d q) (rowsIn (q .source .table) (tabulated row k))

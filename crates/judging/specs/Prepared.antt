@@ -13,7 +13,7 @@ use Rattle.relations.specs.Labels.{Opened}
 use Rattle.relations.specs.Rows.{Rows}
 use Rattle.relations.specs.Tables.{Tables}
 use Rattle.lists.specs.Lists.{countOf}
-use Rattle.query.specs.Query.{Query, Wanted, countsOnly, named, select}
+use Rattle.query.specs.Query.{NamesParts, Query, Wanted, countsOnly, select}
 use Rattle.judging.specs.Tests.{Tested}
 use Rattle.judging.specs.declared.sought.Sought.{Sought}
 use Rattle.judging.specs.declared.tally.Tally.{Tally}
@@ -32,16 +32,17 @@ pub record Prepared (text ts ws : List ℕ) (count : ℕ) (os : List Bool) (s : 
   pub tables : Tables text ts tableCount (d .policy .tables)
   pub inside : g .table < tableCount
   pub rows : Rows text ws count (d .rows)
-  pub table : q .table ≡ g .table
+  pub table : q .source .table ≡ g .table
   pub opened : Opened (d .policy) (q .purpose) os
   pub fewChosen : g .chosen ≤ 16
   pub wanted : q .wanted ≡ wantedBy (g .select) (take (g .chosen) cs)
-  pub named : take (g .chosen + g .tests) cs ≡ named q
+  pub named : NamesParts q
+  pub withholding : take (g .chosen + g .tests) cs ≡ q .source .withholding
   pub tested : Tested s read (g .tests) (q .condition)
 
 -- each row is judged: the marks say which rows of the query's table are given, and the counts are those of its rows
 pub record Judged (d : Doc) (q : Query) (marks : List Bool) (x : Tally) : Type 0 where
-  pub given : (r : ℕ) (row : Row) → getElem? (d .rows) r ≡ some row → getD marks r false ≡ (eqb (row .table) (q .table) && isGiven d q row)
-  pub passed : x .passed ≡ countOf (isGiven d q) (rowsIn (q .table) (d .rows))
-  pub withheld : x .withheld ≡ countOf (isWithheldRow d q) (rowsIn (q .table) (d .rows))
-  pub unmatched : x .unmatched ≡ countOf (isUnmatchedRow d q) (rowsIn (q .table) (d .rows))
+  pub given : (r : ℕ) (row : Row) → getElem? (d .rows) r ≡ some row → getD marks r false ≡ (eqb (row .table) (q .source .table) && isGiven d q row)
+  pub passed : x .passed ≡ countOf (isGiven d q) (rowsIn (q .source .table) (d .rows))
+  pub withheld : x .withheld ≡ countOf (isWithheldRow d q) (rowsIn (q .source .table) (d .rows))
+  pub unmatched : x .unmatched ≡ countOf (isUnmatchedRow d q) (rowsIn (q .source .table) (d .rows))

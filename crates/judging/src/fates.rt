@@ -74,7 +74,7 @@ fn any_closed(
     false
 }
 
-// Whether row r is withheld in a table of this scheme, where the first n columns are named.
+// Whether row r is withheld in a table of this scheme, where closed cells in the first n columns withhold it.
 fn is_withheld(
     scheme: Scheme,
     rows: &[usize; ROW_CELLS],

@@ -13,8 +13,8 @@ use Rattle.form.specs.Form.{Scheme}
 use Rattle.purpose.proofs.Ancestry.{descends-trans}
 use Rattle.purpose.specs.Compliance.{descends}
 use Rattle.query.specs.Authority.{Clock, authorises, firstGrant}
-use Rattle.query.specs.Query.{Query, closedPart, openFor, resolved, unknownParty}
-use Rattle.query.specs.QueryForm.{QueryForm, namedWords, selectedWords}
+use Rattle.query.specs.Query.{Query, closedPart, openFor, resolved, sourceOf, unknownParty}
+use Rattle.query.specs.QueryForm.{QueryForm, namedRefs, namedWords, selectedRefs, selectedWords, testedRefs, withholdingRefs}
 use Rattle.lists.proofs.ListLaws.{findIndex-found, findIndexFrom-mono}
 use Rattle.text.proofs.OffendingLaws.{leftmost-head, leftmost-nil, leftmost-none, leftmost-tail, missing-mono, unless-none, unless-true}
 use Rattle.lists.proofs.Tests.{and-left, and-right}
@@ -27,7 +27,7 @@ forPurpose w q = record { user = q .user; role = q .role; purpose = w; table = q
 
 -- the resolved query for another purpose
 unfoldable pub toPurpose : ℕ → Query → Query
-toPurpose p q = record { purpose = p; table = q .table; wanted = q .wanted; condition = q .condition }
+toPurpose p q = record { purpose = p; source = q .source; wanted = q .wanted; condition = q .condition }
 
 -- a purpose that is known is one of the tree
 pub purpose-inside : (d : Policy) (w : Word) (n : ℕ) → purposeOf d w ≡ some n → n < length (d .purposes)
@@ -60,7 +60,7 @@ module _ (d : Policy) (q : QueryForm) (w : Word) (p : ℕ) (is-p : purposeOf d w
       (leftmost-none _ _ (unless-true (there (purposeOf d w)) w (rw is-p)) leftmost-nil))
 
   pub parts-down : closedPart d q ≡ none → closedPart d (forPurpose w q) ≡ none
-  unfolding closedPart openFor forPurpose namedWords selectedWords orZero
+  unfolding closedPart openFor forPurpose namedWords namedRefs selectedRefs testedRefs selectedWords orZero
   parts-down h =
       let s : Scheme ℕ = schemeOf d (q .table) in
       let cs : List Column = columnsOf d (q .table) in
@@ -70,5 +70,5 @@ module _ (d : Policy) (q : QueryForm) (w : Word) (p : ℕ) (is-p : purposeOf d w
       (leftmost-none _ _ (missing-mono _ _ (λ v. columnOpen-more here (labelOpen d p) label-down s (orZero (columnOf cs v))) (namedWords q) (leftmost-head _ _ (leftmost-tail _ _ h))) leftmost-nil))
 
   pub resolved-down : resolved d (forPurpose w q) ≡ toPurpose p (resolved d q)
-  unfolding resolved forPurpose toPurpose orZero
+  unfolding resolved sourceOf withholdingRefs namedRefs selectedRefs testedRefs selectedWords forPurpose toPurpose orZero
   resolved-down = rw is-p

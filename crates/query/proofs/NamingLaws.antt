@@ -16,7 +16,8 @@ use Rattle.form.specs.Walks.{namesAt}
 use Rattle.lists.proofs.ListLaws.{map-append}
 use Rattle.query.proofs.BodiesRead.{first-of, wanted-count}
 use Rattle.query.specs.Naming.{ComparedStored, NamesPlaced, PlacesStored, TestStored, TestsPlaced, wordsAt}
-use Rattle.query.specs.QueryForm.{namedWords, selectedWords}
+use Rattle.query.proofs.Sources.{named-words-are}
+use Rattle.query.specs.QueryForm.{selectedWords}
 use Rattle.query.specs.QueryPlaces.{IsQuery, TestWithin, chosenCount, comparisonCount, conditionAt, formAt, selectedFrom, wantedAt}
 use Rattle.text.specs.Reader.{from}
 use Rattle.text.specs.Walking.{nextWord, wordEndAt}
@@ -190,7 +191,7 @@ wanted-none s before e = subst (λ v. PlacesStored s (wantedWords s v) 0 before 
 
 pub names-placed : (s : List ℕ) (q : Question) {k r : ℕ} {before mid after ops : List ℕ} → length before ≡ 80 → PlacesStored s (wantedWords s (q .wanted)) k before mid
     → TestStored s (q .test) k r mid after ops → IsQuery s q → NamesPlaced s q r after ops
-unfolding formAt namedWords selectedWords
+unfolding formAt selectedWords
 names-placed s q {k} {r} {before} {mid} {after} {ops} l b d h =
     let w : length (wantedWords s (q .wanted)) ≡ chosenCount (q .wanted) = wanted-count s (q .wanted) (h .within .wanted) in
     let v : length mid ≡ 80 = b .same ∙ l in
@@ -199,6 +200,6 @@ names-placed s q {k} {r} {before} {mid} {after} {ops} l b d h =
     let z : k ≡ chosenCount (q .wanted) = sym f ∙ ap length g ∙ w in
     record {
       small = omega (arith, v, d .small (omega (arith, z, v, h .few .columns)));
-      words = d .named (h .within .test) (h .few .tests) (omega (arith, z, v, h .few .columns, h .few .tests)) ∙ ap (λ (ws : List Word). ws ++ ofAll (comparisonsIn (conditionAt s (q .test)))) g;
+      words = d .named (h .within .test) (h .few .tests) (omega (arith, z, v, h .few .columns, h .few .tests)) ∙ ap (λ (ws : List Word). ws ++ ofAll (comparisonsIn (conditionAt s (q .test)))) g ∙ sym (named-words-are (formAt s q));
       tests = d .placed (h .within .test) (h .few .tests);
     }

@@ -13,12 +13,13 @@ use Rattle.condition.specs.Kinds.{Kind}
 use Rattle.document.specs.Lookup.{columnKind, columnOf, columnsOf, purposeOf, roleOf, schemeOf, tableOf}
 use Rattle.document.specs.Open.{columnOpen, tableOpen}
 use Rattle.document.specs.Policy.{Column, Policy}
-use Rattle.query.specs.Query.{closedPart, columnComparison, mistypedQuery, openFor, resolved, select, unknownColumn, unknownParty, wantedOf}
-use Rattle.query.specs.QueryForm.{QueryForm, namedWords, selectedWords, withinBounds}
+use Rattle.query.specs.Query.{closedPart, columnComparison, columnsIn, mistypedQuery, openFor, resolved, select, sourceOf, unknownColumn, unknownParty, wantedOf}
+use Rattle.query.specs.QueryForm.{QueryForm, Ref, namedRefs, namedWords, plainRef, selectedRefs, selectedWords, testedRefs, withholdingRefs, withinBounds}
+use Rattle.lists.proofs.KeptLaws.{keep-map}
 use Rattle.lists.proofs.ListLaws.{map-append, map-map}
 use Rattle.text.proofs.Places.{leftmost-placeless, unless-placeless}
 use Rattle.text.proofs.ReadBack.{placeless}
-use Rattle.lists.specs.Lists.{anyOf, orZero, there}
+use Rattle.lists.specs.Lists.{anyOf, found, keep, orZero, there}
 use Rattle.text.specs.Offending.{leftmost, missing, unless}
 use Rattle.text.specs.Words.{Word, isCalled, plainWord}
 
@@ -47,11 +48,24 @@ comparisons-placeless : (q : QueryForm) → comparisonsIn (placelessQuery q .con
 unfolding placelessQuery
 comparisons-placeless q = comparisonsIn-map placelessCompared (q .condition)
 
+-- a column without places
+abbrev placelessRef : Ref → Ref
+placelessRef r = record { table = placeless (r .table); column = placeless (r .column) }
+
+refs-placeless : (q : QueryForm) → namedRefs (placelessQuery q) ≡ map placelessRef (namedRefs q)
+unfolding namedRefs selectedRefs testedRefs placelessQuery placelessCompared
+refs-placeless q =
+    (λ i. map (plainRef (placelessQuery q)) (selected-placeless q i) ++ map (λ x. plainRef (placelessQuery q) (x .of)) (comparisons-placeless q i))
+    ∙ (λ i. map-map (plainRef (placelessQuery q)) placeless (selectedWords q) i ++ map-map (λ (x : Compared). plainRef (placelessQuery q) (x .of)) placelessCompared (comparisonsIn (q .condition)) i)
+    ∙ sym (map-append placelessRef (selectedRefs q) (testedRefs q)
+    ∙ (λ i. map-map placelessRef (plainRef q) (selectedWords q) i ++ map-map placelessRef (λ (x : Compared). plainRef q (x .of)) (comparisonsIn (q .condition)) i))
+
 named-placeless : (q : QueryForm) → namedWords (placelessQuery q) ≡ map placeless (namedWords q)
-unfolding namedWords placelessCompared
+unfolding namedWords
 named-placeless q =
-    rw (selected-placeless q, comparisons-placeless q, map-map (λ (x : Compared). x .of) placelessCompared (comparisonsIn (q .condition)))
-    (sym (map-append placeless (selectedWords q) (map (λ x. x .of) (comparisonsIn (q .condition))) ∙ ap (λ l. map placeless (selectedWords q) ++ l) (map-map placeless (λ (x : Compared). x .of) (comparisonsIn (q .condition)))))
+    ap (map (λ (r : Ref). r .column)) (refs-placeless q)
+    ∙ map-map (λ (r : Ref). r .column) placelessRef (namedRefs q)
+    ∙ sym (map-map placeless (λ (r : Ref). r .column) (namedRefs q))
 
 pub bounds-placeless : (q : QueryForm) → withinBounds (placelessQuery q) ≡ withinBounds q
 unfolding withinBounds
@@ -108,13 +122,26 @@ unfolding columnComparison columnKind columnOf isCalled placeless plainWord plac
 condition-placeless cs none = refl
 condition-placeless cs (some c) = ap {B = Option (Cond Comparison)} some (mapCond-map (columnComparison cs) placelessCompared c)
 
+columns-placeless : (d : Policy) (t : Word) (rs : List Ref) → columnsIn d (placeless t) (map placelessRef rs) ≡ columnsIn d t rs
+unfolding columnsIn columnsOf tableOf columnOf isCalled placeless plainWord
+columns-placeless d t rs =
+    ap (λ l. found (map (λ (r : Ref). columnOf (columnsOf d t) (r .column)) l)) (keep-map (λ (r : Ref). isCalled (r .table) (t .bytes)) placelessRef rs)
+    ∙ ap found (map-map (λ (r : Ref). columnOf (columnsOf d t) (r .column)) placelessRef (keep (λ r. isCalled (r .table) (t .bytes)) rs))
+
+source-placeless : (d : Policy) (q : QueryForm) → sourceOf d (placelessQuery q) (placeless (q .table)) ≡ sourceOf d q (q .table)
+unfolding sourceOf withholdingRefs tableOf isCalled placeless plainWord
+source-placeless d q =
+    let same : columnsIn d (placeless (q .table)) (namedRefs (placelessQuery q)) ≡ columnsIn d (q .table) (namedRefs q) =
+    ap (columnsIn d (placeless (q .table))) (refs-placeless q) ∙ columns-placeless d (q .table) (namedRefs q) in
+    λ i. record { table = orZero (tableOf d (q .table)); named = same i; withholding = same i }
+
 pub resolved-placeless : (d : Policy) (q : QueryForm) → resolved d (placelessQuery q) ≡ resolved d q
 unfolding resolved placelessQuery purposeOf tableOf columnsOf isCalled placeless plainWord
 resolved-placeless d q =
     let cs : List Column = columnsOf d (q .table) in
     λ i. record {
       purpose = orZero (purposeOf d (q .purpose));
-      table = orZero (tableOf d (q .table));
+      source = source-placeless d q i;
       wanted = wanted-placeless cs (q .columns) i;
       condition = condition-placeless cs (q .condition) i;
     }

@@ -3,14 +3,15 @@ use Prim.Native.Nat.{ℕ}
 use mathlib.Core.Bool.{Bool}
 use mathlib.Core.List.{List, [], _++_, _∷_, map}
 use mathlib.Core.Option.{Option, Option·map, none, some}
+use mathlib.Core.Path.{_≡_}
 use Rattle.condition.specs.Comparison.{Comparison}
 use Rattle.condition.specs.Cond.{Cond, comparisonsIn, mapCond}
 use Rattle.condition.specs.CondForm.{Compared, mistyped}
 use Rattle.document.specs.Lookup.{columnKind, columnOf, columnsOf, purposeOf, roleOf, schemeOf, tableOf}
 use Rattle.document.specs.Open.{columnOpen, labelOpen, tableOpen}
 use Rattle.document.specs.Policy.{Column, Policy}
-use Rattle.query.specs.QueryForm.{QueryForm, namedWords}
-use Rattle.lists.specs.Lists.{anyOf, orZero, there}
+use Rattle.query.specs.QueryForm.{QueryForm, Ref, namedRefs, namedWords, withholdingRefs}
+use Rattle.lists.specs.Lists.{anyOf, found, keep, orZero, there}
 use Rattle.text.specs.Offending.{leftmost, missing, unless}
 use Rattle.text.specs.Words.{Word, isCalled}
 
@@ -19,10 +20,16 @@ pub data Wanted : Type 0 where
   select : List ℕ → Wanted
   countsOnly : Wanted
 
--- a resolved query: the purpose and the table, by number; what is wanted, columns by number; and the condition
+-- a table that a query reads: its number, the columns that the query names in it, and those whose closed cells withhold a row
+pub record Source : Type 0 where
+  pub table : ℕ
+  pub named : List ℕ
+  pub withholding : List ℕ
+
+-- a resolved query: the purpose by number; the table that it reads; what is wanted, columns by number; and the condition
 pub record Query : Type 0 where
   pub purpose : ℕ
-  pub table : ℕ
+  pub source : Source
   pub wanted : Wanted
   pub condition : Option (Cond Comparison)
 
@@ -31,9 +38,9 @@ unfoldable pub selected : Wanted → List ℕ
 selected (select cs) = cs
 selected countsOnly = []
 
--- the named columns: those selected and every one in the condition, evaluated or not
-unfoldable pub named : Query → List ℕ
-named q = selected (q .wanted) ++ map (λ t. t .of) (comparisonsIn (q .condition))
+-- the query names what it selects and what is in its condition, evaluated or not: every query that is not refused with 15 does
+abbrev pub NamesParts : Query → Type 0
+NamesParts q = q .source .named ≡ selected (q .wanted) ++ map (λ t. t .of) (comparisonsIn (q .condition))
 
 -- 12: user, role or purpose unknown
 unfoldable pub unknownParty : Policy → QueryForm → Option Word
@@ -66,6 +73,22 @@ closedPart d q = leftmost (
     ∷ missing (λ w. columnOpen (openFor d q) (schemeOf d (q .table)) (orZero (columnOf (columnsOf d (q .table)) w))) (namedWords q)
     ∷ [])
 
+-- the columns of the table t among these, by number; those that it does not have are left out
+unfoldable pub columnsIn : Policy → Word → List Ref → List ℕ
+columnsIn d t rs = found (map (λ r. columnOf (columnsOf d t) (r .column)) (keep (λ r. isCalled (r .table) (t .bytes)) rs))
+
+-- the table of this name, which is known, with what the query names in it
+unfoldable pub sourceOf : Policy → QueryForm → Word → Source
+sourceOf d q t = record {
+  table = orZero (tableOf d t);
+  named = columnsIn d t (namedRefs q);
+  withholding = columnsIn d t (withholdingRefs q);
+}
+
+-- the tables that the query reads; one that the document does not know is left out
+unfoldable pub sources : Policy → QueryForm → List Source
+sources d q = map (sourceOf d q) (keep (λ t. there (tableOf d t)) (q .table ∷ []))
+
 -- a comparison of a column
 unfoldable pub columnComparison : List Column → Compared → Comparison
 columnComparison cs x =
@@ -80,7 +103,7 @@ wantedOf cs (some ws) = select (map (λ w. orZero (columnOf cs w)) ws)
 unfoldable pub resolved : Policy → QueryForm → Query
 resolved d q = record {
   purpose = orZero (purposeOf d (q .purpose));
-  table = orZero (tableOf d (q .table));
+  source = sourceOf d q (q .table);
   wanted = wantedOf (columnsOf d (q .table)) (q .columns);
   condition = Option·map (mapCond (columnComparison (columnsOf d (q .table)))) (q .condition);
 }

@@ -5,7 +5,7 @@ use lib.Seq.{drop-at, take-at}
 use mathlib.Core.Bool.{Bool, true}
 use mathlib.Core.List.{List, [], _++_, _∷_, append-assoc, map}
 use mathlib.Core.Option.{Option, Option·getD, Option·map, none, some}
-use mathlib.Core.Path.{_∙_, _≡_, ap, refl, subst, sym}
+use mathlib.Core.Path.{_∙_, _≡_, ap, subst, sym}
 use native.Mathlib.Omega.{arith}
 use Rattle.condition.specs.Cond.{comparisonsIn, mapCond}
 use Rattle.condition.specs.CondForm.{Compared, mistyped}
@@ -22,9 +22,10 @@ use Rattle.judging.specs.Tests.{Tested}
 use Rattle.lists.proofs.ListLaws.{all-map, all-parts, map-append, map-map}
 use Rattle.lists.specs.Lists.{allOf, orZero, there}
 use Rattle.query.proofs.BodiesRead.{wanted-count, wanted-there}
-use Rattle.query.proofs.NamedColumns.{columnNumber, named-words}
+use Rattle.query.proofs.NamedColumns.{columnNumber, names-parts, withholding-words}
+use Rattle.query.proofs.Sources.{named-words-are}
 use Rattle.query.specs.Naming.{NamesPlaced, TestsPlaced, wordsAt}
-use Rattle.query.specs.Query.{closedPart, columnComparison, mistypedQuery, named, openFor, resolved, select, unknownColumn, wantedOf}
+use Rattle.query.specs.Query.{NamesParts, closedPart, columnComparison, mistypedQuery, openFor, resolved, select, sourceOf, unknownColumn, wantedOf}
 use Rattle.query.specs.QueryForm.{QueryForm, namedWords, selectedWords}
 use Rattle.query.specs.QueryPlaces.{IsQuery, chosenCount, comparisonCount, conditionAt, formAt, isSelect, wantedAt}
 use Rattle.resolving.specs.Resolved.{Resolves}
@@ -154,8 +155,8 @@ module _ {d : Policy} {s : List ℕ} (q : Question) {t k : ℕ} {numbers ops : L
   compared-words = map (λ x. x .of) comparisons
 
   words-are : namedWords (formAt s q) ≡ selected-words ++ compared-words
-  unfolding namedWords selectedWords formAt
-  words-are = refl
+  unfolding selectedWords formAt
+  words-are = named-words-are (formAt s q)
 
   numbers-are : take (columns .number) numbers ≡ map K selected-words ++ map K compared-words
   numbers-are = columns .numbered ∙ ap (map K) words-are ∙ map-append K selected-words compared-words
@@ -210,11 +211,18 @@ module _ {d : Policy} {s : List ℕ} (q : Question) {t k : ℕ} {numbers ops : L
   unfolding formAt
   wanted-are = ap (λ ys. wantedOf ys (wantedAt s (q .wanted))) (columns-are table) ∙ wanted-by (wantedAt s (q .wanted)) (columnsAt d t) (isSelect (q .wanted)) (take chosen numbers) (wanted-there s (q .wanted)) first-numbers
 
-  named-are : take (chosen + m) numbers ≡ named (resolved d (formAt s q))
-  named-are =
+  -- every named column is known
+  all-known : allOf (λ w. there (columnOf (columnsOf d (formAt s q .table)) w)) (namedWords (formAt s q)) ≡ true
+  all-known = ap (λ ys. allOf (λ w. there (columnOf ys w)) (namedWords (formAt s q))) (columns-are table) ∙ columns .allThere
+
+  names-are : NamesParts (resolved d (formAt s q))
+  names-are = names-parts d (formAt s q) all-known
+
+  withholding-are : take (chosen + m) numbers ≡ resolved d (formAt s q) .source .withholding
+  withholding-are =
       both-numbers
       ∙ ap (λ ys. map (columnNumber ys) (namedWords (formAt s q))) (sym (columns-are table))
-      ∙ sym (named-words d (formAt s q))
+      ∙ sym (withholding-words d (formAt s q) all-known)
 
   condition-is : Option·map (mapCond (columnComparison (columnsOf d (wordOf s (q .head .table))))) (conditionAt s (q .test)) ≡ Option·map (mapCond (columnComparison (columnsAt d t))) (conditionAt s (q .test))
   unfolding formAt
@@ -224,7 +232,7 @@ module _ {d : Policy} {s : List ℕ} (q : Question) {t k : ℕ} {numbers ops : L
 module _ {text ts ws : List ℕ} {c : Counts} {os : List Bool} {s : List ℕ} (q : Question) {t : ℕ} {numbers ops rs : List ℕ} {d : Doc}
     (h : Granted text ts ws c os s q d) (table : InTable (d .policy) (formAt s q) t (c .tables)) (columns : ColumnsKnown (d .policy) (formAt s q) t numbers) (tests : TestsPlaced s (q .test) ops) where
   as-read : TestsRead s (soughtIn q t) rs (columnsAt (d .policy) (soughtIn q t .table)) → Prepared text ts ws (c .rows) os s (soughtIn q t) rs numbers d (resolved (d .policy) (formAt s q))
-  unfolding resolved formAt soughtIn
+  unfolding resolved sourceOf formAt soughtIn
   as-read r = record {
     small = h .small;
     tableCount = c .tables;
@@ -235,7 +243,8 @@ module _ {text ts ws : List ℕ} {c : Counts} {os : List Bool} {s : List ℕ} (q
     opened = h .opened;
     fewChosen = h .query .few .columns;
     wanted = wanted-are q (h .query) table columns tests;
-    named = named-are q (h .query) table columns tests;
+    named = names-are q (h .query) table columns tests;
+    withholding = withholding-are q (h .query) table columns tests;
     tested = subst (Tested s rs (comparisonCount (q .test))) (sym (condition-is q (h .query) table columns tests)) (r .tested);
   }
 
