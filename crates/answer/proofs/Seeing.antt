@@ -84,7 +84,7 @@ free-unnamed d q x r p is-p is-x all-withhold here t k w c f = go (member c (x .
         (ap (λ cs. rowWithheld (labelOpen d p) (schemeAt d (x .table)) cs (r .labels)) (sym all-withhold) ∙ w) c m
 
     seen : member c (x .named) ≡ true → free d (some q) r c ≡ false
-    seen m = rw (is-p, is-x, here, w, m, opened m)
+    seen m = simp (is-p, is-x, here, w, m, opened m)
 
     go : (b : Bool) → member c (x .named) ≡ b → member c (x .named) ≡ false
     go false e = e

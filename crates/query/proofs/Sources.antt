@@ -1,6 +1,6 @@
 -- What a query names, by table: today every column that it names is one of its own table, and each withholds. Assumes nothing.
 use Prim.Native.Nat.{ℕ}
-use mathlib.Core.Bool.{false, true}
+use mathlib.Core.Bool.{cond, false, true}
 use mathlib.Core.List.{List, [], _++_, _∷_, map, map-id}
 use mathlib.Core.Option.{Option, none, some}
 use mathlib.Core.Path.{_∙_, _≡_, ap, refl, sym}
@@ -57,12 +57,12 @@ module _ (d : Policy) (q : QueryForm) where
   unfolding sourceOf withholdingRefs
   withholding-named t = refl
 
-  -- a query reads its table, where the document knows that
-  pub sources-known : there (tableOf d (q .table)) ≡ true → sources d q ≡ sourceOf d q (q .table) ∷ []
-  unfolding sources keep
-  sources-known h = rw h
-
-  -- and none, where it does not
+  -- the query reads no table, where the document does not know its own
   pub sources-unknown : there (tableOf d (q .table)) ≡ false → sources d q ≡ []
   unfolding sources keep
-  sources-unknown h = rw h
+  sources-unknown h = ap (λ b. map (sourceOf d q) (cond b (q .table ∷ []) [])) h
+
+  -- and else that one
+  pub sources-known : there (tableOf d (q .table)) ≡ true → sources d q ≡ sourceOf d q (q .table) ∷ []
+  unfolding sources keep
+  sources-known h = ap (λ b. map (sourceOf d q) (cond b (q .table ∷ []) [])) h
