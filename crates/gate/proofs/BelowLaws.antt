@@ -8,7 +8,7 @@ use Rattle.answer.specs.Ask.{Answered, after, ask}
 use Rattle.answer.specs.Further.{SelectsBelow}
 use Rattle.gate.proofs.ExportLaws.{figures-accepted}
 use Rattle.gate.specs.Below.{AsksBelow, GivesBelow, IsGiven}
-use Rattle.gate.specs.Outside.{Asks}
+use Rattle.loaded.specs.Outside.{Asks}
 use Rattle.stages.specs.Figures.{Figures, answeredAs, inFigures}
 use Rattle.query.specs.Authority.{Clock}
 use Rattle.text.specs.Refusal.{accepted}

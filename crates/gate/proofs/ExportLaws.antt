@@ -11,19 +11,17 @@ use Rattle.gate.specs.Outcome.{Reserved, checkedAs, linesOnly}
 use Rattle.gate.specs.declared.documents.Checked.{Checked}
 use Rattle.gate.specs.declared.documents.Checked.the-variants as checked
 use Rattle.document.specs.Check.{Accepted, check}
-use Rattle.gate.specs.Exports.{ExportsAsk, ExportsCheck, ExportsImport, ExportsMeasure, ExportsMeasureImport, ExportsRefusal, StoresLength, askFigures, checkFigures, codeOf, measureFigures}
-use Rattle.gate.specs.Outside.{Asks, Measures, measuredAs}
+use Rattle.gate.specs.Exports.{ExportsAsk, ExportsCheck, ExportsImport, ExportsMeasure, ExportsMeasureImport, ExportsRefusal, StoresAnswer, StoresLength, askFigures, checkFigures, codeOf, measureFigures}
+use Rattle.loaded.specs.Outside.{Asks, Measures, measuredAs}
 use Rattle.stages.specs.Figures.{Figures, answeredAs, figuresOf, inFigures}
 use Rattle.gate.specs.Reserved.{ChecksDocument, HasReserve}
 use Rattle.stages.specs.declared.answered.Answered.{Answered}
 use Rattle.stages.specs.declared.answered.Answered.the-variants as answered
 use Rattle.stages.specs.declared.answered.Figures as code
-use Rattle.gate.specs.declared.measuring.Measured.{Measured}
-use Rattle.gate.specs.declared.measuring.Measured.the-variants as measured
+use Rattle.loaded.specs.declared.measures.Measured.{Measured}
 use Rattle.import.specs.Importing.{measureImport}
 use Rattle.import.specs.Outside.{Imports, importedAs}
 use Rattle.import.specs.declared.importing.Imported.{Imported}
-use Rattle.import.specs.declared.importing.Imported.the-variants as imported
 use Rattle.query.specs.Authority.{Clock}
 use Rattle.text.specs.Names.{Name}
 use Rattle.text.proofs.RefusalLaws.{not-refused}
@@ -58,7 +56,7 @@ numbered UnfitField e = omega (arith, e)
 numbered ImportTooShort e = omega (arith, e)
 
 -- the outcome of a check and its number of lines have one code, and the one is accepted where the other is
-code-lines : (o : Result Accepted) → codeOf (linesOnly o) ≡ codeOf o
+pub code-lines : (o : Result Accepted) → codeOf (linesOnly o) ≡ codeOf o
 unfolding codeOf linesOnly
 code-lines (refused r) = refl
 code-lines (accepted a) = refl
@@ -104,60 +102,48 @@ accepted-check doc figures x n m h told f =
       reserve = λ z. subst (λ l. IsReserve doc (getD l 1 0)) (sym f) (subst (HasReserve doc) told (h .reserve));
     }
 
-module _ (doc text : List ℕ) (c : Clock) (before after′ figures : List ℕ) (x : Answered) (h : Asks doc text c before after′ x) where
+module _ (figures : List ℕ) (x : Answered) where
   -- a query that is refused
-  pub refused-ask : (n : ℕ) (r : Refusal) → x ≡ answered.Refused r → ExportsRefusal (refusalOf r) figures n → ExportsAsk doc text c before after′ figures n
+  pub refused-answer : (n : ℕ) (r : Refusal) → x ≡ answered.Refused r → ExportsRefusal (refusalOf r) figures n → StoresAnswer (answeredAs x) figures n
   unfolding answeredAs codeOf askFigures
-  refused-ask n r told f =
-      let e : refused (refusalOf r) ≡ inFigures (ask doc text c (length before)) = sym (ap answeredAs told) ∙ h .is in
-      record {
-        code = f .code ∙ ap codeOf e ∙ code-figures (ask doc text c (length before));
-        filled = f .filled ∙ ap askFigures e;
-        buffer = h .buffer;
-        answers = λ z. absurd (numbered (r .reason) (sym (f .code) ∙ z));
-      }
+  refused-answer n r told f =
+      let e : refused (refusalOf r) ≡ answeredAs x = sym (ap answeredAs told) in
+      record { code = f .code ∙ ap codeOf e; filled = f .filled ∙ ap askFigures e; accepts = λ z. absurd (numbered (r .reason) (sym (f .code) ∙ z)) }
 
   -- a query that is answered
-  pub given-ask : (g : code.Figures) → x ≡ answered.Given g → figures ≡ g .len ∷ g .grant ∷ g .passed ∷ g .withheld ∷ g .unmatched ∷ [] → ExportsAsk doc text c before after′ figures 0
+  pub given-answer : (g : code.Figures) → x ≡ answered.Given g → figures ≡ g .len ∷ g .grant ∷ g .passed ∷ g .withheld ∷ g .unmatched ∷ [] → StoresAnswer (answeredAs x) figures 0
   unfolding answeredAs codeOf askFigures figuresOf
-  given-ask g told f =
-      let e : accepted (figuresOf g) ≡ inFigures (ask doc text c (length before)) = sym (ap answeredAs told) ∙ h .is in
-      record {
-        code = ap codeOf e ∙ code-figures (ask doc text c (length before));
-        filled = f ∙ ap askFigures e;
-        buffer = h .buffer;
-        answers = λ z. figures-accepted (ask doc text c (length before)) (figuresOf g) (sym e);
-      }
+  given-answer g told f =
+      let e : accepted (figuresOf g) ≡ answeredAs x = sym (ap answeredAs told) in
+      record { code = ap codeOf e; filled = f ∙ ap askFigures e; accepts = λ z. (figuresOf g, sym e) }
 
-module _ (doc text : List ℕ) (c : Clock) (figures : List ℕ) (x : Measured) (h : Measures doc text c x) where
-  -- a query that has no answer
-  pub refused-measure : (n : ℕ) (r : Refusal) → x ≡ measured.Refused r → ExportsRefusal (refusalOf r) figures n → ExportsMeasure doc text c figures n
-  unfolding measuredAs codeOf measureFigures
-  refused-measure n r told f =
-      let e : refused (refusalOf r) ≡ measure doc text c = sym (ap measuredAs told) ∙ h .is in
-      record { code = f .code ∙ ap codeOf e; filled = f .filled ∙ ap measureFigures e; answers = λ z. absurd (numbered (r .reason) (sym (f .code) ∙ z)) }
+-- the export of an answer
+pub exports-ask : (doc text : List ℕ) (c : Clock) (before after′ figures : List ℕ) (n : ℕ) (x : Answered) → Asks doc text c before after′ x → StoresAnswer (answeredAs x) figures n → ExportsAsk doc text c before after′ figures n
+exports-ask doc text c before after′ figures n x h s = record {
+  code = s .code ∙ ap codeOf (h .is) ∙ code-figures (ask doc text c (length before));
+  filled = s .filled ∙ ap askFigures (h .is);
+  buffer = h .buffer;
+  answers = λ z. figures-accepted (ask doc text c (length before)) (s .accepts z .0) (sym (h .is) ∙ s .accepts z .1);
+}
 
-  -- a query with an answer of length n
-  pub length-measure : (n : ℕ) → x ≡ measured.Length n → figures ≡ n ∷ 0 ∷ 0 ∷ 0 ∷ 0 ∷ [] → ExportsMeasure doc text c figures 0
-  unfolding measuredAs codeOf measureFigures
-  length-measure n told f =
-      let e : accepted n ≡ measure doc text c = sym (ap measuredAs told) ∙ h .is in
-      record { code = ap codeOf e; filled = f ∙ ap measureFigures e; answers = λ z. sym e ∙ sym (ap (λ l. accepted (getD l 0 0)) f) }
-
-module _ (figures : List ℕ) (x : Imported) where
-  -- a file that is refused
-  pub refused-import : (n : ℕ) (r : Refusal) → x ≡ imported.Refused r → ExportsRefusal (refusalOf r) figures n → StoresLength (importedAs x) figures n
+module _ (figures : List ℕ) (o : Result ℕ) where
+  -- a refusal for a length
+  pub refused-length : (n : ℕ) (r : Refusal) → o ≡ refused (refusalOf r) → ExportsRefusal (refusalOf r) figures n → StoresLength o figures n
   unfolding codeOf measureFigures
-  refused-import n r told f =
-      let e : refused (refusalOf r) ≡ importedAs x = sym (ap importedAs told) in
-      record { code = f .code ∙ ap codeOf e; filled = f .filled ∙ ap measureFigures e; accepts = λ z. absurd (numbered (r .reason) (sym (f .code) ∙ z)) }
+  refused-length n r told f = record { code = f .code ∙ ap codeOf (sym told); filled = f .filled ∙ ap measureFigures (sym told); accepts = λ z. absurd (numbered (r .reason) (sym (f .code) ∙ z)) }
 
-  -- a file whose lines have n bytes
-  pub lines-import : (n : ℕ) → x ≡ imported.Lines n → figures ≡ n ∷ 0 ∷ 0 ∷ 0 ∷ 0 ∷ [] → StoresLength (importedAs x) figures 0
+  -- a length
+  pub stored-length : (n : ℕ) → o ≡ accepted n → figures ≡ n ∷ 0 ∷ 0 ∷ 0 ∷ 0 ∷ [] → StoresLength o figures 0
   unfolding codeOf measureFigures
-  lines-import n told f =
-      let e : accepted n ≡ importedAs x = sym (ap importedAs told) in
-      record { code = ap codeOf e; filled = f ∙ ap measureFigures e; accepts = λ z. sym e ∙ sym (ap (λ l. accepted (getD l 0 0)) f) }
+  stored-length n told f = record { code = ap codeOf (sym told); filled = f ∙ ap measureFigures (sym told); accepts = λ z. told ∙ sym (ap (λ l. accepted (getD l 0 0)) f) }
+
+-- the export of a measured answer
+pub exports-measure : (doc text : List ℕ) (c : Clock) (figures : List ℕ) (n : ℕ) (x : Measured) → Measures doc text c x → StoresLength (measuredAs x) figures n → ExportsMeasure doc text c figures n
+exports-measure doc text c figures n x h s = record {
+  code = s .code ∙ ap codeOf (h .is);
+  filled = s .filled ∙ ap measureFigures (h .is);
+  answers = λ z. sym (h .is) ∙ s .accepts z;
+}
 
 -- the export of an import
 pub exports-import : (bytes : List ℕ) (t l : Name) (before after′ figures : List ℕ) (n : ℕ) (x : Imported) → Imports bytes t l before after′ x → StoresLength (importedAs x) figures n → ExportsImport bytes t l before after′ figures n

@@ -10,7 +10,7 @@ use Rattle.answer.specs.Ask.{after, ask, partOf, pointedText}
 use Rattle.query.specs.Authority.{Clock}
 use Rattle.text.specs.Reasons.{refusalOf, sourceOf}
 use Rattle.gate.specs.Both.{AsksBoth}
-use Rattle.gate.specs.Outside.{Asks}
+use Rattle.loaded.specs.Outside.{Asks}
 use Rattle.stages.specs.Figures.{inFigures}
 use Rattle.gate.specs.declared.two.Pair.{Pair}
 use Rattle.text.specs.declared.refusals.Refusal.{Refusal}

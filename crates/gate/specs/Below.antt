@@ -5,7 +5,7 @@ use mathlib.Core.List.{List}
 use mathlib.Core.Path.{_≡_}
 use Rattle.answer.specs.Ask.{Answered, after}
 use Rattle.answer.specs.Further.{Contains, SelectsBelow}
-use Rattle.gate.specs.Outside.{Asks}
+use Rattle.loaded.specs.Outside.{Asks}
 use Rattle.stages.specs.Figures.{Figures, answeredAs, inFigures}
 use Rattle.query.specs.Authority.{Clock}
 use Rattle.text.specs.Refusal.{accepted}

@@ -3,7 +3,7 @@ use Prim.Native.Nat.{ℕ}
 use mathlib.Core.List.{List}
 use mathlib.Core.Path.{_≡_}
 use Rattle.answer.specs.Alike.{Alike}
-use Rattle.gate.specs.Outside.{Asks}
+use Rattle.loaded.specs.Outside.{Asks}
 use Rattle.stages.specs.Figures.{answeredAs}
 use Rattle.query.specs.Authority.{Clock}
 use Rattle.gate.specs.declared.two.Pair.{Pair}
@@ -18,3 +18,7 @@ pub record AsksBoth (a b text : List ℕ) (c : Clock) (out out′ other other′
   pub first : Asks a text c out out′ (r .first)
   pub second : Asks b text c other other′ (r .second)
   pub alike : Alike text a b → out ≡ other → SameAnswers r out′ other′
+
+-- two answers that are each that of asking its document, as those of two loaded documents are, are both answers
+abbrev pub AskedAlike : (a b text : List ℕ) (c : Clock) (out out′ other other′ : List ℕ) (r : Pair) → Type 0
+AskedAlike a b text c out out′ other other′ r = Asks a text c out out′ (r .first) → Asks b text c other other′ (r .second) → AsksBoth a b text c out out′ other other′ r

@@ -74,6 +74,12 @@ pub record ExportsMeasure (doc text : List ℕ) (c : Clock) (figures : List ℕ)
   pub filled : figures ≡ measureFigures (measure doc text c)
   pub answers : n ≡ 0 → measure doc text c ≡ accepted (getD figures 0 0)
 
+-- the code n and the figures are those of an answer, or of a refusal
+pub record StoresAnswer (o : Result Figures) (figures : List ℕ) (n : ℕ) : Type 0 where
+  pub code : n ≡ codeOf o
+  pub filled : figures ≡ askFigures o
+  pub accepts : n ≡ 0 → (x : Figures) × (o ≡ accepted x)
+
 -- the code n and the figures are those of a length, or of a refusal
 pub record StoresLength (o : Result ℕ) (figures : List ℕ) (n : ℕ) : Type 0 where
   pub code : n ≡ codeOf o

@@ -1,6 +1,9 @@
-// Checking a document.
+// Checking a document, and loading it into lent arrays, so that it is checked once and asked often.
+use checker::loading;
 use checker::loading::Loaded;
-use checker::loading::load;
+use loaded::cells::CELLS;
+use loaded::cells::store_counts;
+use loaded::cells::store_none;
 use text::refusals::Refusal;
 use workspace::layout::ATTRIBUTE_CELLS;
 use workspace::layout::COND_ROLE_CELLS;
@@ -12,6 +15,7 @@ use workspace::layout::ROW_CELLS;
 use workspace::layout::SET_WORDS;
 use workspace::layout::TABLE_CELLS;
 use workspace::layout::USER_CELLS;
+ghost use Rattle.gate.specs.Loads.{LoadsDocument};
 ghost use Rattle.gate.specs.Reserved.{ChecksDocument};
 
 // How many bytes hold every answer.
@@ -21,6 +25,49 @@ const RESERVE: usize = 60021;
 pub enum Checked {
     Accepted(usize, usize),
     Refused(Refusal),
+}
+
+// The check of a document into lent arrays, which hold it then; `cells` say so, or that they hold none. What all of them held
+// before does not matter.
+pub fn load(
+    doc: &[u8],
+    purposes: &mut [usize; PURPOSE_CELLS],
+    roles: &mut [usize; ROLE_CELLS],
+    attributes: &mut [usize; ATTRIBUTE_CELLS],
+    users: &mut [usize; USER_CELLS],
+    conds: &mut [usize; COND_ROLE_CELLS],
+    grants: &mut [usize; GRANT_CELLS],
+    labels: &mut [usize; LABELS],
+    sets: &mut [u64; SET_WORDS],
+    tables: &mut [usize; TABLE_CELLS],
+    rows: &mut [usize; ROW_CELLS],
+    cells: &mut [usize; CELLS],
+) -> Checked
+    ensures { λ r. ⌜ LoadsDocument (now (doc .entry)) (now (purposes .exit)) (now (roles .exit)) (now (attributes .exit)) (now (users .exit)) (now (conds .exit)) (now (grants .exit)) (now (sets .exit)) (now (tables .exit)) (now (rows .exit)) (now (cells .exit)) r ⌝ }
+{
+    let r = loading::load(
+        doc,
+        purposes,
+        roles,
+        attributes,
+        users,
+        conds,
+        grants,
+        labels,
+        sets,
+        tables,
+        rows,
+    );
+    match r {
+        Loaded::Accepted(c, n) => {
+            store_counts(cells, c);
+            Checked::Accepted(n, RESERVE)
+        }
+        Loaded::Refused(x) => {
+            store_none(cells);
+            Checked::Refused(x)
+        }
+    }
 }
 
 // The check of a document: the number of its lines and a reserve, or the first refusal.
@@ -37,7 +84,8 @@ pub fn check(doc: &[u8]) -> Checked
     let mut sets = [0u64; SET_WORDS];
     let mut tables = [0usize; TABLE_CELLS];
     let mut rows = [0usize; ROW_CELLS];
-    let r = load(
+    let mut cells = [0usize; CELLS];
+    load(
         doc,
         &mut purposes,
         &mut roles,
@@ -49,9 +97,6 @@ pub fn check(doc: &[u8]) -> Checked
         &mut sets,
         &mut tables,
         &mut rows,
-    );
-    match r {
-        Loaded::Accepted(_, n) => Checked::Accepted(n, RESERVE),
-        Loaded::Refused(x) => Checked::Refused(x),
-    }
+        &mut cells,
+    )
 }

@@ -2,24 +2,28 @@
 use crate::asking::ask;
 use crate::documents::Checked;
 use crate::documents::check;
-use crate::measuring::Measured;
 use crate::measuring::measure;
 use import::importing::Imported;
 use import::importing::import_rows;
 use import::importing::measure_rows;
+use loaded::measures::Measured;
 use query::clock::Clock;
 use stages::answered::Answered;
 use text::refusals::Refusal;
 use text::refusals::Source;
 use text::refusals::number;
-ghost use mathlib.Core.List.{[], _∷_};
+ghost use Prim.Native.Nat.{ℕ};
+ghost use mathlib.Core.List.{List, [], _∷_};
 ghost use mathlib.Core.Path.{_≡_};
-ghost use Rattle.gate.specs.Exports.{ExportsAsk, ExportsCheck, ExportsImport, ExportsMeasure, ExportsMeasureImport, ExportsRefusal, StoresLength, clockAt, sourceCode};
+ghost use Rattle.gate.specs.Exports.{ExportsAsk, ExportsCheck, ExportsImport, ExportsMeasure, ExportsMeasureImport, ExportsRefusal, StoresAnswer, StoresLength, clockAt, sourceCode};
+ghost use Rattle.gate.specs.Reserved.{ChecksDocument};
 ghost use Rattle.import.specs.Outside.{importedAs};
+ghost use Rattle.loaded.specs.Outside.{measuredAs};
+ghost use Rattle.stages.specs.Figures.{answeredAs};
 ghost use Rattle.text.specs.Reasons.{refusalOf, sourceOf};
 
 // Stores five figures.
-fn store_five(figures: &mut [u64; 5], a: u64, b: u64, c: u64, d: u64, e: u64)
+pub(crate) fn store_five(figures: &mut [u64; 5], a: u64, b: u64, c: u64, d: u64, e: u64)
     ensures { λ _. ⌜ now (figures .exit) ≡ a ∷ b ∷ c ∷ d ∷ e ∷ [] ⌝ }
 {
     *figures = [a, b, c, d, e];
@@ -50,13 +54,10 @@ fn store_refusal(figures: &mut [u64; 5], r: Refusal) -> u64
     n as u64
 }
 
-// Checks a document. Gives 0, with the number of lines and a reserve, or a refusal's number, with the text and the part that
-// the refusal points to.
-#[no_mangle]
-pub extern "C" fn gate_check(doc: &[u8], figures: &mut [u64; 5]) -> u64
-    ensures { λ n. ⌜ ExportsCheck (now (doc .entry)) (now (figures .exit)) n ⌝ }
+// Stores the figures of a check. Gives its code.
+pub(crate) fn store_checked(figures: &mut [u64; 5], x: Checked) -> u64
+    ensures { λ n. ⌜ ((doc : List ℕ) → ChecksDocument doc x → ExportsCheck doc (now (figures .exit)) n) ⌝ }
 {
-    let x = check(doc);
     match x {
         Checked::Refused(r) => store_refusal(figures, r),
         Checked::Accepted(lines, reserve) => {
@@ -64,6 +65,49 @@ pub extern "C" fn gate_check(doc: &[u8], figures: &mut [u64; 5]) -> u64
             0
         }
     }
+}
+
+// Stores the figures of an answer. Gives its code.
+pub(crate) fn store_answered(figures: &mut [u64; 5], x: Answered) -> u64
+    ensures { λ n. ⌜ StoresAnswer (answeredAs x) (now (figures .exit)) n ⌝ }
+{
+    match x {
+        Answered::Refused(r) => store_refusal(figures, r),
+        Answered::Given(f) => {
+            store_five(
+                figures,
+                f.len as u64,
+                f.grant as u64,
+                f.passed as u64,
+                f.withheld as u64,
+                f.unmatched as u64,
+            );
+            0
+        }
+    }
+}
+
+// Stores the figures of a measured answer. Gives its code.
+pub(crate) fn store_measured(figures: &mut [u64; 5], x: Measured) -> u64
+    ensures { λ n. ⌜ StoresLength (measuredAs x) (now (figures .exit)) n ⌝ }
+{
+    match x {
+        Measured::Refused(r) => store_refusal(figures, r),
+        Measured::Length(len) => {
+            store_five(figures, len as u64, 0, 0, 0, 0);
+            0
+        }
+    }
+}
+
+// Checks a document. Gives 0, with the number of lines and a reserve, or a refusal's number, with the text and the part that
+// the refusal points to.
+#[no_mangle]
+pub extern "C" fn gate_check(doc: &[u8], figures: &mut [u64; 5]) -> u64
+    ensures { λ n. ⌜ ExportsCheck (now (doc .entry)) (now (figures .exit)) n ⌝ }
+{
+    let x = check(doc);
+    store_checked(figures, x)
 }
 
 // Asks a document with a query at a time. Gives 0, with the answer's length, the grant and the three counts, or a refusal's
@@ -81,20 +125,7 @@ pub extern "C" fn gate_ask(
     ensures { λ n. ⌜ ExportsAsk (now (doc .entry)) (now (query .entry)) (clockAt year day hour) (now (out .entry)) (now (out .exit)) (now (figures .exit)) n ⌝ }
 {
     let x = ask(doc, query, Clock { year, day, hour }, out);
-    match x {
-        Answered::Refused(r) => store_refusal(figures, r),
-        Answered::Given(f) => {
-            store_five(
-                figures,
-                f.len as u64,
-                f.grant as u64,
-                f.passed as u64,
-                f.withheld as u64,
-                f.unmatched as u64,
-            );
-            0
-        }
-    }
+    store_answered(figures, x)
 }
 
 // Measures the answer to a query at a time. Gives 0, with the answer's length, or a refusal's number, with the text and the part
@@ -111,13 +142,7 @@ pub extern "C" fn gate_measure(
     ensures { λ n. ⌜ ExportsMeasure (now (doc .entry)) (now (query .entry)) (clockAt year day hour) (now (figures .exit)) n ⌝ }
 {
     let x = measure(doc, query, Clock { year, day, hour });
-    match x {
-        Measured::Refused(r) => store_refusal(figures, r),
-        Measured::Length(len) => {
-            store_five(figures, len as u64, 0, 0, 0, 0);
-            0
-        }
-    }
+    store_measured(figures, x)
 }
 
 // Stores the figures of an import. Gives its code.

@@ -1,4 +1,6 @@
-// The gate, as a host sees it: checking a document, asking it, measuring an answer, the part that a refusal hands back, and the C exports.
+// The gate, as a host sees it: checking a document, loading and asking it, measuring an answer, the part that a refusal hands back, and
+// the C exports. A document that was loaded is asked and measured by crate loaded.
+pub mod arrays;
 pub mod asking;
 pub mod below;
 pub mod documents;

@@ -1,25 +1,68 @@
 // How long an answer is, so that a host can lend exactly enough.
-use crate::asking::ask_unbounded;
+use crate::documents::Checked;
+use crate::documents::load;
+use loaded::cells::CELLS;
+use loaded::measures::Measured;
+use loaded::measures::measure_loaded;
 use query::clock::Clock;
-use stages::answered::Answered;
-use text::refusals::Refusal;
-ghost use Rattle.gate.specs.Outside.{Measures};
+use workspace::layout::ATTRIBUTE_CELLS;
+use workspace::layout::COND_ROLE_CELLS;
+use workspace::layout::GRANT_CELLS;
+use workspace::layout::LABELS;
+use workspace::layout::PURPOSE_CELLS;
+use workspace::layout::ROLE_CELLS;
+use workspace::layout::ROW_CELLS;
+use workspace::layout::SET_WORDS;
+use workspace::layout::TABLE_CELLS;
+use workspace::layout::USER_CELLS;
+ghost use Rattle.loaded.specs.Outside.{Measures};
 ghost use Rattle.query.specs.HostClock.{clockOf};
 
-// The refusal that no buffer would change, or the length of the answer.
-pub enum Measured {
-    Refused(Refusal),
-    Length(usize),
-}
-
-// Measures the answer to the query at the clock's time. Nothing of the answer is held.
+// Measures the answer to the query at the clock's time: loads the document, then measures. Nothing of the answer is held.
 pub fn measure(doc: &[u8], query: &[u8], clock: Clock) -> Measured
     ensures { λ r. ⌜ Measures (now (doc .entry)) (now (query .entry)) (clockOf clock) r ⌝ }
 {
-    let mut nothing = [0u8; 1];
-    let a = ask_unbounded(doc, query, clock, &mut nothing[..0]);
-    match a {
-        Answered::Refused(r) => Measured::Refused(r),
-        Answered::Given(f) => Measured::Length(f.len),
+    let mut purposes = [0usize; PURPOSE_CELLS];
+    let mut roles = [0usize; ROLE_CELLS];
+    let mut attributes = [0usize; ATTRIBUTE_CELLS];
+    let mut users = [0usize; USER_CELLS];
+    let mut conds = [0usize; COND_ROLE_CELLS];
+    let mut grants = [0usize; GRANT_CELLS];
+    let mut labels = [0usize; LABELS];
+    let mut sets = [0u64; SET_WORDS];
+    let mut tables = [0usize; TABLE_CELLS];
+    let mut rows = [0usize; ROW_CELLS];
+    let mut cells = [0usize; CELLS];
+    let r = load(
+        doc,
+        &mut purposes,
+        &mut roles,
+        &mut attributes,
+        &mut users,
+        &mut conds,
+        &mut grants,
+        &mut labels,
+        &mut sets,
+        &mut tables,
+        &mut rows,
+        &mut cells,
+    );
+    match r {
+        Checked::Refused(x) => Measured::Refused(x),
+        Checked::Accepted(_, _) => measure_loaded(
+            doc,
+            &purposes,
+            &roles,
+            &attributes,
+            &users,
+            &conds,
+            &grants,
+            &sets,
+            &tables,
+            &rows,
+            &cells,
+            clock,
+            query,
+        ),
     }
 }

@@ -1,20 +1,38 @@
--- `gate::asking::ask` meets its contract: the answer of asking without bounds, or 18. Assumes nothing.
+-- `gate::asking::ask` meets its contract: the document's refusal, or the answer over the arrays that hold it. Assumes nothing.
+use Rattle.gate.proofs.LoadLaws.{asks-refused}
 use borrow.Author.Needs.{needs}
-use Rattle.gate.proofs.Chain.{gives-asks}
 use Rattle.gate.proofs.asking.ask.Statement.{statement}
 use Rattle.gate.proofs.asking.ask.Tie as tie
 
-ask-unbounded-requires : tie.Need-ask-unbounded-requires
-ask-unbounded-requires c κs = search needs
+load-requires : tie.Need-load-requires
+load-requires c κs = search needs
 
-within-room-requires : tie.Need-within-room-requires
-within-room-requires c κs = search needs
+enum-known-r : tie.Need-enum-known-r
+enum-known-r c = search needs
+
+enum-told : tie.Need-enum-told
+enum-told c = search needs
+
+ask-loaded-requires : tie.Need-ask-loaded-requires
+ask-loaded-requires c κs = search needs
+
+returns : tie.Need-returns
+returns c = asks-refused _ _ _ (c .before .before .before .load .ensures .checks) (c .before .r .given .1) _
 
 same-length : tie.Need-same-length
 same-length c = search needs
 
-returns : tie.Need-returns
-returns c = gives-asks (c .before .before .before .ask-unbounded .ensures) (c .within-room .ensures)
+returns-2 : tie.Need-returns-2
+returns-2 c = c .before .before .ask-loaded .ensures (c .before .before .before .before .before .before .before .before .before .before .before .before .before .before .before .before .load .ensures .accepts _ _ (c .before .before .before .before .before .before .before .before .before .before .before .before .before .before .enum-told .given .1))
 
 pub ask-spec : {M : Type 1} → statement M
-ask-spec = tie.close (tie.spec ask-unbounded-requires within-room-requires same-length returns)
+ask-spec =
+    tie.close
+    (tie.spec
+    load-requires
+    enum-known-r
+    enum-told
+    ask-loaded-requires
+    returns
+    same-length
+    returns-2)

@@ -1,6 +1,8 @@
 -- `gate::exports::store_imported` meets its contract. Assumes nothing.
+use Rattle.gate.proofs.ExportLaws.{refused-length, stored-length}
+use Rattle.import.specs.Outside.{importedAs}
 use borrow.Author.Needs.{needs}
-use Rattle.gate.proofs.ExportLaws.{lines-import, refused-import}
+use mathlib.Core.Path.{ap}
 use Rattle.gate.proofs.exports.store_imported.Statement.{statement}
 use Rattle.gate.proofs.exports.store_imported.Tie as tie
 
@@ -17,10 +19,10 @@ store-five-requires : tie.Need-store-five-requires
 store-five-requires c κs = search needs
 
 returns : tie.Need-returns
-returns c = refused-import _ _ _ _ (c .before .before .before .x .given .1) (c .store-refusal .ensures)
+returns c = refused-length _ _ _ (c .before .before .before .x .given .0 .0) (ap importedAs (c .before .before .before .x .given .1)) (c .store-refusal .ensures)
 
 returns-2 : tie.Need-returns-2
-returns-2 c = lines-import _ _ _ (c .before .before .before .x2 .given .1) (c .store-five .ensures)
+returns-2 c = stored-length _ _ (c .before .before .before .x2 .given .0 .0) (ap importedAs (c .before .before .before .x2 .given .1)) (c .store-five .ensures)
 
 pub store-imported-spec : {M : Type 1} → statement M
 store-imported-spec =

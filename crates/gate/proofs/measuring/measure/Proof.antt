@@ -1,38 +1,28 @@
--- `gate::measuring::measure` meets its contract: the figures of asking without bounds have the answer's length. Assumes nothing.
+-- `gate::measuring::measure` meets its contract: the document's refusal, or the measure over the arrays that hold it. Assumes nothing.
+use Rattle.gate.proofs.LoadLaws.{measured-refused}
 use borrow.Author.Needs.{needs}
-use Rattle.gate.proofs.Chain.{measures-length, measures-refused}
 use Rattle.gate.proofs.measuring.measure.Statement.{statement}
 use Rattle.gate.proofs.measuring.measure.Tie as tie
 
-array-borrow-prefix-nothing : tie.Need-array-borrow-prefix-nothing
-array-borrow-prefix-nothing c = search needs
+load-requires : tie.Need-load-requires
+load-requires c κs = search needs
 
-slice-aggregate-ask-unbounded : tie.Need-slice-aggregate-ask-unbounded
-slice-aggregate-ask-unbounded c = search needs
+enum-known-r : tie.Need-enum-known-r
+enum-known-r c = search needs
 
-ask-unbounded-requires : tie.Need-ask-unbounded-requires
-ask-unbounded-requires c κs = search needs
+enum-told : tie.Need-enum-told
+enum-told c = search needs
 
-enum-known-a : tie.Need-enum-known-a
-enum-known-a c = search needs
-
-enum-known-a-2 : tie.Need-enum-known-a-2
-enum-known-a-2 c = search needs
+measure-loaded-requires : tie.Need-measure-loaded-requires
+measure-loaded-requires c κs = search needs
 
 returns : tie.Need-returns
-returns c = measures-refused _ _ _ (c .before .before .before .before .ask-unbounded .ensures) (c .before .a .given .1)
+returns c = measured-refused _ _ _ (c .before .before .before .load .ensures .checks) (c .before .r .given .1)
 
 returns-2 : tie.Need-returns-2
-returns-2 c = measures-length _ _ _ (c .before .before .before .before .ask-unbounded .ensures) (c .before .a2 .given .1)
+returns-2 c = c .measure-loaded .ensures (c .before .before .before .before .before .before .before .before .before .before .before .before .before .load .ensures .accepts _ _ (c .before .before .before .before .before .before .before .before .before .before .before .enum-told .given .1))
 
 pub measure-spec : {M : Type 1} → statement M
 measure-spec =
     tie.close
-    (tie.spec
-    array-borrow-prefix-nothing
-    slice-aggregate-ask-unbounded
-    ask-unbounded-requires
-    enum-known-a
-    enum-known-a-2
-    returns
-    returns-2)
+    (tie.spec load-requires enum-known-r enum-told measure-loaded-requires returns returns-2)

@@ -1,4 +1,4 @@
--- Meaning: what the gate's outside functions answer (01, "Asking"): 18, the figures of an outcome, and the lent buffer afterwards.
+-- Meaning: what asking and measuring answer (01, "Asking"; 02, Q-4): 18, the figures of an outcome, and the lent buffer afterwards.
 use Prim.Native.Nat.{ℕ}
 use lib.Dec.{ltb}
 use lib.ListN.{length}
@@ -9,8 +9,8 @@ use Rattle.query.specs.Authority.{Clock}
 use Rattle.stages.specs.Figures.{Figures, answeredAs, inFigures}
 use Rattle.text.specs.Reasons.{refusalOf}
 use Rattle.text.specs.Refusal.{Result, _>>=_, _>>_, accepted, pointingNowhere, query, refuseIf, refused}
-use Rattle.gate.specs.declared.measuring.Measured.{Measured}
-use Rattle.gate.specs.declared.measuring.Measured.the-variants as measured
+use Rattle.loaded.specs.declared.measures.Measured.{Measured}
+use Rattle.loaded.specs.declared.measures.Measured.the-variants as measured
 use Rattle.stages.specs.declared.answered.Answered.{Answered}
 
 -- 18 where the answer is longer than the lent buffer, whose length is `room`, by its figures

@@ -1,10 +1,10 @@
--- `gate::asking::within_room` meets its contract: 18 goes by the answer's length. Assumes nothing.
+-- `loaded::room::within_room` meets its contract: 18 goes by the answer's length. Assumes nothing.
 use borrow.Author.Needs.{needs}
 use mathlib.Core.Path.{refl}
-use Rattle.gate.proofs.Chain.{room-enough, room-refused, room-short}
+use Rattle.loaded.proofs.Chain.{room-enough, room-refused, room-short}
 use Rattle.text.specs.Refusal.{pointingNowhere}
-use Rattle.gate.proofs.asking.within_room.Statement.{statement}
-use Rattle.gate.proofs.asking.within_room.Tie as tie
+use Rattle.loaded.proofs.room.within_room.Statement.{statement}
+use Rattle.loaded.proofs.room.within_room.Tie as tie
 
 enum-told : tie.Need-enum-told
 enum-told c = search needs

@@ -5,16 +5,17 @@ use lib.Dec.{ltb}
 use lib.ListN.{length}
 use mathlib.Core.Bool.{Bool, false, not, true}
 use mathlib.Core.List.{List}
-use mathlib.Core.Path.{_∙_, _≡_, ap, refl, sym}
+use mathlib.Core.Path.{_∙_, _≡_, ap, refl, subst, sym}
 use Rattle.answer.specs.Ask.{Outcome, after, ask, askUnbounded, ifFits, measure}
 use Rattle.answering.specs.Answering.{bufferAfter}
-use Rattle.checker.specs.Loading.{HoldsDocument}
 use Rattle.document.specs.Check.{Accepted, check}
-use Rattle.document.specs.Invariants.{Formed}
-use Rattle.gate.specs.Outside.{Asks, Measures, figuresFit, measuredAs}
+use Rattle.document.specs.Policy.{Doc}
+use Rattle.loaded.specs.Cells.{countsIn}
+use Rattle.loaded.specs.Holds.{Holds}
+use Rattle.loaded.specs.Outside.{Asks, Measures, figuresFit, measuredAs}
 use Rattle.query.specs.Authority.{Clock, inRange}
 use Rattle.query.specs.QueryForm.{queryOf}
-use Rattle.stages.proofs.Chain.{form-tails}
+use Rattle.stages.proofs.Chain.{form-tails, gives-same}
 use Rattle.stages.specs.Figures.{Figures, answeredAs, figuresOf, inFigures}
 use Rattle.stages.specs.Stages.{Standing}
 use Rattle.stages.specs.Tails.{Gives, afterFitting, ifRead, ifTimed}
@@ -22,15 +23,11 @@ use Rattle.text.proofs.RefusalLaws.{bind-cong, then-cong}
 use Rattle.text.specs.Reasons.{refusalOf}
 use Rattle.text.specs.Refusal.{Refusal, Result, _>>=_, _>>_, accepted, need, pointingAll, pointingNowhere, query, refuseIf, refused}
 use Rattle.index.specs.declared.counts.Counts.{Counts}
-use Rattle.gate.specs.declared.measuring.Measured.the-variants as measured
+use Rattle.loaded.specs.declared.measures.Measured.the-variants as measured
 use Rattle.stages.specs.declared.answered.Answered as code
 use Rattle.stages.specs.declared.answered.Answered.the-variants as answered
 use Rattle.stages.specs.declared.answered.Figures as figures
 use Rattle.text.specs.declared.refusals.Refusal as refusals
-
--- the arrays of an accepted document, which is well formed
-pub standing : {doc ps rs bs us cs gs ls ms ts ws : List ℕ} {c : Counts} {n : ℕ} (h : HoldsDocument doc ps rs bs us cs gs ls ms ts ws c n) → Formed (h .what .policy) → Standing doc ps rs bs us cs gs ms ts ws c (h .what)
-standing {ls} h f = record { names = ls; indexed = h .held; formed = f; small = h .small }
 
 module _ (doc text : List ℕ) (c : Clock) where
   pub ask-refused : {r : Refusal} → check doc ≡ refused r → askUnbounded doc text c ≡ refused r
@@ -42,6 +39,12 @@ module _ (doc text : List ℕ) (c : Clock) where
   ask-tails {A} e = rw e (
       then-cong (refuseIf (not (inRange c)) (pointingNowhere 10 query)) _ _ (λ _ _.
       bind-cong (need (queryOf text) (pointingAll 11 query text)) _ _ (λ q _. form-tails (A .doc) c q)))
+
+-- asking over arrays that hold this very text
+pub held-gives : {text ps rs bs us cs gs ms ts ws cells : List ℕ} {k : Counts} {before after′ : List ℕ} {r : code.Answered} (c : Clock) (asked : List ℕ) → Holds text ps rs bs us cs gs ms ts ws cells → k ≡ countsIn cells
+    → ((d : Doc) → Standing text ps rs bs us cs gs ms ts ws k d → Gives (ifTimed d c asked) before after′ r) → Gives (askUnbounded text asked c) before after′ r
+held-gives {text} {ps} {rs} {bs} {us} {cs} {gs} {ms} {ts} {ws} c asked h e f =
+    gives-same (ask-tails text asked c (h .is)) (f (h .what .doc) (subst (λ k. Standing text ps rs bs us cs gs ms ts ws k (h .what .doc)) (sym e) (h .standing)))
 
 -- ---- 18
 
