@@ -1,5 +1,5 @@
 /* How deep the calls go: each runs on a stack that was painted before, and the paint that is left is counted.
- *   stack check DOCUMENT | stack ask DOCUMENT QUERY | stack import FILE | stack measure FILE
+ *   stack check DOCUMENT | stack ask DOCUMENT QUERY | stack load DOCUMENT | stack loaded DOCUMENT QUERY | stack import FILE | stack measure FILE
  * prints the outcome's number and the bytes of stack that were written */
 #include <pthread.h>
 #include <stdint.h>
@@ -8,19 +8,14 @@
 #include <string.h>
 #include <sys/mman.h>
 
-uint64_t gate_check(const uint8_t *doc, size_t doc_len, uint64_t *figures);
-uint64_t gate_ask(const uint8_t *doc, size_t doc_len, const uint8_t *query, size_t query_len, uint64_t year, uint64_t day,
-                  uint64_t hour, uint8_t *out, size_t out_len, uint64_t *figures);
-uint64_t gate_import(const uint8_t *file, size_t file_len, const uint8_t *table, size_t table_len, const uint8_t *label,
-                     size_t label_len, uint8_t *out, size_t out_len, uint64_t *figures);
-uint64_t gate_measure_import(const uint8_t *file, size_t file_len, const uint8_t *table, size_t table_len, const uint8_t *label,
-                             size_t label_len, uint64_t *figures);
+#include "../include/gate.h"
 
 enum { ROOM = 4 << 20, PAINT = 0xa5 };
 static const uint8_t table[] = "sub", label[] = "free";
 static uint8_t doc[1 << 20], query[1 << 20], out[60021];
 static size_t doc_len, query_len;
 static uint64_t number, figures[5];
+static struct gate_document held;
 
 static size_t read_whole(const char *path, uint8_t *into, size_t room) {
     FILE *file = fopen(path, "rb");
@@ -35,6 +30,11 @@ static void *ask(void *unused) {
     number = gate_ask(doc, doc_len, query, query_len, 2028, 366, 10, out, sizeof out, figures);
     return unused;
 }
+static void *load(void *unused) { number = gate_load(&held, doc, doc_len, figures); return unused; }
+static void *ask_loaded(void *unused) {
+    number = gate_ask_loaded(&held, doc, doc_len, query, query_len, 2028, 366, 10, out, sizeof out, figures);
+    return unused;
+}
 static void *import(void *unused) {
     number = gate_import(doc, doc_len, table, 3, label, 4, out, sizeof out, figures);
     return unused;
@@ -45,6 +45,8 @@ static void *measure_import(void *unused) {
 }
 static void *(*called(const char *word))(void *) {
     if (!strcmp(word, "ask")) return ask;
+    if (!strcmp(word, "load")) return load;
+    if (!strcmp(word, "loaded")) return ask_loaded;
     if (!strcmp(word, "import")) return import;
     if (!strcmp(word, "measure")) return measure_import;
     return check;
@@ -67,6 +69,7 @@ int main(int count, char **words) {
     if (count < 3) return 2;
     doc_len = read_whole(words[2], doc, sizeof doc);
     if (count > 3) query_len = read_whole(words[3], query, sizeof query);
+    gate_load(&held, doc, doc_len, figures);
     written(nothing);
     size_t thread_itself = written(nothing);
     size_t deepest = written(called(words[1]));

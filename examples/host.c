@@ -57,6 +57,9 @@ static uint8_t buffer[GATE_RESERVE_BYTES];
 static uint8_t buffer10[GATE_RESERVE_BYTES];
 static uint8_t grown[GATE_DOCUMENT_BYTES];
 
+/* Static too: a loaded document has 337 KB. */
+static struct gate_document loaded;
+
 /* A string constant as a text, without the zero byte at its end. */
 static struct text text_of(const char *s)
 {
@@ -93,6 +96,22 @@ static uint64_t ask(struct text doc, struct text asked, uint8_t *out, size_t out
 static uint64_t measure(struct text doc, struct text asked, uint64_t figures[GATE_FIGURES])
 {
     return gate_measure(doc.bytes, doc.len, asked.bytes, asked.len, YEAR, DAY, HOUR, figures);
+}
+
+static uint64_t load(struct text doc, uint64_t figures[GATE_FIGURES])
+{
+    return gate_load(&loaded, doc.bytes, doc.len, figures);
+}
+
+/* The document is the one that was loaded. */
+static uint64_t ask_loaded(struct text doc, struct text asked, uint8_t *out, size_t out_len, uint64_t figures[GATE_FIGURES])
+{
+    return gate_ask_loaded(&loaded, doc.bytes, doc.len, asked.bytes, asked.len, YEAR, DAY, HOUR, out, out_len, figures);
+}
+
+static uint64_t measure_loaded(struct text doc, struct text asked, uint64_t figures[GATE_FIGURES])
+{
+    return gate_measure_loaded(&loaded, doc.bytes, doc.len, asked.bytes, asked.len, YEAR, DAY, HOUR, figures);
 }
 
 static uint64_t import_list(struct text file, uint8_t *out, size_t out_len, uint64_t figures[GATE_FIGURES])
@@ -194,6 +213,7 @@ int main(void)
     uint64_t number10;
     size_t reserve;
     size_t length;
+    int turn;
 
     printf("-- the sample policy, checked\n");
     number = check(doc, figures);
@@ -245,7 +265,31 @@ int main(void)
     number = ask(doc, empty, buffer, reserve, figures);
     print_answered(number, doc, empty, buffer, reserve, figures);
 
-    printf("-- a policy with an unknown name, checked and asked\n");
+    printf("-- the sample policy, loaded once; asked twice, and measured\n");
+    /* Nothing was loaded yet, which a zeroed struct tells. */
+    if (ask_loaded(doc, asked, buffer, reserve, figures) != GATE_NOT_LOADED)
+        return EXIT_FAILURE;
+    number = load(doc, figures);
+    print_checked(number, doc, figures);
+    for (turn = 0; turn < 2; turn++) {
+        memset(buffer, MARK, sizeof buffer);
+        number = ask_loaded(doc, asked, buffer, reserve, figures);
+        print_answered(number, doc, asked, buffer, reserve, figures);
+        printf("the same as from the text: %s\n",
+               yes(number == number10 && memcmp(figures, figures10, sizeof figures) == 0 && memcmp(buffer, buffer10, sizeof buffer) == 0));
+    }
+    number = measure_loaded(doc, asked, figures);
+    print_measured(number, doc, asked, figures);
+    number = ask_loaded(doc, asked_bill, buffer, reserve, figures);
+    print_answered(number, doc, asked_bill, buffer, reserve, figures);
+    memset(buffer, MARK, sizeof buffer);
+
+    printf("-- a policy with an unknown name, loaded, checked and asked\n");
+    number = load(wrong, figures);
+    print_checked(number, wrong, figures);
+    /* A struct that a refused document was loaded into holds none, not the one before. */
+    if (ask_loaded(wrong, asked, buffer, reserve, figures) != GATE_NOT_LOADED)
+        return EXIT_FAILURE;
     number = check(wrong, figures);
     print_checked(number, wrong, figures);
     number = ask(wrong, asked, buffer, reserve, figures);

@@ -6,232 +6,10 @@
 use std::io::{self, Write};
 use std::process::ExitCode;
 
-/// The gate for programs in Rust: slices in, results out. A host may take this module as it stands.
-mod gate {
-    mod exported {
-        // As include/gate.h has them. The library stands in no crate, so rustc is told of it: -l static=gate.
-        extern "C" {
-            pub fn gate_check(doc: *const u8, doc_len: usize, figures: *mut u64) -> u64;
-            pub fn gate_ask(
-                doc: *const u8,
-                doc_len: usize,
-                query: *const u8,
-                query_len: usize,
-                year: u64,
-                day: u64,
-                hour: u64,
-                out: *mut u8,
-                out_len: usize,
-                figures: *mut u64,
-            ) -> u64;
-            pub fn gate_measure(
-                doc: *const u8,
-                doc_len: usize,
-                query: *const u8,
-                query_len: usize,
-                year: u64,
-                day: u64,
-                hour: u64,
-                figures: *mut u64,
-            ) -> u64;
-            pub fn gate_import(
-                file: *const u8,
-                file_len: usize,
-                table: *const u8,
-                table_len: usize,
-                label: *const u8,
-                label_len: usize,
-                out: *mut u8,
-                out_len: usize,
-                figures: *mut u64,
-            ) -> u64;
-            pub fn gate_measure_import(
-                file: *const u8,
-                file_len: usize,
-                table: *const u8,
-                table_len: usize,
-                label: *const u8,
-                label_len: usize,
-                figures: *mut u64,
-            ) -> u64;
-        }
-    }
+#[path = "../include/gate.rs"]
+mod gate;
 
-    /// No reserve is larger.
-    pub const RESERVE_BYTES: usize = 60_021;
-
-    /// The host's clock: year 1 to 9999, day 1 to 365 or in a leap year 366, hour 0 to 23. Another is refused with 10.
-    #[derive(Clone, Copy)]
-    pub struct Clock {
-        pub year: u64,
-        pub day: u64,
-        pub hour: u64,
-    }
-
-    /// An accepted document: its lines, and a length that no answer to a select exceeds which repeats no column.
-    pub struct Checked {
-        pub lines: usize,
-        pub reserve: usize,
-    }
-
-    /// An answer: how many of the buffer's first bytes it fills, the grant that authorised it, and the three counts.
-    #[derive(PartialEq)]
-    pub struct Answer {
-        pub len: usize,
-        pub grant: usize,
-        pub passed: usize,
-        pub withheld: usize,
-        pub unmatched: usize,
-    }
-
-    /// The text that holds the part of a refusal.
-    #[derive(Clone, Copy, PartialEq)]
-    pub enum Source {
-        Document,
-        Query,
-        File,
-    }
-
-    /// A refusal: its number, and the place of its part.
-    #[derive(PartialEq)]
-    pub struct Refusal {
-        pub number: u64,
-        pub source: Source,
-        pub start: usize,
-        pub len: usize,
-    }
-
-    /// The refusal that the figures give.
-    fn refusal(number: u64, figures: [u64; 5]) -> Refusal {
-        Refusal {
-            number,
-            source: match figures[0] {
-                1 => Source::Document,
-                2 => Source::Query,
-                _ => Source::File,
-            },
-            start: figures[1] as usize,
-            len: figures[2] as usize,
-        }
-    }
-
-    /// Checks a document. A refusal has a number from 1 to 9.
-    pub fn check(doc: &[u8]) -> Result<Checked, Refusal> {
-        let mut figures = [0; 5];
-        // SAFETY: a slice's pointer is valid for its length and never null, and `figures` are five numbers of our own.
-        let number = unsafe { exported::gate_check(doc.as_ptr(), doc.len(), figures.as_mut_ptr()) };
-        if number != 0 {
-            return Err(refusal(number, figures));
-        }
-        Ok(Checked { lines: figures[0] as usize, reserve: figures[1] as usize })
-    }
-
-    /// Asks a document. A refusal has a number from 1 to 18 and leaves `out`; an answer leaves the bytes behind it.
-    pub fn ask(doc: &[u8], query: &[u8], clock: Clock, out: &mut [u8]) -> Result<Answer, Refusal> {
-        let mut figures = [0; 5];
-        // SAFETY: as above; and `out` is lent mutably, so it overlaps neither text.
-        let number = unsafe {
-            exported::gate_ask(
-                doc.as_ptr(),
-                doc.len(),
-                query.as_ptr(),
-                query.len(),
-                clock.year,
-                clock.day,
-                clock.hour,
-                out.as_mut_ptr(),
-                out.len(),
-                figures.as_mut_ptr(),
-            )
-        };
-        if number != 0 {
-            return Err(refusal(number, figures));
-        }
-        let [len, grant, passed, withheld, unmatched] = figures.map(|n| n as usize);
-        Ok(Answer { len, grant, passed, withheld, unmatched })
-    }
-
-    /// Measures the answer: its length, or the refusal that `ask` gives with every buffer, never 18.
-    pub fn measure(doc: &[u8], query: &[u8], clock: Clock) -> Result<usize, Refusal> {
-        let mut figures = [0; 5];
-        // SAFETY: as in `check`.
-        let number = unsafe {
-            exported::gate_measure(
-                doc.as_ptr(),
-                doc.len(),
-                query.as_ptr(),
-                query.len(),
-                clock.year,
-                clock.day,
-                clock.hour,
-                figures.as_mut_ptr(),
-            )
-        };
-        if number != 0 {
-            return Err(refusal(number, figures));
-        }
-        Ok(figures[0] as usize)
-    }
-
-    /// Writes the row lines of a comma-separated file, for a table and with a label, and gives their length. A refusal has a
-    /// number from 19 to 21 and leaves `out`; lines leave the bytes behind them.
-    pub fn import(file: &[u8], table: &[u8], label: &[u8], out: &mut [u8]) -> Result<usize, Refusal> {
-        let mut figures = [0; 5];
-        // SAFETY: as in `ask`.
-        let number = unsafe {
-            exported::gate_import(
-                file.as_ptr(),
-                file.len(),
-                table.as_ptr(),
-                table.len(),
-                label.as_ptr(),
-                label.len(),
-                out.as_mut_ptr(),
-                out.len(),
-                figures.as_mut_ptr(),
-            )
-        };
-        if number != 0 {
-            return Err(refusal(number, figures));
-        }
-        Ok(figures[0] as usize)
-    }
-
-    /// Measures those lines: their length, or the refusal that `import` gives with every buffer.
-    pub fn measure_import(file: &[u8], table: &[u8], label: &[u8]) -> Result<usize, Refusal> {
-        let mut figures = [0; 5];
-        // SAFETY: as in `check`.
-        let number = unsafe {
-            exported::gate_measure_import(
-                file.as_ptr(),
-                file.len(),
-                table.as_ptr(),
-                table.len(),
-                label.as_ptr(),
-                label.len(),
-                figures.as_mut_ptr(),
-            )
-        };
-        if number != 0 {
-            return Err(refusal(number, figures));
-        }
-        Ok(figures[0] as usize)
-    }
-
-    /// The part of a refusal, from whichever text holds it; of a file none is handed back. Cut at the text's end, so that with texts other than those asked
-    /// it doesn't panic.
-    pub fn part<'a>(doc: &'a [u8], query: &'a [u8], r: &Refusal) -> &'a [u8] {
-        let text = match r.source {
-            Source::Document => doc,
-            Source::Query => query,
-            Source::File => b"",
-        };
-        let rest = &text[r.start.min(text.len())..];
-        &rest[..r.len.min(rest.len())]
-    }
-}
-
-use gate::{ask, check, import, measure, measure_import, part, Answer, Checked, Clock, Refusal, Source};
+use gate::{ask, check, import, measure, measure_import, part, Answer, Checked, Clock, Loaded, Refusal, Source};
 
 const POLICY: &str = "\
 (purpose all)
@@ -377,7 +155,22 @@ fn show(to: &mut impl Write) -> io::Result<bool> {
     let refused = ask(doc, b"", CLOCK, &mut buffer);
     print_answered(to, doc, b"", &buffer, &refused)?;
 
-    writeln!(to, "-- a policy with an unknown name, checked and asked")?;
+    writeln!(to, "-- the sample policy, loaded once; asked twice, and measured")?;
+    let Ok((loaded, checked)) = Loaded::new(doc) else { return Ok(false) };
+    print_checked(to, doc, &Ok(checked))?;
+    for _ in 0..2 {
+        buffer.fill(MARK);
+        let again = loaded.ask(query, CLOCK, &mut buffer);
+        print_answered(to, doc, query, &buffer, &again)?;
+        writeln!(to, "the same as from the text: {}", yes(again == first && buffer == buffer10))?;
+    }
+    print_measured(to, doc, query, &loaded.measure(query, CLOCK))?;
+    print_answered(to, doc, query_bill, &buffer, &loaded.ask(query_bill, CLOCK, &mut buffer.clone()))?;
+    buffer.fill(MARK);
+
+    writeln!(to, "-- a policy with an unknown name, loaded, checked and asked")?;
+    let Err((_, refused)) = Loaded::new(wrong) else { return Ok(false) };
+    print_refused(to, wrong, b"", &refused)?;
     print_checked(to, wrong, &check(wrong))?;
     let refused = ask(wrong, query, CLOCK, &mut buffer);
     print_answered(to, wrong, query, &buffer, &refused)?;

@@ -1,8 +1,9 @@
 /* The purpose gate, for hosts in C and C++ on x86-64 (libgate.a).
  *
  * A host lends a document, a query, a clock and a buffer, and gets back an answer or a refusal; or a comma-separated file, and gets
- * back the row lines that are made of it. The gate allocates nothing,
- * keeps no state between calls, reads no file and no clock of its own, and may be called from several threads at once.
+ * back the row lines that are made of it. A document that is asked more than once is best loaded once, into a struct gate_document
+ * that the host lends. The gate allocates nothing, keeps no state between calls but what it writes into that struct, reads no file and
+ * no clock of its own, and may be called from several threads at once.
  *
  * What a caller owes, in every call:
  * - A text or buffer is a pointer and a length in bytes. The pointer is valid for that length: readable for `doc`, `query`,
@@ -12,11 +13,14 @@
  * - `out` overlaps no text, and `figures` overlaps nothing else. Texts are only read, so they may overlap.
  * - No pointer is null. Where a length is 0, any other pointer will do; nothing is read or written through it.
  * - Until the call returns, no other thread writes the texts, and none touches `out` or `figures`.
- * - The calling thread has room on its stack: a call takes up to 369 KB (measured). Threads with small stacks need a larger one.
+ * - The calling thread has room on its stack (measured): gate_check, gate_ask and gate_measure take up to 361 KB, gate_load up to
+ *   22 KB, gate_ask_loaded and gate_measure_loaded up to 24 KB. Threads with small stacks need a larger one for the first three.
+ * What a caller owes of a struct gate_document: see there.
  * Nothing is owed of what the texts, the clock and the buffer hold. Every input has an outcome, and every call returns.
  *
  * What the calls give is proved for every input, as crates/gate/specs/Exports.antt says it (ExportsCheck, ExportsAsk,
- * ExportsMeasure, ExportsImport, ExportsMeasureImport). That the caller keeps to the list above is not: a call that breaks it is
+ * ExportsMeasure, ExportsImport, ExportsMeasureImport), and crates/gate/specs/Arrays.antt of those over a loaded document (ExportsLoad,
+ * ExportsAskArrays, ExportsMeasureArrays). That the caller keeps to the list above is not: a call that breaks it is
  * undefined. Nothing outside the library is called but memset and memcpy.
  */
 #ifndef GATE_H
@@ -100,11 +104,42 @@ enum gate_refused_figure {         /* any call, refused */
     GATE_PART = 2                  /* how many bytes it has */
 };
 
+/* What a call over a loaded document returns where the struct holds none of this version: no text was ever loaded into it, the last
+ * one was refused, or a header of another version did it. All figures are 0 then, and `out` is as it was. No refusal has the number. */
+#define GATE_NOT_LOADED 255
+
+/* The version of the struct below, which gate_load tests and writes into it and the other calls test. It is another one whenever the layout changes:
+ * a host is compiled against the header of the library that it links, and stores no struct. */
+#define GATE_DOCUMENT_VERSION 7700001
+
+/* A loaded document: 336,976 bytes, all known when a host is compiled, which puts it where it likes (static, on the heap). What
+ * stands in it is the gate's own; a host only passes its address.
+ * What a caller owes, beside the list above:
+ * - The text that was loaded stays as it was, at the same or another address, as long as the struct is asked: each call gets the very
+ *   bytes that gate_load got. The struct holds places in them, not the names themselves.
+ * - Nobody but gate_load writes the struct; it may be copied as a whole. Several threads may ask one struct at once, none while it is
+ *   being loaded. It overlaps no text, buffer or figures.
+ * A call with another text, or over a struct that was written, still returns and stays within all that was lent; its answer is then
+ * worth nothing. */
+struct gate_document {
+    uint64_t cells[10];
+    uint64_t purposes[1792];
+    uint64_t roles[1216];
+    uint64_t attributes[96];
+    uint64_t users[1536];
+    uint64_t conds[384];
+    uint64_t grants[256];
+    uint64_t labels[64];
+    uint64_t sets[512];
+    uint64_t tables[416];
+    uint64_t rows[35840];
+};
+
 /* Checks a document. Returns GATE_ACCEPTED, or the number of a refusal, 1 to 9. */
 uint64_t gate_check(const uint8_t *doc, size_t doc_len, uint64_t *figures);
 
 /* Asks a document with a query at the time of the clock: year 1 to 9999, day 1 to 365 or in a leap year 366, hour 0 to 23.
- * The document is checked each time, so gate_check need not come first.
+ * The document is checked each time, so gate_check need not come first; a host that asks it again loads it once (gate_load).
  * Returns GATE_ACCEPTED, the answer standing in the first bytes of `out` and the bytes behind it being as they were; or the
  * number of a refusal, 1 to 18, every byte of `out` being as it was. */
 uint64_t gate_ask(const uint8_t *doc, size_t doc_len, const uint8_t *query, size_t query_len, uint64_t year, uint64_t day,
@@ -115,6 +150,67 @@ uint64_t gate_ask(const uint8_t *doc, size_t doc_len, const uint8_t *query, size
  * is never 18 and which gate_ask would give with every buffer. A buffer shorter than that length is refused with 18, no other. */
 uint64_t gate_measure(const uint8_t *doc, size_t doc_len, const uint8_t *query, size_t query_len, uint64_t year, uint64_t day,
                       uint64_t hour, uint64_t *figures);
+
+/* What the three functions below call, with the arrays of a struct gate_document. */
+uint64_t gate_document_version(void);
+uint64_t gate_load_arrays(const uint8_t *doc, size_t doc_len, uint64_t *purposes, uint64_t *roles, uint64_t *attributes,
+                          uint64_t *users, uint64_t *conds, uint64_t *grants, uint64_t *labels, uint64_t *sets, uint64_t *tables,
+                          uint64_t *rows, uint64_t *cells, uint64_t *figures);
+uint64_t gate_ask_arrays(const uint8_t *doc, size_t doc_len, const uint64_t *purposes, const uint64_t *roles,
+                         const uint64_t *attributes, const uint64_t *users, const uint64_t *conds, const uint64_t *grants,
+                         const uint64_t *sets, const uint64_t *tables, const uint64_t *rows, const uint64_t *cells,
+                         const uint8_t *query, size_t query_len, const uint64_t *clock, uint8_t *out, size_t out_len,
+                         uint64_t *figures);
+uint64_t gate_measure_arrays(const uint8_t *doc, size_t doc_len, const uint64_t *purposes, const uint64_t *roles,
+                             const uint64_t *attributes, const uint64_t *users, const uint64_t *conds, const uint64_t *grants,
+                             const uint64_t *sets, const uint64_t *tables, const uint64_t *rows, const uint64_t *cells,
+                             const uint8_t *query, size_t query_len, const uint64_t *clock, uint64_t *figures);
+
+/* Checks a document, as gate_check does and with the same figures, and holds it in the struct, whatever that held before.
+ * Returns GATE_ACCEPTED, or the number of a refusal, 1 to 9; the struct then holds none. With a library of another version than
+ * this header's it gives GATE_NOT_LOADED. */
+static inline uint64_t gate_load(struct gate_document *loaded, const uint8_t *doc, size_t doc_len, uint64_t *figures)
+{
+    /* A library of another version has other arrays: nothing is lent to it. */
+    if (gate_document_version() != GATE_DOCUMENT_VERSION) {
+        int n;
+        for (n = 0; n < GATE_FIGURES; n++)
+            figures[n] = 0;
+        loaded->cells[0] = 0;
+        return GATE_NOT_LOADED;
+    }
+    return gate_load_arrays(doc, doc_len, loaded->purposes, loaded->roles, loaded->attributes, loaded->users, loaded->conds,
+                            loaded->grants, loaded->labels, loaded->sets, loaded->tables, loaded->rows, loaded->cells, figures);
+}
+
+/* Asks a loaded document: gives what gate_ask with the same text, query, clock and buffer gives, in code, figures and bytes, without
+ * checking the document again; or GATE_NOT_LOADED. */
+static inline uint64_t gate_ask_loaded(const struct gate_document *loaded, const uint8_t *doc, size_t doc_len, const uint8_t *query,
+                                       size_t query_len, uint64_t year, uint64_t day, uint64_t hour, uint8_t *out, size_t out_len,
+                                       uint64_t *figures)
+{
+    uint64_t clock[3];
+    clock[0] = year;
+    clock[1] = day;
+    clock[2] = hour;
+    return gate_ask_arrays(doc, doc_len, loaded->purposes, loaded->roles, loaded->attributes, loaded->users, loaded->conds,
+                           loaded->grants, loaded->sets, loaded->tables, loaded->rows, loaded->cells, query, query_len, clock, out,
+                           out_len, figures);
+}
+
+/* Measures the answer of a loaded document: gives what gate_measure with the same text, query and clock gives; or GATE_NOT_LOADED. */
+static inline uint64_t gate_measure_loaded(const struct gate_document *loaded, const uint8_t *doc, size_t doc_len,
+                                           const uint8_t *query, size_t query_len, uint64_t year, uint64_t day, uint64_t hour,
+                                           uint64_t *figures)
+{
+    uint64_t clock[3];
+    clock[0] = year;
+    clock[1] = day;
+    clock[2] = hour;
+    return gate_measure_arrays(doc, doc_len, loaded->purposes, loaded->roles, loaded->attributes, loaded->users, loaded->conds,
+                               loaded->grants, loaded->sets, loaded->tables, loaded->rows, loaded->cells, query, query_len, clock,
+                               figures);
+}
 
 /* Writes one row line `(row TABLE LABEL v ..)` for each record of a comma-separated file (RFC 4180, both line endings, every record
  * data), for a table of scheme row. The file may have any length; no document is looked at, so that the lines are checked as part of

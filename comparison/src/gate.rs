@@ -2,6 +2,11 @@
 
 use reference::{Clock, Source};
 
+/// What hosts in Rust take: its loaded documents are asked beside the texts.
+#[cfg(not(feature = "stub"))]
+#[path = "../../include/gate.rs"]
+mod host;
+
 #[cfg(not(feature = "stub"))]
 extern "C" {
     fn gate_check(doc: *const u8, doc_len: usize, figures: *mut u64) -> u64;
@@ -183,8 +188,51 @@ pub fn check(doc: &[u8]) -> Result<(Checked, u64), String> {
     }
 }
 
-/// The gate's asking.
+/// What the gate's asking of a loaded document gives, as that of its text.
+#[cfg(not(feature = "stub"))]
+fn ask_loaded(doc: &[u8], query: &[u8], clock: Clock, out: &mut [u8]) -> Asked {
+    let refused = |r: host::Refusal| {
+        let source = match r.source {
+            host::Source::Document => 1,
+            host::Source::Query => 2,
+            host::Source::File => 3,
+        };
+        Refused { number: r.number, source, start: r.start as u64, length: r.len as u64 }
+    };
+    let clock = host::Clock { year: clock.year, day: clock.day, hour: clock.hour };
+    let (loaded, _) = match host::Loaded::new(doc) {
+        Ok(loaded) => loaded,
+        Err((_, r)) => return Asked::Refused(refused(r)),
+    };
+    match loaded.ask(query, clock, out) {
+        Ok(a) => Asked::Answered {
+            length: a.len as u64,
+            grant: a.grant as u64,
+            passed: a.passed as u64,
+            withheld: a.withheld as u64,
+            unmatched: a.unmatched as u64,
+        },
+        Err(r) => Asked::Refused(refused(r)),
+    }
+}
+
+/// The gate's asking, of the text and of the loaded document, which have to give the same in figures and bytes.
+#[cfg(not(feature = "stub"))]
 pub fn ask(doc: &[u8], query: &[u8], clock: Clock, out: &mut [u8]) -> Result<Asked, String> {
+    let mut other = out.to_vec();
+    let asked = ask_text(doc, query, clock, out)?;
+    let loaded = ask_loaded(doc, query, clock, &mut other);
+    if loaded != asked || other != out {
+        return Err(format!("loaded: {loaded:?}, from the text: {asked:?}; the same bytes: {}", other == out));
+    }
+    Ok(asked)
+}
+
+#[cfg(feature = "stub")]
+pub use ask_text as ask;
+
+/// The gate's asking of a text.
+pub fn ask_text(doc: &[u8], query: &[u8], clock: Clock, out: &mut [u8]) -> Result<Asked, String> {
     let mut figures = Figures::new();
     // As in `check`; the buffer is lent for this call alone.
     let number = unsafe {
