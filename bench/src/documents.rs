@@ -166,6 +166,8 @@ pub struct Case {
     pub text: Vec<u8>,
     pub select: String,
     pub count: String,
+    /// Queries that are refused before a row is looked at, and with which number.
+    pub refused: Vec<(u64, String)>,
 }
 
 impl Case {
@@ -192,12 +194,31 @@ fn document(scheme: Scheme, bytes: usize) -> Vec<u8> {
     text.into_bytes()
 }
 
+/// The select with a word changed, for each refusal that needs no row: another bracket too few, user unknown, role not given, purpose
+/// not authorised, column unknown, operator of the wrong type; and a closed table or column where there is one.
+fn refused(scheme: Scheme) -> Vec<(u64, String)> {
+    let mut refused = vec![
+        (11, SELECT.replace("Ulm)))", "Ulm))")),
+        (12, SELECT.replace("ana", "zoe")),
+        (13, SELECT.replace("desk", "night")),
+        (14, SELECT.replace("ana", "bo")),
+        (15, SELECT.replace("town", "city")),
+        (16, SELECT.replace("ne town", "lt town")),
+    ];
+    match scheme {
+        Scheme::Table => refused.push((17, SELECT.replace("post", "phone"))),
+        Scheme::Column => refused.push((17, SELECT.replace("who due", "who since"))),
+        Scheme::None | Scheme::Row | Scheme::Cell => {}
+    }
+    refused
+}
+
 /// The fifteen cases of the table: five schemes, three sizes.
 pub fn cases() -> Vec<Case> {
     let mut cases = Vec::new();
     for scheme in SCHEMES {
         for (size, bytes) in SIZES {
-            cases.push(Case { scheme: scheme.word(), size, text: document(scheme, bytes), select: SELECT.into(), count: COUNT.into() });
+            cases.push(Case { scheme: scheme.word(), size, text: document(scheme, bytes), select: SELECT.into(), count: COUNT.into(), refused: refused(scheme) });
         }
     }
     cases
@@ -219,6 +240,7 @@ pub fn chain(size: &'static str, purposes: usize) -> Case {
         text: text.into_bytes(),
         select: format!("(select ana desk {} sub (c00 c01) (gt c00 0))", purpose(purposes - 1)),
         count: format!("(count ana desk {} sub (gt c00 0))", purpose(purposes - 1)),
+        refused: Vec::new(),
     }
 }
 
@@ -264,6 +286,7 @@ fn lookups(scheme: &'static str, named: fn(usize) -> String) -> Case {
         text: text.into_bytes(),
         select: "(select ana desk all sub (c00 c01) (and (gt c14 0) (ne c15 7)))".into(),
         count: "(count ana desk all sub (and (gt c14 0) (ne c15 7)))".into(),
+        refused: Vec::new(),
     }
 }
 
@@ -285,6 +308,7 @@ fn condition(scheme: &'static str, joined: &str, compared: fn(usize) -> String) 
         text: document(Scheme::None, 60_000),
         select: format!("(select ana desk post sub (who due) ({joined}{compared}))"),
         count: format!("(count ana desk post sub ({joined}{compared}))"),
+        refused: Vec::new(),
     }
 }
 
@@ -306,6 +330,7 @@ fn plain(scheme: &'static str, columns: &str, values: &str, selected: &str, cond
         text: plain_rows(columns, values),
         select: format!("(select ana desk all sub ({selected}) {condition})"),
         count: format!("(count ana desk all sub {condition})"),
+        refused: Vec::new(),
     }
 }
 

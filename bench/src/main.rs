@@ -1,22 +1,30 @@
 //! The gate beside the plain reference, a pass of byte classes and SQLite.
 //!
-//!   bench                     measures and prints the table
+//!   bench                     measures and prints the tables
 //!   bench worst [WORD]        documents that are dear to check, with WORD in their names
 //!   bench once WHAT KEY       makes one call, for an instruction counter
 //!   bench keys                prints the keys
 //!   bench text KEY            prints the document; bench query KEY the select
 
 mod bytes;
-mod child;
 mod documents;
 mod gate;
+#[cfg_attr(not(loaded), path = "without_loaded.rs")]
+mod loaded;
+#[cfg_attr(not(sqlite), allow(dead_code))]
+mod modified;
+mod peers;
 mod plain;
 mod samples;
+#[cfg_attr(not(sqlite), path = "without_sqlite.rs")]
 mod sqlite;
 mod table;
 mod worst;
+#[cfg_attr(not(sqlite), allow(dead_code))]
+mod writing;
 
-use documents::Case;
+use documents::{Case, BAD};
+use loaded::Loaded;
 use samples::Samples;
 use sqlite::Sqlite;
 use std::hint::black_box;
@@ -85,10 +93,24 @@ impl Call {
 /// The times of one call on one document.
 #[derive(Default)]
 pub struct Times {
+    /// From the text.
     pub gate: Samples,
     pub reference: Samples,
-    /// The query; for `check` the loading of the rows.
-    pub sqlite: Samples,
+    /// On the loaded document; for `check` the loading.
+    pub loaded: Samples,
+    /// SQLite's bare query: labels by masks, tested behind the condition. For `check` the loading of the rows.
+    pub bare: Samples,
+    /// The same with labels tested first, and with labels by numbers, where rows or cells have them.
+    pub labels_first: Samples,
+    pub numbered: Samples,
+    /// The whole answer, with the three counts.
+    pub counted: Samples,
+}
+
+impl Times {
+    pub fn sqlite(&self) -> [&Samples; 4] {
+        [&self.bare, &self.labels_first, &self.numbered, &self.counted]
+    }
 }
 
 /// The times of one document.
@@ -97,86 +119,160 @@ pub struct Measured {
     pub calls: [Times; 3],
     pub pass: Samples,
     pub pass_nine: Samples,
+    /// Of each query that is refused, on the loaded document.
+    pub refused: Vec<Samples>,
+}
+
+/// What holds a document between the calls, as far as it is there.
+struct Holders {
+    loaded: Option<Loaded>,
+    sqlite: Option<Sqlite>,
 }
 
 fn key(case: &Case) -> String {
     format!("{}-{}", case.scheme, case.size)
 }
 
+/// The nanoseconds of some runs. What a run hands back is dropped when its time is taken.
 fn taken<T>(mut run: impl FnMut() -> T) -> Vec<u64> {
     (0..IN_A_ROW)
         .map(|_| {
             let start = Instant::now();
-            black_box(run());
-            start.elapsed().as_nanos() as u64
+            let made = black_box(run());
+            let taken = start.elapsed().as_nanos() as u64;
+            drop(made);
+            taken
         })
         .collect()
 }
 
-/// That the three give one answer: the bytes and figures of gate and reference, the counts and length of SQLite.
-fn agree(cases: &[Case], sqlite: &mut Sqlite) -> std::io::Result<()> {
-    for case in cases {
-        for call in CALLS {
-            let mut ours = vec![0; BUFFER];
-            let mut theirs = vec![0; BUFFER];
-            let (number, mut figures) = call.gate(case, &mut ours);
-            if call == Call::Check {
-                figures[1] = 0;
-            }
-            assert_eq!(number, 0, "{} is answered", key(case));
-            assert_eq!((number, figures), call.reference(case, &mut theirs), "{} {}", key(case), call.word());
-            assert!(ours == theirs, "{} {}: the same bytes", key(case), call.word());
-            if call != Call::Check {
-                let said = sqlite.tell(&format!("query {} {} {}", key(case), call.word(), call.query(case)))?;
-                let wanted = format!("{} {} {} {}", figures[2], figures[3], figures[4], figures[0]);
-                assert_eq!(said, wanted, "{} {}: SQLite", key(case), call.word());
-            }
-        }
+/// That the gate and the reference give one answer, bytes and figures. The gate's is handed back.
+fn agree(case: &Case, call: Call) -> (Vec<u8>, [u64; 5]) {
+    let mut ours = vec![0; BUFFER];
+    let mut theirs = vec![0; BUFFER];
+    let (number, figures) = call.gate(case, &mut ours);
+    assert_eq!(number, 0, "{} is answered", key(case));
+    let mut wanted = figures;
+    if call == Call::Check {
+        wanted[1] = 0;
     }
-    Ok(())
+    assert_eq!((number, wanted), call.reference(case, &mut theirs), "{} {}", key(case), call.word());
+    assert!(ours == theirs, "{} {}: the same bytes", key(case), call.word());
+    if call != Call::Check {
+        ours.truncate(figures[0] as usize);
+    }
+    (ours, figures)
 }
 
-/// One turn of each kind on each document.
-fn turn(cases: &[Case], measured: &mut [Measured], sqlite: &mut Sqlite, out: &mut [u8]) -> std::io::Result<()> {
-    for (case, times) in cases.iter().zip(measured) {
-        for (call, times) in CALLS.into_iter().zip(&mut times.calls) {
-            times.gate.add(taken(|| call.gate(black_box(case), out)));
-            times.reference.add(taken(|| call.reference(black_box(case), out)));
-            let what = if call == Call::Check { "load" } else { call.word() };
-            times.sqlite.add(sqlite.time(&key(case), what, IN_A_ROW)?);
-        }
-        times.pass.add(taken(|| bytes::byte_pass(black_box(&case.text))));
-        times.pass_nine.add(taken(|| bytes::byte_pass_nine(black_box(&case.text))));
-    }
-    Ok(())
+/// That the loaded document gives the same answer, and the same length before.
+fn agree_loaded(case: &Case, call: Call, loaded: &mut Loaded, answer: &[u8], figures: [u64; 5]) {
+    let mut out = vec![0; BUFFER];
+    let query = call.query(case).as_bytes();
+    assert_eq!(loaded.measure(&case.text, query), (0, [figures[0], 0, 0, 0, 0]), "{} {}: loaded, measured", key(case), call.word());
+    assert_eq!(loaded.ask(&case.text, query, &mut out), (0, figures), "{} {}: loaded", key(case), call.word());
+    assert!(out.starts_with(answer), "{} {}: loaded, the same bytes", key(case), call.word());
 }
 
-fn measure(cases: &[Case]) -> std::io::Result<()> {
-    let folder = std::env::temp_dir().join(format!("bench-{}", std::process::id()));
-    std::fs::create_dir_all(&folder)?;
-    let mut sqlite = Sqlite::start(&std::env::var("BENCH_SQLITE").unwrap_or_else(|_| "sqlite.py".to_string()))?;
-    for case in cases {
-        let path = folder.join(key(case));
-        std::fs::write(&path, &case.text)?;
-        sqlite.tell(&format!("document {} {}", key(case), path.display()))?;
+/// That SQLite gives the same bytes, whichever way it takes, and looks at the same values without writing them.
+fn agree_sqlite(case: &Case, call: Call, sqlite: &Sqlite, answer: &[u8]) {
+    for (way, said) in sqlite.answers(call).iter().enumerate() {
+        assert!(said == answer, "{} {}: SQLite's way {way}, the same bytes", key(case), call.word());
     }
-    agree(cases, &mut sqlite)?;
+    for looked_at in [sqlite.labels_first(call), sqlite.numbered(call)].into_iter().flatten() {
+        assert_eq!(looked_at, sqlite.bare(call), "{} {}: SQLite's values", key(case), call.word());
+    }
+}
 
+/// Loads a document wherever it can be loaded, all answers being the same.
+fn hold(case: &Case) -> Holders {
+    let mut holders = Holders { loaded: Loaded::new(), sqlite: Sqlite::open(case) };
+    if let Some(loaded) = &mut holders.loaded {
+        assert_eq!(loaded.load(&case.text).0, 0, "{} is loaded", key(case));
+    }
+    for call in CALLS {
+        let (answer, figures) = agree(case, call);
+        if call == Call::Check {
+            continue;
+        }
+        if let Some(loaded) = &mut holders.loaded {
+            agree_loaded(case, call, loaded, &answer, figures);
+        }
+        if let Some(sqlite) = &holders.sqlite {
+            agree_sqlite(case, call, sqlite, &answer);
+        }
+    }
+    for (number, query) in &case.refused {
+        let said = gate::ask(&case.text, query.as_bytes(), &mut []);
+        assert_eq!(said.0, *number, "{}: {query}", key(case));
+        if let Some(loaded) = &mut holders.loaded {
+            assert_eq!(loaded.ask(&case.text, query.as_bytes(), &mut []), said, "{}: loaded, {query}", key(case));
+        }
+    }
+    holders
+}
+
+fn turn_loaded(case: &Case, measured: &mut Measured, loaded: &mut Loaded, out: &mut [u8]) {
+    for (call, times) in CALLS.into_iter().zip(&mut measured.calls) {
+        let query = call.query(case).as_bytes();
+        times.loaded.add(match call {
+            Call::Check => taken(|| loaded.load(black_box(&case.text))),
+            _ => taken(|| loaded.ask(black_box(&case.text), query, out)),
+        });
+    }
+    for ((_, query), times) in case.refused.iter().zip(&mut measured.refused) {
+        times.add(taken(|| loaded.ask(black_box(&case.text), query.as_bytes(), out)));
+    }
+}
+
+fn turn_sqlite(measured: &mut Measured, sqlite: &Sqlite, out: &mut [u8]) {
+    for (call, times) in CALLS.into_iter().zip(&mut measured.calls) {
+        if call == Call::Check {
+            times.bare.add(taken(|| sqlite.load()));
+            continue;
+        }
+        times.bare.add(taken(|| sqlite.bare(call)));
+        times.counted.add(taken(|| sqlite.counted(call, out)));
+        if sqlite.has_labels() {
+            times.labels_first.add(taken(|| sqlite.labels_first(call)));
+            times.numbered.add(taken(|| sqlite.numbered(call)));
+        }
+    }
+}
+
+/// One turn of each kind on a document.
+fn turn(case: &Case, measured: &mut Measured, holders: &mut Holders, out: &mut [u8]) {
+    for (call, times) in CALLS.into_iter().zip(&mut measured.calls) {
+        times.gate.add(taken(|| call.gate(black_box(case), out)));
+        times.reference.add(taken(|| call.reference(black_box(case), out)));
+    }
+    measured.pass.add(taken(|| bytes::byte_pass(black_box(&case.text))));
+    measured.pass_nine.add(taken(|| bytes::byte_pass_nine(black_box(&case.text))));
+    if let Some(loaded) = &mut holders.loaded {
+        turn_loaded(case, measured, loaded, out);
+    }
+    if let Some(sqlite) = &holders.sqlite {
+        turn_sqlite(measured, sqlite, out);
+    }
+}
+
+fn measure(cases: &[Case]) {
+    let mut holders: Vec<Holders> = cases.iter().map(hold).collect();
     let seconds = std::env::var("BENCH_SECONDS").ok().and_then(|word| word.parse().ok()).unwrap_or(SECONDS);
-    let mut measured: Vec<Measured> = cases.iter().map(|_| Measured::default()).collect();
+    let refused = |case: &Case| case.refused.iter().map(|_| Samples::default()).collect();
+    let mut measured: Vec<Measured> = cases.iter().map(|case| Measured { refused: refused(case), ..Measured::default() }).collect();
     let mut out = vec![0; BUFFER];
     let start = Instant::now();
     let mut turns = 0;
     while turns < 10 || start.elapsed() < Duration::from_secs(seconds) {
-        // The last two cases take longer than the others together, and have their turn once in ten.
-        let so_many = if turns % 10 == 0 { cases.len() } else { cases.len() - 2 };
-        turn(&cases[..so_many], &mut measured, &mut sqlite, &mut out)?;
+        for ((case, measured), holders) in cases.iter().zip(&mut measured).zip(&mut holders) {
+            // The bad inputs take longer than the others together, and have their turn once in ten.
+            if turns % 10 == 0 || !BAD.contains(&case.scheme) {
+                turn(case, measured, holders, &mut out);
+            }
+        }
         turns += 1;
     }
-    sqlite.stop()?;
-    std::fs::remove_dir_all(&folder)?;
     table::print(cases, &measured, turns, IN_A_ROW);
-    Ok(())
 }
 
 /// One call, for an instruction counter.
@@ -212,7 +308,10 @@ fn main() -> std::io::Result<()> {
     let words: Vec<&str> = words.iter().map(String::as_str).collect();
     let named = |wanted: &str| cases.iter().find(|case| key(case) == wanted).expect("a key that `bench keys` prints");
     match words[..] {
-        [] => measure(&cases),
+        [] => {
+            measure(&cases);
+            Ok(())
+        }
         ["worst"] => {
             worst::measure("");
             Ok(())

@@ -1,25 +1,25 @@
-//! The table: times, ratios of the same run, goals and noise.
+//! The tables: times, ratios of the same run, goals and noise.
 
 use crate::documents::{BAD, CHAIN, Case};
-use crate::{Call, Measured, Samples, CALLS};
+use crate::{peers, Call, Measured, Samples, CALLS};
 
 /// The largest of some ratios, and of which row.
-struct Largest(f64, String);
+pub struct Largest(f64, String);
 
 impl Largest {
-    fn new() -> Largest {
+    pub fn new() -> Largest {
         Largest(0.0, String::new())
     }
 
-    fn see(&mut self, ratio: f64, row: &str) {
+    pub fn see(&mut self, ratio: f64, row: &str) {
         if ratio > self.0 {
             *self = Largest(ratio, row.to_string());
         }
     }
 
-    fn say(&self, goal: f64, what: &str) {
+    pub fn say(&self, goal: f64, what: &str) {
         let verdict = if self.0 <= goal { "met" } else { "missed" };
-        println!("{what}: at most {goal:.1} wanted, largest {:.2} ({}): {verdict}", self.0, self.1);
+        println!("{what}: at most {goal} wanted, largest {:.2} ({}): {verdict}", self.0, self.1);
     }
 }
 
@@ -34,6 +34,9 @@ fn growth(cases: &[Case], measured: &[Measured], place: usize, time: impl Fn(&Me
 }
 
 fn noise(name: &str, samples: &[&Samples]) {
+    if samples.is_empty() {
+        return;
+    }
     let mut spreads: Vec<(f64, f64)> = samples.iter().map(|times| times.spread()).collect();
     spreads.sort_by(|a, b| a.1.total_cmp(&b.1));
     let middle = spreads[spreads.len() / 2];
@@ -44,42 +47,55 @@ fn noise(name: &str, samples: &[&Samples]) {
     );
 }
 
-pub fn print(cases: &[Case], measured: &[Measured], turns: usize, in_a_row: usize) {
+/// What a row is called where a goal tells of it.
+pub fn called(case: &Case, call: &str) -> String {
+    let unit = if case.scheme == CHAIN { "purposes" } else { "KB" };
+    format!("{} {} {unit} {call}", case.scheme, case.size)
+}
+
+fn is_ordinary(case: &Case) -> bool {
+    case.scheme != CHAIN && !BAD.contains(&case.scheme)
+}
+
+fn explain(turns: usize, in_a_row: usize) {
     println!("Microseconds a call, 10th percentile of {} runs each ({turns} turns of {in_a_row}, all kinds in each turn; the bad inputs: a tenth).", turns * in_a_row);
-    println!("SQLite: the loading of the rows beside check, the query alone beside select and count. Growth: over the row of half its size.");
-    println!("bytes: one pass of two byte classes over the same text; nine: the same with nine classes.");
+    println!("Growth: over the row of half its size. bytes: one pass of two byte classes over the same text; nine: the same with nine classes.");
     println!("chain: no rows, 64 and 256 purposes, each below the one before it; growth is that of the second over the first.");
     println!("Bad inputs. full: scheme none, a condition of 64 comparisons that come out alike in most rows; turns: that come out otherwise in nearly every row.");
     println!("dear: 64 labels of 24 bytes alike but for the last two; front: but for the first two.");
     println!("nots: 64 comparisons below five nots each; alike: 64 of names that are the same; wide: one column selected sixteen times.\n");
+}
+
+/// Asking from the text, and its goals.
+fn from_text(cases: &[Case], measured: &[Measured]) {
     println!(
-        "{:7}{:>7}{:>6} {:7}{:>9}{:>10}{:>8}{:>8}{:>9}{:>10}{:>9}{:>8}{:>10}{:>8}",
-        "scheme", "bytes", "rows", "call", "gate", "reference", "bytes", "nine", "SQLite", "gate/ref", "g/bytes", "g/nine", "g/SQLite", "growth"
+        "{:7}{:>7}{:>6} {:7}{:>9}{:>10}{:>8}{:>8}{:>10}{:>9}{:>8}{:>8}",
+        "scheme", "bytes", "rows", "call", "gate", "reference", "bytes", "nine", "gate/ref", "g/bytes", "g/nine", "growth"
     );
     let (mut by_reference, mut by_pass, mut by_nine, mut grown) = (Largest::new(), Largest::new(), Largest::new(), Largest::new());
-    let mut chained = Largest::new();
+    let (mut selected, mut chained) = (Largest::new(), Largest::new());
     for (place, (case, times)) in cases.iter().zip(measured).enumerate() {
         for (at, call) in CALLS.into_iter().enumerate() {
-            let unit = if case.scheme == CHAIN { "purposes" } else { "KB" };
-            let row = format!("{} {} {unit} {}", case.scheme, case.size, call.word());
-            let this = &times.calls[at];
-            let (gate, reference, sqlite) = (this.gate.time(), this.reference.time(), this.sqlite.time());
+            let row = called(case, call.word());
+            let (gate, reference) = (times.calls[at].gate.time(), times.calls[at].reference.time());
             let (pass, nine) = (times.pass.time(), times.pass_nine.time());
             let growth = growth(cases, measured, place, |other| other.calls[at].gate.time());
-            if case.scheme == CHAIN {
-                if call != Call::Check {
-                    chained.see(growth.unwrap_or(0.0), &row);
-                }
-            } else if !BAD.contains(&case.scheme) {
+            if case.scheme == CHAIN && call != Call::Check {
+                chained.see(growth.unwrap_or(0.0), &row);
+            }
+            if is_ordinary(case) {
                 by_reference.see(gate / reference, &row);
-                if case.size == "60" {
-                    by_pass.see(gate / pass, &row);
-                    by_nine.see(gate / nine, &row);
-                }
                 grown.see(growth.unwrap_or(0.0), &row);
             }
+            if is_ordinary(case) && case.size == "60" {
+                by_pass.see(gate / pass, &row);
+                by_nine.see(gate / nine, &row);
+                if call == Call::Select {
+                    selected.see(gate / pass, &row);
+                }
+            }
             println!(
-                "{:7}{:>7}{:>6} {:7}{gate:>9.1}{reference:>10.1}{pass:>8.1}{nine:>8.1}{sqlite:>9.1}{:>10.2}{:>9.2}{:>8.2}{:>10.2}{:>8}",
+                "{:7}{:>7}{:>6} {:7}{gate:>9.1}{reference:>10.1}{pass:>8.1}{nine:>8.1}{:>10.2}{:>9.2}{:>8.2}{:>8}",
                 case.scheme,
                 case.text.len(),
                 case.rows(),
@@ -87,22 +103,31 @@ pub fn print(cases: &[Case], measured: &[Measured], turns: usize, in_a_row: usiz
                 gate / reference,
                 gate / pass,
                 gate / nine,
-                gate / sqlite,
                 growth.map(|ratio| format!("{ratio:.2}")).unwrap_or_default(),
             );
         }
     }
-    println!("\nGoals (the bad inputs apart)");
+    println!("\nGoals from the text (the bad inputs apart)");
     by_reference.say(1.0, "gate/reference");
     by_pass.say(5.0, "gate/bytes of full documents");
     by_nine.say(5.0, "gate/nine of full documents");
+    selected.say(4.2, "gate/bytes of selects of full documents");
     grown.say(2.2, "growth where the text doubles");
     chained.say(2.5, "query with 256 purposes over 64");
+}
+
+pub fn print(cases: &[Case], measured: &[Measured], turns: usize, in_a_row: usize) {
+    explain(turns, in_a_row);
+    from_text(cases, measured);
+    peers::print(cases, measured);
     println!("\nNoise: spread of the runs");
-    let all = |choose: fn(&Measured) -> Vec<&Samples>| measured.iter().flat_map(choose).collect::<Vec<_>>();
+    let all = |choose: fn(&Measured) -> Vec<&Samples>| {
+        measured.iter().flat_map(choose).filter(|times| times.len() > 0).collect::<Vec<_>>()
+    };
     noise("gate", &all(|times| times.calls.iter().map(|call| &call.gate).collect()));
     noise("reference", &all(|times| times.calls.iter().map(|call| &call.reference).collect()));
-    noise("SQLite", &all(|times| times.calls.iter().map(|call| &call.sqlite).collect()));
+    noise("loaded", &all(|times| times.calls.iter().map(|call| &call.loaded).collect()));
+    noise("SQLite", &all(|times| times.calls.iter().flat_map(|call| call.sqlite()).collect()));
     noise("bytes", &all(|times| vec![&times.pass]));
     noise("nine", &all(|times| vec![&times.pass_nine]));
 }

@@ -1,0 +1,350 @@
+//! The rows of a document and a query on them in SQL, modified for its purpose, for peers that hold the rows with their labels.
+
+/// A bracket text: a word or a list.
+enum Form {
+    Word(String),
+    List(Vec<Form>),
+}
+
+impl Form {
+    fn word(&self) -> &str {
+        match self {
+            Form::Word(word) => word,
+            Form::List(_) => panic!("a word is wanted"),
+        }
+    }
+
+    fn list(&self) -> &[Form] {
+        match self {
+            Form::List(forms) => forms,
+            Form::Word(_) => panic!("a list is wanted"),
+        }
+    }
+}
+
+/// One bracket text that the gate has accepted.
+fn read(text: &str) -> Form {
+    let mut open = vec![Vec::new()];
+    for word in text.replace('(', " ( ").replace(')', " ) ").split_whitespace() {
+        match word {
+            "(" => open.push(Vec::new()),
+            ")" => {
+                let done = open.pop().expect("brackets in pairs");
+                open.last_mut().expect("brackets in pairs").push(Form::List(done));
+            }
+            _ => open.last_mut().expect("brackets in pairs").push(Form::Word(word.to_string())),
+        }
+    }
+    open.remove(0).remove(0)
+}
+
+/// What stands in a field of a row.
+pub enum Value {
+    Name(String),
+    Number(i64),
+}
+
+impl Value {
+    fn of(word: &str) -> Value {
+        word.parse().map_or_else(|_| Value::Name(word.to_string()), Value::Number)
+    }
+}
+
+/// A set of purposes or of labels, a bit each. SQL's numbers are signed; the 64th bit is the sign.
+type Mask = i64;
+
+/// How a row has a label.
+#[derive(Clone, Copy, PartialEq, Eq)]
+pub enum Held {
+    /// As in the paper, by its two masks: the allowed one has an ancestor of the purpose, the denied one no relative of it.
+    Masks,
+    /// By its number; the query has the set of the labels that are open to its purpose. The gate does the same.
+    Number,
+}
+
+impl Held {
+    /// The fields of a label, with their types in SQL.
+    fn fields(self, of: &str) -> Vec<String> {
+        let fields: &[&str] = match self {
+            Held::Masks => &["allowed", "denied"],
+            Held::Number => &["label"],
+        };
+        fields.iter().map(|field| format!("{of}_{field} BIGINT")).collect()
+    }
+}
+
+struct Label {
+    name: String,
+    allowed: Mask,
+    denied: Mask,
+}
+
+struct Column {
+    name: String,
+    holds_numbers: bool,
+}
+
+/// A table with its rows, whose labels stand where a row line has them.
+pub struct Table {
+    pub name: String,
+    scheme: String,
+    held: Held,
+    columns: Vec<Column>,
+    pub rows: Vec<Vec<Value>>,
+}
+
+impl Table {
+    /// The fields, with their types in SQL.
+    fn fields(&self) -> Vec<String> {
+        let mut fields = Vec::new();
+        if self.scheme == "row" {
+            fields.extend(self.held.fields(ROW));
+        }
+        for column in &self.columns {
+            fields.push(format!("{} {}", column.name, if column.holds_numbers { "BIGINT" } else { "TEXT" }));
+            if self.scheme == "cell" {
+                fields.extend(self.held.fields(&column.name));
+            }
+        }
+        fields
+    }
+
+    pub fn create(&self) -> String {
+        format!("CREATE TABLE {} ({})", self.name, self.fields().join(", "))
+    }
+
+    /// How many fields a row has.
+    pub fn width(&self) -> usize {
+        self.fields().len()
+    }
+}
+
+/// What the label of a whole row is a label of. No column has this name.
+const ROW: &str = "whole_row";
+
+/// What the peers hold of a document. Labels of tables and columns are rows of a table of their own, a table's label without a column.
+pub struct Document {
+    parents: Vec<(String, Option<String>)>,
+    labels: Vec<Label>,
+    held: Held,
+    pub tables: Vec<Table>,
+}
+
+fn set(places: impl Iterator<Item = usize>) -> Mask {
+    places.map(|place| 1u64.checked_shl(place as u32).expect("64 at most")).fold(0, |set, bit| set | bit) as Mask
+}
+
+fn by_masks(of: &str, [above, related]: [Mask; 2]) -> String {
+    format!("({of}allowed & {above}) <> 0 AND ({of}denied & {related}) = 0")
+}
+
+/// The table of labels of tables and columns.
+const LABELS: &str = "labels";
+
+impl Document {
+    pub fn read(text: &[u8], held: Held) -> Document {
+        let labels = Table { name: LABELS.into(), scheme: "none".into(), held, columns: Vec::new(), rows: Vec::new() };
+        let mut document = Document { parents: Vec::new(), labels: Vec::new(), held, tables: vec![labels] };
+        for (name, holds_numbers) in [("of_table", false), ("of_column", false), ("allowed", true), ("denied", true)] {
+            document.tables[0].columns.push(Column { name: name.into(), holds_numbers });
+        }
+        for line in std::str::from_utf8(text).expect("an accepted text").lines() {
+            let form = read(line);
+            let [kind, name, rest @ ..] = form.list() else { panic!("a line has a name") };
+            match kind.word() {
+                "purpose" => document.parents.push((name.word().into(), rest.first().map(|parent| parent.word().into()))),
+                "label" => {
+                    let [allowed, denied] = [&rest[0], &rest[1]].map(|set| document.mask(set.list()[1..].iter().map(Form::word)));
+                    document.labels.push(Label { name: name.word().into(), allowed, denied });
+                }
+                "table" => document.add_table(name.word(), rest),
+                "row" => document.add_row(name.word(), rest),
+                _ => {}
+            }
+        }
+        document
+    }
+
+    fn mask<'a>(&self, purposes: impl Iterator<Item = &'a str>) -> Mask {
+        let place = |purpose: &str| self.parents.iter().position(|(name, _)| name == purpose).expect("a purpose of the document");
+        set(purposes.map(place))
+    }
+
+    fn label(&self, name: &str) -> usize {
+        self.labels.iter().position(|label| label.name == name).expect("a label of the document")
+    }
+
+    fn add_label(&mut self, table: &str, column: &str, label: &str) {
+        let Label { allowed, denied, .. } = self.labels[self.label(label)];
+        let names = [table, column].map(|name| Value::Name(name.into()));
+        self.tables[0].rows.push(names.into_iter().chain([allowed, denied].map(Value::Number)).collect());
+    }
+
+    fn add_table(&mut self, name: &str, rest: &[Form]) {
+        let scheme = rest[0].word();
+        let columns = if scheme == "table" { &rest[2..] } else { &rest[1..] };
+        if scheme == "table" {
+            self.add_label(name, "", rest[1].word());
+        }
+        for column in columns.iter().map(Form::list).filter(|_| scheme == "column") {
+            self.add_label(name, column[0].word(), column[2].word());
+        }
+        let columns = columns.iter().map(Form::list);
+        let columns = columns.map(|column| Column { name: column[0].word().into(), holds_numbers: column[1].word() == "num" });
+        self.tables.push(Table { name: name.into(), scheme: scheme.into(), held: self.held, columns: columns.collect(), rows: Vec::new() });
+    }
+
+    fn add_row(&mut self, name: &str, items: &[Form]) {
+        let place = self.tables.iter().position(|table| table.name == name).expect("a table of the document");
+        let labels = |label: &Form| {
+            let number = self.label(label.word());
+            let Label { allowed, denied, .. } = self.labels[number];
+            let fields = if self.held == Held::Masks { vec![allowed, denied] } else { vec![number as i64] };
+            fields.into_iter().map(Value::Number)
+        };
+        let mut row = Vec::new();
+        match self.tables[place].scheme.as_str() {
+            "row" => {
+                row.extend(labels(&items[0]));
+                row.extend(items[1..].iter().map(|item| Value::of(item.word())));
+            }
+            "cell" => {
+                for item in items.iter().map(Form::list) {
+                    row.push(Value::of(item[0].word()));
+                    row.extend(labels(&item[1]));
+                }
+            }
+            _ => row.extend(items.iter().map(|item| Value::of(item.word()))),
+        }
+        self.tables[place].rows.push(row);
+    }
+
+    fn ancestors<'a>(&'a self, purpose: &'a str) -> Vec<&'a str> {
+        let mut found = vec![purpose];
+        while let Some((_, Some(parent))) = self.parents.iter().find(|(name, _)| name == found[found.len() - 1]) {
+            found.push(parent);
+        }
+        found
+    }
+
+    /// The ancestors of a purpose, itself with them, and its relatives.
+    fn around(&self, purpose: &str) -> [Mask; 2] {
+        let above = self.ancestors(purpose);
+        let names = self.parents.iter().map(|(name, _)| name.as_str());
+        let related = names.filter(|name| above.contains(name) || self.ancestors(name).contains(&purpose));
+        [self.mask(above.iter().copied()), self.mask(related)]
+    }
+
+    /// Whether the label of a row or cell is open to the purpose.
+    fn opened(&self, purpose: &str, of: &str) -> String {
+        let [above, related] = self.around(purpose);
+        if self.held == Held::Masks {
+            return by_masks(&format!("{of}_"), [above, related]);
+        }
+        let open = |label: &Label| label.allowed & above != 0 && label.denied & related == 0;
+        let open = set(self.labels.iter().enumerate().filter(|(_, label)| open(label)).map(|(number, _)| number));
+        format!("({open} >> {of}_label) & 1 = 1")
+    }
+
+    /// The query modified for its purpose.
+    pub fn modify(&self, query: &str) -> Modified {
+        let form = read(query);
+        let [kind, _, _, purpose, name, rest @ ..] = form.list() else { panic!("a query has a table") };
+        let (purpose, name) = (purpose.word(), name.word());
+        let table = self.tables.iter().find(|table| table.name == name).expect("a table of the document");
+        let (selected, rest) = if kind.word() == "select" { (rest[0].list(), &rest[1..]) } else { (&[][..], rest) };
+        let selected: Vec<String> = selected.iter().map(|column| column.word().to_string()).collect();
+        let mut named = selected.clone();
+        let condition = rest.first().map(|form| condition(form, &mut named));
+        named.sort();
+        named.dedup();
+        let closed = |among: String| format!("SELECT count(*) FROM {LABELS} WHERE of_table = '{name}' AND {among} AND NOT ({})", by_masks("", self.around(purpose)));
+        let quoted: Vec<String> = named.iter().map(|column| format!("'{column}'")).collect();
+        let holds_numbers = |name: &String| table.columns.iter().any(|column| column.name == *name && column.holds_numbers);
+        Modified {
+            closed: match table.scheme.as_str() {
+                "table" => Some(closed("of_column = ''".into())),
+                "column" => Some(closed(format!("of_column IN ({})", quoted.join(", ")))),
+                _ => None,
+            },
+            opened: match table.scheme.as_str() {
+                "row" => Some(self.opened(purpose, ROW)),
+                "cell" => Some(named.iter().map(|column| self.opened(purpose, column)).collect::<Vec<_>>().join(" AND ")),
+                _ => None,
+            },
+            holds_numbers: selected.iter().map(holds_numbers).collect(),
+            table: name.into(),
+            selected,
+            condition,
+        }
+    }
+}
+
+/// A condition in SQL; the columns that it names are added to the others.
+fn condition(form: &Form, named: &mut Vec<String>) -> String {
+    let [word, rest @ ..] = form.list() else { panic!("a condition has a word") };
+    let operator = match word.word() {
+        "eq" => "=",
+        "ne" => "<>",
+        "lt" => "<",
+        "le" => "<=",
+        "gt" => ">",
+        "ge" => ">=",
+        "not" => return format!("(NOT {})", condition(&rest[0], named)),
+        joined => {
+            let parts: Vec<String> = rest.iter().map(|part| condition(part, named)).collect();
+            return format!("({})", parts.join(&format!(" {} ", joined.to_uppercase())));
+        }
+    };
+    let column = rest[0].word();
+    named.push(column.to_string());
+    match Value::of(rest[1].word()) {
+        Value::Name(name) => format!("({column} {operator} '{name}')"),
+        Value::Number(number) => format!("({column} {operator} {number})"),
+    }
+}
+
+/// A query that is modified for its purpose.
+pub struct Modified {
+    /// Counts what is closed of the table's label or of the named columns'; where it finds one there is no answer.
+    pub closed: Option<String>,
+    /// Whether a row is open, where rows or cells have labels.
+    pub opened: Option<String>,
+    pub condition: Option<String>,
+    pub table: String,
+    pub selected: Vec<String>,
+    /// Which of the selected columns hold numbers.
+    pub holds_numbers: Vec<bool>,
+}
+
+impl Modified {
+    fn over_rows(&self, what: &str, tests: &[&str]) -> String {
+        let tests = if tests.is_empty() { String::new() } else { format!(" WHERE {}", tests.join(" AND ")) };
+        format!("SELECT {what} FROM {}{tests}", self.table)
+    }
+
+    /// The rows, or for a count their number: the condition is tested first, then the labels, as the paper adds them (Fig. 5).
+    pub fn rows(&self) -> String {
+        self.tested(self.condition.iter().chain(&self.opened))
+    }
+
+    /// The same with the labels tested first, where rows or cells have them.
+    pub fn labels_first(&self) -> Option<String> {
+        self.opened.as_ref().map(|_| self.tested(self.opened.iter().chain(&self.condition)))
+    }
+
+    fn tested<'a>(&self, tests: impl Iterator<Item = &'a String>) -> String {
+        let what = if self.selected.is_empty() { "count(*)".into() } else { self.selected.join(", ") };
+        self.over_rows(&what, &tests.map(String::as_str).collect::<Vec<_>>())
+    }
+
+    /// How many rows are withheld; none where no row and no cell has a label.
+    pub fn withheld(&self) -> Option<String> {
+        self.opened.as_ref().map(|opened| self.over_rows("count(*)", &[&format!("NOT ({opened})")]))
+    }
+
+    /// How many rows there are.
+    pub fn all(&self) -> String {
+        self.over_rows("count(*)", &[])
+    }
+}
