@@ -2,6 +2,7 @@
 //!
 //!   bench                     measures and prints the tables
 //!   bench worst [WORD]        documents that are dear to check, with WORD in their names
+//!   bench postgres FOLDER     PostgreSQL, whose socket stands in the folder: bench/postgres starts it
 //!   bench once WHAT KEY       makes one call, for an instruction counter
 //!   bench keys                prints the keys
 //!   bench text KEY            prints the document; bench query KEY the select
@@ -15,6 +16,7 @@ mod loaded;
 mod modified;
 mod peers;
 mod plain;
+mod postgres;
 mod samples;
 #[cfg_attr(not(sqlite), path = "without_sqlite.rs")]
 mod sqlite;
@@ -320,6 +322,7 @@ fn main() -> std::io::Result<()> {
             worst::measure(word);
             Ok(())
         }
+        ["postgres", folder] => postgres::measure(&cases, folder.as_ref()),
         ["keys"] => {
             for case in &cases {
                 println!("{} {}", key(case), case.text.len());
@@ -333,7 +336,7 @@ fn main() -> std::io::Result<()> {
         ["text", wanted] => std::io::stdout().write_all(&named(wanted).text),
         ["query", wanted] => std::io::stdout().write_all(named(wanted).select.as_bytes()),
         _ => {
-            eprintln!("bench | bench worst [WORD] | bench once WHAT KEY | bench keys | bench text KEY | bench query KEY");
+            eprintln!("bench | bench worst [WORD] | bench postgres FOLDER | bench once WHAT KEY | bench keys | bench text KEY | bench query KEY");
             std::process::exit(2)
         }
     }

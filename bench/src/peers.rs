@@ -14,7 +14,7 @@ const REFUSAL: f64 = 0.05;
 const BARE: [&str; 3] = ["masks behind the condition", "masks first", "numbers behind the condition"];
 
 /// A time or a ratio, or a stroke where there is none.
-fn shown(number: f64, places: usize) -> String {
+pub fn shown(number: f64, places: usize) -> String {
     if number.is_nan() {
         "-".into()
     } else {
