@@ -52,7 +52,8 @@ fn row(case: &Case, word: &str, times: &Times) {
     for time in [bare, first, number, counted] {
         print!("{:>9}", shown(time, 1));
     }
-    for ratio in [text / bare, text / counted, loaded / bare, loaded / first, loaded / number, loaded / counted] {
+    print!("{:>11}{:>11}{:>12}", shown(text / bare, 2), shown(text / counted, 2), shown(loaded / bare, 2));
+    for ratio in [loaded / first, loaded / number, loaded / counted] {
         print!("{:>11}", shown(ratio, 2));
     }
     println!();
@@ -70,7 +71,7 @@ pub fn print(cases: &[Case], measured: &[Measured]) {
         return;
     }
     print!("{:7}{:>7}{:>6} {:10}{:>8}{:>8}{:>9}{:>9}{:>9}{:>9}", "scheme", "bytes", "rows", "call", "text", "loaded", "bare", "first", "number", "counted");
-    println!("{:>11}{:>11}{:>11}{:>11}{:>11}{:>11}", "text/bare", "text/count", "load/bare", "load/first", "load/numb", "load/count");
+    println!("{:>11}{:>11}{:>12}{:>11}{:>11}{:>11}", "text/bare", "t/counted", "loaded/bare", "l/first", "l/number", "l/counted");
     for (case, times) in cases.iter().zip(measured) {
         for (call, times) in CALLS.into_iter().zip(&times.calls) {
             row(case, if call == Call::Check { "load" } else { call.word() }, times);
