@@ -3,10 +3,11 @@
 // policy one such line with `document`, and stops. It stops too, and standard error says why, where something can't be read or
 // written: no query gets another's answer.
 use clock_line::read_clock;
-use gate::asking::ask;
 use gate::documents::Checked;
-use gate::documents::check;
+use gate::documents::load;
 use libc::STDIN_FILENO;
+use loaded::asks::ask_loaded;
+use loaded::cells::CELLS;
 use programs::input::Loaded;
 use programs::input::read_some;
 use programs::lines;
@@ -14,10 +15,19 @@ use programs::lines::refusal_line;
 use programs::output::within;
 use programs::output::write_out;
 use programs::policy;
-use programs::policy::load;
 use query::clock::Clock;
 use stages::answered::Answered;
 use text::refusals::Refusal;
+use workspace::layout::ATTRIBUTE_CELLS;
+use workspace::layout::COND_ROLE_CELLS;
+use workspace::layout::GRANT_CELLS;
+use workspace::layout::LABELS;
+use workspace::layout::PURPOSE_CELLS;
+use workspace::layout::ROLE_CELLS;
+use workspace::layout::ROW_CELLS;
+use workspace::layout::SET_WORDS;
+use workspace::layout::TABLE_CELLS;
+use workspace::layout::USER_CELLS;
 
 mod clock_line;
 
@@ -78,13 +88,43 @@ fn write_answered(a: Answered, out: &[u8], kept: usize, len: usize) -> bool {
 }
 
 // The end of a query's line: it is asked, and the session goes on if its answer could be written.
-fn end_query(policy: &[u8], query: &[u8], s: Session, out: &mut [u8]) -> Session {
+fn end_query(
+    policy: &[u8],
+    purposes: &[usize; PURPOSE_CELLS],
+    roles: &[usize; ROLE_CELLS],
+    attributes: &[usize; ATTRIBUTE_CELLS],
+    users: &[usize; USER_CELLS],
+    conds: &[usize; COND_ROLE_CELLS],
+    grants: &[usize; GRANT_CELLS],
+    sets: &[u64; SET_WORDS],
+    tables: &[usize; TABLE_CELLS],
+    rows: &[usize; ROW_CELLS],
+    cells: &[usize; CELLS],
+    query: &[u8],
+    s: Session,
+    out: &mut [u8],
+) -> Session {
     let clock = Clock {
         year: s.year,
         day: s.day,
         hour: s.hour,
     };
-    let a = ask(policy, query, clock, out);
+    let a = ask_loaded(
+        policy,
+        purposes,
+        roles,
+        attributes,
+        users,
+        conds,
+        grants,
+        sets,
+        tables,
+        rows,
+        cells,
+        clock,
+        query,
+        out,
+    );
     if !write_answered(a, out, query.len(), s.len) {
         return stopped(s);
     }
@@ -94,10 +134,40 @@ fn end_query(policy: &[u8], query: &[u8], s: Session, out: &mut [u8]) -> Session
 }
 
 // The end of a line: the clock is read, or the query is asked.
-fn end_line(policy: &[u8], line: &[u8], s: Session, out: &mut [u8]) -> Session {
+fn end_line(
+    policy: &[u8],
+    purposes: &[usize; PURPOSE_CELLS],
+    roles: &[usize; ROLE_CELLS],
+    attributes: &[usize; ATTRIBUTE_CELLS],
+    users: &[usize; USER_CELLS],
+    conds: &[usize; COND_ROLE_CELLS],
+    grants: &[usize; GRANT_CELLS],
+    sets: &[u64; SET_WORDS],
+    tables: &[usize; TABLE_CELLS],
+    rows: &[usize; ROW_CELLS],
+    cells: &[usize; CELLS],
+    line: &[u8],
+    s: Session,
+    out: &mut [u8],
+) -> Session {
     let kept = within(s.len, line);
     if !s.first {
-        return end_query(policy, &line[..kept], s, out);
+        return end_query(
+            policy,
+            purposes,
+            roles,
+            attributes,
+            users,
+            conds,
+            grants,
+            sets,
+            tables,
+            rows,
+            cells,
+            &line[..kept],
+            s,
+            out,
+        );
     }
     let c = read_clock(&line[..kept]);
     let mut next = s;
@@ -136,26 +206,104 @@ fn add_byte(line: &mut [u8], s: Session, b: u8) -> Session {
 }
 
 // One byte of the input.
-fn take_byte(policy: &[u8], line: &mut [u8], s: Session, b: u8, out: &mut [u8]) -> Session {
+fn take_byte(
+    policy: &[u8],
+    purposes: &[usize; PURPOSE_CELLS],
+    roles: &[usize; ROLE_CELLS],
+    attributes: &[usize; ATTRIBUTE_CELLS],
+    users: &[usize; USER_CELLS],
+    conds: &[usize; COND_ROLE_CELLS],
+    grants: &[usize; GRANT_CELLS],
+    sets: &[u64; SET_WORDS],
+    tables: &[usize; TABLE_CELLS],
+    rows: &[usize; ROW_CELLS],
+    cells: &[usize; CELLS],
+    line: &mut [u8],
+    s: Session,
+    b: u8,
+    out: &mut [u8],
+) -> Session {
     if b == b'\n' {
-        return end_line(policy, line, s, out);
+        return end_line(
+            policy,
+            purposes,
+            roles,
+            attributes,
+            users,
+            conds,
+            grants,
+            sets,
+            tables,
+            rows,
+            cells,
+            line,
+            s,
+            out,
+        );
     }
     add_byte(line, s, b)
 }
 
 // Bytes of the input, as long as the session goes on.
-fn take_bytes(policy: &[u8], line: &mut [u8], s: Session, bytes: &[u8], out: &mut [u8]) -> Session {
+fn take_bytes(
+    bytes: &[u8],
+    policy: &[u8],
+    purposes: &[usize; PURPOSE_CELLS],
+    roles: &[usize; ROLE_CELLS],
+    attributes: &[usize; ATTRIBUTE_CELLS],
+    users: &[usize; USER_CELLS],
+    conds: &[usize; COND_ROLE_CELLS],
+    grants: &[usize; GRANT_CELLS],
+    sets: &[u64; SET_WORDS],
+    tables: &[usize; TABLE_CELLS],
+    rows: &[usize; ROW_CELLS],
+    cells: &[usize; CELLS],
+    line: &mut [u8],
+    s: Session,
+    out: &mut [u8],
+) -> Session {
     let mut r = s;
     let mut i = 0;
     while i < bytes.len() && r.more {
-        r = take_byte(policy, line, r, bytes[i], out);
+        r = take_byte(
+            policy,
+            purposes,
+            roles,
+            attributes,
+            users,
+            conds,
+            grants,
+            sets,
+            tables,
+            rows,
+            cells,
+            line,
+            r,
+            bytes[i],
+            out,
+        );
         i += 1;
     }
     r
 }
 
 // Some bytes of standard input, or that it ended.
-fn read_more(policy: &[u8], line: &mut [u8], s: Session, out: &mut [u8]) -> Session {
+fn read_more(
+    policy: &[u8],
+    purposes: &[usize; PURPOSE_CELLS],
+    roles: &[usize; ROLE_CELLS],
+    attributes: &[usize; ATTRIBUTE_CELLS],
+    users: &[usize; USER_CELLS],
+    conds: &[usize; COND_ROLE_CELLS],
+    grants: &[usize; GRANT_CELLS],
+    sets: &[u64; SET_WORDS],
+    tables: &[usize; TABLE_CELLS],
+    rows: &[usize; ROW_CELLS],
+    cells: &[usize; CELLS],
+    line: &mut [u8],
+    s: Session,
+    out: &mut [u8],
+) -> Session {
     let mut bytes = io::buffer();
     let got = read_some(STDIN_FILENO, &mut bytes);
     if got < 0 {
@@ -168,12 +316,42 @@ fn read_more(policy: &[u8], line: &mut [u8], s: Session, out: &mut [u8]) -> Sess
         next.more = false;
         return next;
     }
-    take_bytes(policy, line, s, &bytes[..n], out)
+    take_bytes(
+        &bytes[..n],
+        policy,
+        purposes,
+        roles,
+        attributes,
+        users,
+        conds,
+        grants,
+        sets,
+        tables,
+        rows,
+        cells,
+        line,
+        s,
+        out,
+    )
 }
 
 // All of standard input. A proved loop has to end, and nothing says that an input does: so the turns are counted down, from a
 // number that no run uses up.
-fn read_all(policy: &[u8], line: &mut [u8], out: &mut [u8]) -> Session {
+fn read_all(
+    policy: &[u8],
+    purposes: &[usize; PURPOSE_CELLS],
+    roles: &[usize; ROLE_CELLS],
+    attributes: &[usize; ATTRIBUTE_CELLS],
+    users: &[usize; USER_CELLS],
+    conds: &[usize; COND_ROLE_CELLS],
+    grants: &[usize; GRANT_CELLS],
+    sets: &[u64; SET_WORDS],
+    tables: &[usize; TABLE_CELLS],
+    rows: &[usize; ROW_CELLS],
+    cells: &[usize; CELLS],
+    line: &mut [u8],
+    out: &mut [u8],
+) -> Session {
     let mut s = Session {
         len: 0,
         first: true,
@@ -184,32 +362,152 @@ fn read_all(policy: &[u8], line: &mut [u8], out: &mut [u8]) -> Session {
     };
     let mut turns = u64::MAX;
     while turns > 0 && s.more {
-        s = read_more(policy, line, s, out);
+        s = read_more(
+            policy,
+            purposes,
+            roles,
+            attributes,
+            users,
+            conds,
+            grants,
+            sets,
+            tables,
+            rows,
+            cells,
+            line,
+            s,
+            out,
+        );
         turns -= 1;
     }
     s
 }
 
 // The last line may lack its line feed.
-fn answer_input(policy: &[u8], line: &mut [u8], out: &mut [u8]) {
-    let s = read_all(policy, line, out);
+fn answer_input(
+    policy: &[u8],
+    purposes: &[usize; PURPOSE_CELLS],
+    roles: &[usize; ROLE_CELLS],
+    attributes: &[usize; ATTRIBUTE_CELLS],
+    users: &[usize; USER_CELLS],
+    conds: &[usize; COND_ROLE_CELLS],
+    grants: &[usize; GRANT_CELLS],
+    sets: &[u64; SET_WORDS],
+    tables: &[usize; TABLE_CELLS],
+    rows: &[usize; ROW_CELLS],
+    cells: &[usize; CELLS],
+    line: &mut [u8],
+    out: &mut [u8],
+) {
+    let s = read_all(
+        policy,
+        purposes,
+        roles,
+        attributes,
+        users,
+        conds,
+        grants,
+        sets,
+        tables,
+        rows,
+        cells,
+        line,
+        out,
+    );
     if s.len > 0 {
-        end_line(policy, line, s, out);
+        end_line(
+            policy,
+            purposes,
+            roles,
+            attributes,
+            users,
+            conds,
+            grants,
+            sets,
+            tables,
+            rows,
+            cells,
+            line,
+            s,
+            out,
+        );
     }
 }
 
-fn ask_policy(policy: &[u8]) {
+fn ask_policy(
+    policy: &[u8],
+    purposes: &[usize; PURPOSE_CELLS],
+    roles: &[usize; ROLE_CELLS],
+    attributes: &[usize; ATTRIBUTE_CELLS],
+    users: &[usize; USER_CELLS],
+    conds: &[usize; COND_ROLE_CELLS],
+    grants: &[usize; GRANT_CELLS],
+    sets: &[u64; SET_WORDS],
+    tables: &[usize; TABLE_CELLS],
+    rows: &[usize; ROW_CELLS],
+    cells: &[usize; CELLS],
+) {
     let mut line = [0u8; LINE_BYTES];
     let mut out = [0u8; 60021];
-    answer_input(policy, &mut line, &mut out);
+    answer_input(
+        policy,
+        purposes,
+        roles,
+        attributes,
+        users,
+        conds,
+        grants,
+        sets,
+        tables,
+        rows,
+        cells,
+        &mut line,
+        &mut out,
+    );
 }
 
-// A policy that is refused answers nothing.
+// The policy is loaded once, and asked with each query. One that is refused answers nothing.
 fn ask_checked(policy: &[u8]) {
-    let c = check(policy);
+    let mut purposes = [0usize; PURPOSE_CELLS];
+    let mut roles = [0usize; ROLE_CELLS];
+    let mut attributes = [0usize; ATTRIBUTE_CELLS];
+    let mut users = [0usize; USER_CELLS];
+    let mut conds = [0usize; COND_ROLE_CELLS];
+    let mut grants = [0usize; GRANT_CELLS];
+    let mut labels = [0usize; LABELS];
+    let mut sets = [0u64; SET_WORDS];
+    let mut tables = [0usize; TABLE_CELLS];
+    let mut rows = [0usize; ROW_CELLS];
+    let mut cells = [0usize; CELLS];
+    let c = load(
+        policy,
+        &mut purposes,
+        &mut roles,
+        &mut attributes,
+        &mut users,
+        &mut conds,
+        &mut grants,
+        &mut labels,
+        &mut sets,
+        &mut tables,
+        &mut rows,
+        &mut cells,
+    );
     match c {
         Checked::Accepted(_, _) => {
-            ask_policy(policy);
+            ask_policy(
+                policy,
+                &purposes,
+                &roles,
+                &attributes,
+                &users,
+                &conds,
+                &grants,
+                &sets,
+                &tables,
+                &rows,
+                &cells,
+            );
         }
         Checked::Refused(r) => {
             write_refused(r);
@@ -219,7 +517,7 @@ fn ask_checked(policy: &[u8]) {
 
 fn main() {
     let mut text = [0u8; policy::ROOM];
-    let l = load(&mut text);
+    let l = policy::load(&mut text);
     let Loaded::Text(n) = l else {
         return;
     };

@@ -8,10 +8,10 @@ use Rattle.asking.proofs.read_all.Statement.{statement}
 use Rattle.asking.proofs.read_all.Tie as tie
 
 abbrev Inv-loop : tie.InvT-loop
-Inv-loop policy line₀ out₀ s₀ turns₀ line out s turns = (length line ≡ length line₀) × (length out ≡ length out₀)
+Inv-loop policy purposes roles attributes users conds grants sets tables rows cells line₀ out₀ s₀ turns₀ line out s turns = (length line ≡ length line₀) × (length out ≡ length out₀)
 
 abbrev μ-loop : tie.MeasureT-loop
-μ-loop policy line₀ out₀ s₀ turns₀ line out s turns = turns
+μ-loop policy purposes roles attributes users conds grants sets tables rows cells line₀ out₀ s₀ turns₀ line out s turns = turns
 
 loop-holds : tie.Need-loop-holds Inv-loop μ-loop
 loop-holds c = (refl, refl)

@@ -8,10 +8,10 @@ use Rattle.asking.proofs.take_bytes.Statement.{statement}
 use Rattle.asking.proofs.take_bytes.Tie as tie
 
 abbrev Inv-loop : tie.InvT-loop
-Inv-loop policy line₀ bytes out₀ r₀ i₀ line out r i = (length line ≡ length line₀) × (length out ≡ length out₀)
+Inv-loop bytes policy purposes roles attributes users conds grants sets tables rows cells line₀ out₀ r₀ i₀ line out r i = (length line ≡ length line₀) × (length out ≡ length out₀)
 
 abbrev μ-loop : tie.MeasureT-loop
-μ-loop policy line₀ bytes out₀ r₀ i₀ line out r i = length bytes - i
+μ-loop bytes policy purposes roles attributes users conds grants sets tables rows cells line₀ out₀ r₀ i₀ line out r i = length bytes - i
 
 loop-holds : tie.Need-loop-holds Inv-loop μ-loop
 loop-holds c = (refl, refl)
@@ -23,7 +23,7 @@ take-byte-requires : tie.Need-take-byte-requires Inv-loop μ-loop
 take-byte-requires c κs = search needs
 
 add-i : tie.Need-add-i Inv-loop μ-loop
-add-i c = search needs
+add-i c = omega (arith, c .before .before .before .before .before .before .before .before .before .before .before .before .before .before .before .good .0 .0)
 
 loop-less : tie.Need-loop-less Inv-loop μ-loop
 loop-less c = omega arith
