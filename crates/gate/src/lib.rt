@@ -2,9 +2,7 @@
 // the C exports. A document that was loaded is asked and measured by crate loaded.
 pub mod arrays;
 pub mod asking;
-pub mod below;
 pub mod documents;
 pub mod exports;
 pub mod measuring;
 pub mod parts;
-pub mod two;

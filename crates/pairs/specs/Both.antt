@@ -6,7 +6,7 @@ use Rattle.answer.specs.Alike.{Alike}
 use Rattle.loaded.specs.Outside.{Asks}
 use Rattle.stages.specs.Figures.{answeredAs}
 use Rattle.query.specs.Authority.{Clock}
-use Rattle.gate.specs.declared.two.Pair.{Pair}
+use Rattle.pairs.specs.declared.two.Pair.{Pair}
 
 -- the two answers stand for the same, and the two buffers hold the same bytes afterwards
 pub record SameAnswers (r : Pair) (out′ other′ : List ℕ) : Type 0 where

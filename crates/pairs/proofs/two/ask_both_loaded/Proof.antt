@@ -1,8 +1,8 @@
--- `gate::two::ask_both_loaded` meets its contract: the contract of ask_loaded twice, and the theorem of no difference. Assumes nothing.
+-- `pairs::two::ask_both_loaded` meets its contract: the contract of ask_loaded twice, and the theorem of no difference. Assumes nothing.
 use borrow.Author.Needs.{needs}
-use Rattle.gate.proofs.PartLaws.{asks-both}
-use Rattle.gate.proofs.two.ask_both_loaded.Statement.{statement}
-use Rattle.gate.proofs.two.ask_both_loaded.Tie as tie
+use Rattle.pairs.proofs.BothLaws.{asks-both}
+use Rattle.pairs.proofs.two.ask_both_loaded.Statement.{statement}
+use Rattle.pairs.proofs.two.ask_both_loaded.Tie as tie
 
 ask-loaded-requires : tie.Need-ask-loaded-requires
 ask-loaded-requires c κs = search needs

@@ -6,14 +6,14 @@ use mathlib.Core.Path.{_∙_, _≡_, ap, sym}
 use Rattle.answer.proofs.RowsFurtherDown.{rows-further-down}
 use Rattle.answer.specs.Ask.{Answered, after, ask}
 use Rattle.answer.specs.Further.{SelectsBelow}
 use Rattle.gate.proofs.ExportLaws.{figures-accepted}
-use Rattle.gate.specs.Below.{AsksBelow, GivesBelow, IsGiven}
+use Rattle.pairs.specs.Below.{AsksBelow, GivesBelow, IsGiven}
 use Rattle.loaded.specs.Outside.{Asks}
 use Rattle.stages.specs.Figures.{Figures, answeredAs, inFigures}
 use Rattle.query.specs.Authority.{Clock}
 use Rattle.text.specs.Refusal.{accepted}
 use Rattle.stages.specs.declared.answered.Answered as code
-use Rattle.gate.specs.declared.two.Pair.{Pair}
+use Rattle.pairs.specs.declared.two.Pair.{Pair}
 
 -- an asking that is accepted gives its answer
 is-given : {doc text : List ℕ} {c : Clock} {before after′ : List ℕ} {r : code.Answered} → Asks doc text c before after′ r → (a : Answered) → ask doc text c (length before) ≡ accepted a → IsGiven a before after′ r

@@ -1,8 +1,8 @@
 // One select asked for two purposes.
-use crate::asking::ask;
 use crate::two::Pair;
+use gate::asking::ask;
 use query::clock::Clock;
-ghost use Rattle.gate.specs.Below.{AsksBelow};
+ghost use Rattle.pairs.specs.Below.{AsksBelow};
 ghost use Rattle.query.specs.HostClock.{clockOf};
 
 // Asks a document with a select, and with the same select for a purpose below, at one time, each into its own lent buffer.

@@ -1,5 +1,5 @@
 // Two documents asked alike.
-use crate::asking::ask;
+use gate::asking::ask;
 use loaded::asks::ask_loaded;
 use loaded::cells::CELLS;
 use query::clock::Clock;
@@ -13,7 +13,7 @@ use workspace::layout::ROW_CELLS;
 use workspace::layout::SET_WORDS;
 use workspace::layout::TABLE_CELLS;
 use workspace::layout::USER_CELLS;
-ghost use Rattle.gate.specs.Both.{AskedAlike, AsksBoth};
+ghost use Rattle.pairs.specs.Both.{AskedAlike, AsksBoth};
 ghost use Rattle.loaded.specs.Promises.{AskLoadedPromise};
 ghost use Rattle.query.specs.HostClock.{clockOf};
 

@@ -1,8 +1,8 @@
--- `gate::two::ask_both` meets its contract: the contract of ask twice, and the theorem of no difference. Assumes nothing.
+-- `pairs::two::ask_both` meets its contract: the contract of ask twice, and the theorem of no difference. Assumes nothing.
 use borrow.Author.Needs.{needs}
-use Rattle.gate.proofs.PartLaws.{asks-both}
-use Rattle.gate.proofs.two.ask_both.Statement.{statement}
-use Rattle.gate.proofs.two.ask_both.Tie as tie
+use Rattle.pairs.proofs.BothLaws.{asks-both}
+use Rattle.pairs.proofs.two.ask_both.Statement.{statement}
+use Rattle.pairs.proofs.two.ask_both.Tie as tie
 
 ask-requires : tie.Need-ask-requires
 ask-requires c κs = search needs

@@ -10,7 +10,7 @@ use Rattle.stages.specs.Figures.{Figures, answeredAs, inFigures}
 use Rattle.query.specs.Authority.{Clock}
 use Rattle.text.specs.Refusal.{accepted}
 use Rattle.stages.specs.declared.answered.Answered as code
-use Rattle.gate.specs.declared.two.Pair.{Pair}
+use Rattle.pairs.specs.declared.two.Pair.{Pair}
 
 -- the code's answer r is this answer, and it stands in the buffer
 pub record IsGiven (a : Answered) (before after′ : List ℕ) (r : code.Answered) : Type 0 where

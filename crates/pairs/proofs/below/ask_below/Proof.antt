@@ -1,8 +1,8 @@
--- `gate::below::ask_below` meets its contract: the contract of ask twice, and the theorem of rows given further down. Assumes nothing.
+-- `pairs::below::ask_below` meets its contract: the contract of ask twice, and the theorem of rows given further down. Assumes nothing.
 use borrow.Author.Needs.{needs}
-use Rattle.gate.proofs.BelowLaws.{asks-below}
-use Rattle.gate.proofs.below.ask_below.Statement.{statement}
-use Rattle.gate.proofs.below.ask_below.Tie as tie
+use Rattle.pairs.proofs.BelowLaws.{asks-below}
+use Rattle.pairs.proofs.below.ask_below.Statement.{statement}
+use Rattle.pairs.proofs.below.ask_below.Tie as tie
 
 ask-requires : tie.Need-ask-requires
 ask-requires c κs = search needs

@@ -1,0 +1,3 @@
+-- What asking twice gives. Assumes nothing.
+pub mod Both
+pub mod Below
