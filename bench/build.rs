@@ -13,37 +13,31 @@ fn links_sqlite(out: &Path) -> bool {
     std::env::var("BENCH_SQLITE").map_or(true, |word| word != "no") && linked.is_ok_and(|status| status.success())
 }
 
-/// Makes libloaded.a of loaded.c if gate.h has calls on a loaded document.
-fn makes_loaded(here: &Path, out: &Path) -> bool {
+/// Makes libloaded.a of loaded.c.
+fn make_loaded(here: &Path, out: &Path) {
     let include = here.join("../include");
     println!("cargo:rerun-if-changed={}", include.join("gate.h").display());
     println!("cargo:rerun-if-changed=loaded.c");
-    if !std::fs::read_to_string(include.join("gate.h")).is_ok_and(|text| text.contains(" gate_load(")) {
-        return false;
-    }
     let object = out.join("loaded.o");
     let run = |command: &mut Command| assert!(command.status().is_ok_and(|status| status.success()), "loaded.c is made a library");
     run(Command::new("cc").args(["-O2", "-c"]).arg(here.join("loaded.c")).arg("-I").arg(&include).arg("-o").arg(&object));
     run(Command::new("ar").arg("rcs").arg(out.join("libloaded.a")).arg(&object));
-    true
 }
 
 fn main() {
     println!("cargo:rerun-if-env-changed=GATE_LIB");
     println!("cargo:rerun-if-env-changed=BENCH_SQLITE");
     println!("cargo:rerun-if-changed=build.rs");
-    println!("cargo:rustc-check-cfg=cfg(sqlite, loaded)");
+    println!("cargo:rustc-check-cfg=cfg(sqlite)");
     let here = PathBuf::from(std::env::var("CARGO_MANIFEST_DIR").unwrap());
     let out = PathBuf::from(std::env::var("OUT_DIR").unwrap());
     let folder = match std::env::var("GATE_LIB") {
         Ok(folder) => here.join(Path::new(&folder)),
         Err(_) => here.join("../target/staticlib"),
     };
-    if makes_loaded(&here, &out) {
-        println!("cargo:rustc-cfg=loaded");
-        println!("cargo:rustc-link-search=native={}", out.display());
-        println!("cargo:rustc-link-lib=static=loaded");
-    }
+    make_loaded(&here, &out);
+    println!("cargo:rustc-link-search=native={}", out.display());
+    println!("cargo:rustc-link-lib=static=loaded");
     println!("cargo:rerun-if-changed={}", folder.join("libgate.a").display());
     println!("cargo:rustc-link-search=native={}", folder.display());
     println!("cargo:rustc-link-lib=static=gate");

@@ -10,7 +10,6 @@
 mod bytes;
 mod documents;
 mod gate;
-#[cfg_attr(not(loaded), path = "without_loaded.rs")]
 mod loaded;
 #[cfg_attr(not(sqlite), allow(dead_code))]
 mod modified;
@@ -125,9 +124,9 @@ pub struct Measured {
     pub refused: Vec<Samples>,
 }
 
-/// What holds a document between the calls, as far as it is there.
+/// What holds a document between the calls; SQLite as far as it is there.
 struct Holders {
-    loaded: Option<Loaded>,
+    loaded: Loaded,
     sqlite: Option<Sqlite>,
 }
 
@@ -167,7 +166,7 @@ fn agree(case: &Case, call: Call) -> (Vec<u8>, [u64; 5]) {
 }
 
 /// That the loaded document gives the same answer, and the same length before.
-fn agree_loaded(case: &Case, call: Call, loaded: &mut Loaded, answer: &[u8], figures: [u64; 5]) {
+fn agree_loaded(case: &Case, call: Call, loaded: &Loaded, answer: &[u8], figures: [u64; 5]) {
     let mut out = vec![0; BUFFER];
     let query = call.query(case).as_bytes();
     assert_eq!(loaded.measure(&case.text, query), (0, [figures[0], 0, 0, 0, 0]), "{} {}: loaded, measured", key(case), call.word());
@@ -188,17 +187,13 @@ fn agree_sqlite(case: &Case, call: Call, sqlite: &Sqlite, answer: &[u8]) {
 /// Loads a document wherever it can be loaded, all answers being the same.
 fn hold(case: &Case) -> Holders {
     let mut holders = Holders { loaded: Loaded::new(), sqlite: Sqlite::open(case) };
-    if let Some(loaded) = &mut holders.loaded {
-        assert_eq!(loaded.load(&case.text).0, 0, "{} is loaded", key(case));
-    }
+    assert_eq!(holders.loaded.load(&case.text).0, 0, "{} is loaded", key(case));
     for call in CALLS {
         let (answer, figures) = agree(case, call);
         if call == Call::Check {
             continue;
         }
-        if let Some(loaded) = &mut holders.loaded {
-            agree_loaded(case, call, loaded, &answer, figures);
-        }
+        agree_loaded(case, call, &holders.loaded, &answer, figures);
         if let Some(sqlite) = &holders.sqlite {
             agree_sqlite(case, call, sqlite, &answer);
         }
@@ -206,9 +201,7 @@ fn hold(case: &Case) -> Holders {
     for (number, query) in &case.refused {
         let said = gate::ask(&case.text, query.as_bytes(), &mut []);
         assert_eq!(said.0, *number, "{}: {query}", key(case));
-        if let Some(loaded) = &mut holders.loaded {
-            assert_eq!(loaded.ask(&case.text, query.as_bytes(), &mut []), said, "{}: loaded, {query}", key(case));
-        }
+        assert_eq!(holders.loaded.ask(&case.text, query.as_bytes(), &mut []), said, "{}: loaded, {query}", key(case));
     }
     holders
 }
@@ -247,9 +240,7 @@ fn turn(case: &Case, measured: &mut Measured, holders: &mut Holders, out: &mut [
     }
     measured.pass.add(taken(|| bytes::byte_pass(black_box(&case.text))));
     measured.pass_nine.add(taken(|| bytes::byte_pass_nine(black_box(&case.text))));
-    if let Some(loaded) = &mut holders.loaded {
-        turn_loaded(case, measured, loaded, out);
-    }
+    turn_loaded(case, measured, &mut holders.loaded, out);
     if let Some(sqlite) = &holders.sqlite {
         turn_sqlite(measured, sqlite, out);
     }

@@ -28,9 +28,6 @@ fn explain() {
         Some(version) => println!("SQLite {version}, by its C interface. Its answers were the same, byte by byte."),
         None => println!("SQLite is left out: no libsqlite3 to link (libsqlite3-dev)."),
     }
-    if cfg!(not(loaded)) {
-        println!("The gate on a loaded document is left out: not there yet.");
-    }
     println!("text: the gate from the text. loaded: the gate on the loaded document.");
     println!("bare: SQLite's modified query, labels as masks and tested behind the condition, every value looked at and none written.");
     println!("first: the same with the labels tested first. number: labels as numbers, and the query with the set of those that are open.");
@@ -62,14 +59,11 @@ fn row(case: &Case, word: &str, times: &Times) {
 /// The dearest refusal of a loaded document: its number and its time.
 fn dearest(case: &Case, times: &Measured) -> Option<(u64, f64)> {
     let times = case.refused.iter().zip(&times.refused).map(|((number, _), times)| (*number, times.time()));
-    times.filter(|(_, time)| !time.is_nan()).max_by(|a, b| a.1.total_cmp(&b.1))
+    times.max_by(|a, b| a.1.total_cmp(&b.1))
 }
 
 pub fn print(cases: &[Case], measured: &[Measured]) {
     explain();
-    if cfg!(not(any(loaded, sqlite))) {
-        return;
-    }
     print!("{:7}{:>7}{:>6} {:10}{:>8}{:>8}{:>9}{:>9}{:>9}{:>9}", "scheme", "bytes", "rows", "call", "text", "loaded", "bare", "first", "number", "counted");
     println!("{:>11}{:>11}{:>12}{:>11}{:>11}{:>11}", "text/bare", "t/counted", "loaded/bare", "l/first", "l/number", "l/counted");
     for (case, times) in cases.iter().zip(measured) {
@@ -82,9 +76,7 @@ pub fn print(cases: &[Case], measured: &[Measured]) {
             println!("{:7}{:>7}{:>6} {word:10}{:>8}{time:>8.2}   {of_select:.3} of the select", case.scheme, case.text.len(), case.rows(), "");
         }
     }
-    if cfg!(loaded) {
-        goals(cases, measured);
-    }
+    goals(cases, measured);
 }
 
 fn goals(cases: &[Case], measured: &[Measured]) {

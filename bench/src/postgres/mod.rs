@@ -134,18 +134,14 @@ struct Times {
 fn measure_case(case: &Case, postgres: &mut Postgres, seconds: u64) {
     agree(case, postgres);
     let mut loaded = Loaded::new();
-    if let Some(loaded) = &mut loaded {
-        assert_eq!(loaded.load(&case.text).0, 0, "{} is loaded", key(case));
-    }
+    assert_eq!(loaded.load(&case.text).0, 0, "{} is loaded", key(case));
     let mut out = vec![0; BUFFER];
     let (mut measured, mut nothing) = ([Times::default(), Times::default()], Samples::default());
     let start = Instant::now();
     while start.elapsed() < Duration::from_secs(seconds) {
         for (call, times) in [Call::Select, Call::Count].into_iter().zip(&mut measured) {
             times.text.add(taken(|| call.gate(black_box(case), &mut out)));
-            if let Some(loaded) = &mut loaded {
-                times.loaded.add(taken(|| loaded.ask(black_box(&case.text), call.query(case).as_bytes(), &mut out)));
-            }
+            times.loaded.add(taken(|| loaded.ask(black_box(&case.text), call.query(case).as_bytes(), &mut out)));
             times.server.add(taken(|| postgres.bare(call)));
         }
         nothing.add(taken(|| postgres.asker.ask(&postgres.nothing, |_| {})));
@@ -168,9 +164,6 @@ pub fn measure(cases: &[Case], folder: &Path) -> Result<()> {
     println!("Microseconds a call, 10th percentile, turns alternating. PostgreSQL over a socket, without an index, statements prepared, values in binary.");
     println!("Every value is looked at and none written. Labels of rows: row-level security. Labels of cells: the modified query.");
     println!("nothing: SELECT 1, the way there and back. l/without: loaded over PostgreSQL without that. The rows were the same, byte by byte.");
-    if cfg!(not(loaded)) {
-        println!("The gate on a loaded document is left out: not there yet.");
-    }
     print!("\n{:7}{:>7}{:>6} {:8}", "scheme", "bytes", "rows", "call");
     println!("{:>12}{:>12}{:>12}{:>12}{:>12}{:>12}{:>12}", "text", "loaded", "PostgreSQL", "nothing", "text/Post", "loaded/Post", "l/without");
     for case in cases.iter().filter(|case| case.size == "60" && SCHEMES.contains(&case.scheme)) {
