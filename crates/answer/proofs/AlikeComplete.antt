@@ -21,10 +21,10 @@ use Rattle.document.specs.NameFaults.{rowLabels, unknown}
 use Rattle.document.specs.Policy.{Doc, Policy, Row, emptyDoc}
 use Rattle.document.specs.ValueFaults.{misfit, rowValues}
 use Rattle.form.proofs.RowBack.{itemsOf, row-back, row-read}
-use Rattle.form.proofs.RowWritten.{row-written}
+use Rattle.form.proofs.RowWritten.{row-written, rowText-keyword}
 use Rattle.form.specs.Form.{Item, Scheme, row}
 use Rattle.form.specs.FormReader.{formOf}
-use Rattle.form.specs.RowText.{labelCount, rowText}
+use Rattle.form.specs.RowText.{keywordIn, labelCount, rowText}
 use Rattle.lists.proofs.ListLaws.{map-map}
 use Rattle.lists.specs.Lists.{orZero}
 use Rattle.query.specs.QueryForm.{QueryForm, queryOf}
@@ -44,14 +44,16 @@ scheme-plain d t = refl
 
 abbrev pub asRowLine : (d : Policy) (l : List ℕ) (t : Word) (is : List Item) → ReadParts d l t is → RowLine d l
 asRowLine d l t is w = record {
+  keyword = keywordIn l;
   table = t .bytes;
   labels = bytesOf (rowLabels (schemeOf d t) is);
   values = rowMeant d t is .values;
+  isRow = w .isRow;
   isTable = w .isTable;
   areLabels = w .areLabels;
   areValues = w .areValues;
   enoughLabels = w .enoughLabels ∙ ap (λ (s : Scheme ℕ). labelCount s (length (rowMeant d t is .values))) (scheme-plain d t);
-  written = w .written ∙ ap (λ (s : Scheme ℕ). rowText s (t .bytes) (bytesOf (rowLabels (schemeOf d t) is)) (rowMeant d t is .values)) (scheme-plain d t);
+  written = w .written ∙ ap (λ (s : Scheme ℕ). rowText s (keywordIn l) (t .bytes) (bytesOf (rowLabels (schemeOf d t) is)) (rowMeant d t is .values)) (scheme-plain d t);
 }
 
 -- an accepted line that is a row, under the policy D of the whole document
@@ -86,15 +88,23 @@ pub rows-written : (a : List ℕ) (x : Accepted) → check a ≡ accepted x → 
     → (t : Word) (is : List Item) → formOf l ≡ some (row t is) → RowLine (x .doc .policy) l
 rows-written a x h i l e t is f = asRowLine (x .doc .policy) l t is (read-parts a x h i l e t is f)
 
--- A line is written out from its parts in one way only.
+-- the keyword of a row line is the line's own
+pub row-keyword : {d : Policy} {l : List ℕ} (r : RowLine d l) → r .keyword ≡ keywordIn l
+row-keyword {d} {l} r = sym (rowText-keyword (schemeOf d (plainWord (r .table))) (r .keyword) (r .table) (r .labels) (r .values) (r .isRow)) ∙ ap keywordIn (sym (r .written))
+
+-- A line is written out from its keyword in one way only,
+pub keyword-once : (d : Policy) (l : List ℕ) (r s : RowLine d l) → r .keyword ≡ s .keyword
+keyword-once d l r s = row-keyword r ∙ sym (row-keyword s)
+
+-- and so it is from its other parts.
 pub parts-once : (d : Policy) (l : List ℕ) (r s : RowLine d l) → (r .table ≡ s .table) × (r .labels ≡ s .labels) × (r .values ≡ s .values)
 unfolding plainWord
 parts-once d l r s =
     let u : Scheme ℕ = schemeOf d (plainWord (r .table)) in
     let v : Scheme ℕ = schemeOf d (plainWord (s .table)) in
-    let f = row-read u (r .table) (r .labels) (r .values) (r .isTable) (r .areLabels) (r .areValues) in
-    let p = row-back u (r .table) (r .labels) (r .values) (r .isTable) (r .areLabels) (r .areValues) (f .0) (f .1) in
-    let q = row-back v (s .table) (s .labels) (s .values) (s .isTable) (s .areLabels) (s .areValues) (f .0) (ap formOf (sym (s .written) ∙ r .written) ∙ f .1) in
+    let f = row-read u (r .keyword) (r .table) (r .labels) (r .values) (r .isRow) (r .isTable) (r .areLabels) (r .areValues) in
+    let p = row-back u (r .keyword) (r .table) (r .labels) (r .values) (r .isRow) (r .isTable) (r .areLabels) (r .areValues) (f .0) (f .1) in
+    let q = row-back v (s .keyword) (s .table) (s .labels) (s .values) (s .isRow) (s .isTable) (s .areLabels) (s .areValues) (f .0) (ap formOf (sym (s .written) ∙ r .written) ∙ f .1) in
     let e : _≡_ {A = Word × List Item} (plainWord (r .table), itemsOf u (r .labels) (r .values)) (plainWord (s .table), itemsOf v (s .labels) (s .values)) = Option·some-injective _ _ (sym p ∙ q) in
     let scheme : u ≡ v = ap (λ (x : Word × List Item). schemeOf d (x .0)) e in
     let ls : map plainWord (r .labels) ≡ map plainWord (s .labels) =
@@ -116,7 +126,7 @@ row-keeps : {D : Policy} {l : List ℕ} → RowLine D l → (d e : Doc) → chec
 unfolding add
 row-keeps {D} {l} r d e h =
     let x = line-accepted d l e h in
-    let p = row-back (schemeOf D (plainWord (r .table))) (r .table) (r .labels) (r .values) (r .isTable) (r .areLabels) (r .areValues) (x .form) (ap formOf (sym (r .written)) ∙ x .is) in
+    let p = row-back (schemeOf D (plainWord (r .table))) (r .keyword) (r .table) (r .labels) (r .values) (r .isRow) (r .isTable) (r .areLabels) (r .areValues) (x .form) (ap formOf (sym (r .written)) ∙ x .is) in
     ap (λ (y : Doc). y .policy) (x .added) ∙ row-adds (d .policy) (x .form) _ _ p .0
 
 module _ {D E : Policy} {q : Option QueryForm} where
@@ -143,17 +153,19 @@ module _ {D E : Policy} {q : Option QueryForm} where
   -- so row lines whose parts are alike are alike
   parts-rows : D ≡ E → {l m : List ℕ} → PartsAlike D E q l m → AlikeRows D q l m
   parts-rows p w = record {
+    keyword = w .first .keyword;
     table = w .first .table;
     labels = w .first .labels;
     values = w .first .values;
     values′ = w .second .values;
+    isRow = w .first .isRow;
     isTable = w .first .isTable;
     areLabels = w .first .areLabels;
     areValues = w .first .areValues;
     areValues′ = w .second .areValues;
     enoughLabels = w .first .enoughLabels;
     written = w .first .written;
-    written′ = w .second .written ∙ sym (λ i. rowText (schemeOf (p i) (plainWord (w .sameTable i))) (w .sameTable i) (w .sameLabels i) (w .second .values));
+    written′ = w .second .written ∙ sym (λ i. rowText (schemeOf (p i) (plainWord (w .sameTable i))) (w .sameKeyword i) (w .sameTable i) (w .sameLabels i) (w .second .values));
     alike = w .alike;
   }
 
@@ -187,6 +199,7 @@ read-rows : (d e : Policy) (q : Option QueryForm) (l m : List ℕ) (w : ReadAlik
 read-rows d e q l m w r s = record {
   first = asRowLine d l (w .table) (w .items) r;
   second = asRowLine e m (w .table′) (w .items′) s;
+  sameKeyword = w .sameKeyword;
   sameTable = w .sameTable;
   sameLabels = w .sameLabels;
   alike = subst (λ (x : Row). SameOrFree (free d q x) 0 (rowMeant d (w .table) (w .items) .values) (rowMeant e (w .table′) (w .items′) .values)) (meant-parts d (w .table) (w .items)) (w .alike);

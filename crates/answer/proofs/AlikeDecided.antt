@@ -16,8 +16,8 @@ use Rattle.document.specs.Policy.{Policy, Row}
 use Rattle.form.proofs.RowBack.{row-back, row-read, rowParts}
 use Rattle.form.specs.Form.{Form, Item, attr, condRole, grant, label, purpose, role, row, table, user}
 use Rattle.form.specs.FormReader.{formOf}
-use Rattle.form.specs.RowText.{labelCount}
-use Rattle.answer.proofs.AlikeComplete.{ReadParts, alike-as-read, asRowLine, meant-parts, parts-once, read-parts}
+use Rattle.form.specs.RowText.{keywordIn, labelCount}
+use Rattle.answer.proofs.AlikeComplete.{ReadParts, alike-as-read, asRowLine, meant-parts, parts-once, read-parts, row-keyword}
 use Rattle.answer.proofs.AlikeDocuments.{alike-twins, same-length}
 use Rattle.answer.specs.Alike.{Alike, AlikeLines, AlikeRows, RowLine, SameOrFree, alikeRows, differs, done, free, linesOf, noMore, rowOf, same, sameLine}
 use Rattle.answer.specs.AlikeRead.{ReadAlike, SameBut}
@@ -102,8 +102,8 @@ is-row l r e =
 row-line : {d : Policy} {l : List ℕ} → RowLine d l → (t : Word) × (is : List Item) × (formOf l ≡ some (row t is))
 row-line {d} {l} r =
     let s = schemeOf d (plainWord (r .table)) in
-    let f = row-read s (r .table) (r .labels) (r .values) (r .isTable) (r .areLabels) (r .areValues) in
-    go (f .0) (ap formOf (r .written) ∙ f .1) (row-back s (r .table) (r .labels) (r .values) (r .isTable) (r .areLabels) (r .areValues) (f .0) (f .1)) (row-or-none (f .0))
+    let f = row-read s (r .keyword) (r .table) (r .labels) (r .values) (r .isRow) (r .isTable) (r .areLabels) (r .areValues) in
+    go (f .0) (ap formOf (r .written) ∙ f .1) (row-back s (r .keyword) (r .table) (r .labels) (r .values) (r .isRow) (r .isTable) (r .areLabels) (r .areValues) (f .0) (f .1)) (row-or-none (f .0))
   where
     go : (f : Form) {x : Word × List Item} → formOf l ≡ some f → rowParts f ≡ some x
         → ((t : Word) × (is : List Item) × (f ≡ row t is)) ⊎ ((rowInForm f ≡ none) × (rowParts f ≡ none)) → (t : Word) × (is : List Item) × (formOf l ≡ some (row t is))
@@ -113,9 +113,11 @@ row-line {d} {l} r =
 module _ {d : Policy} {q : Option QueryForm} {l m : List ℕ} (a : AlikeRows d q l m) where
   abbrev first-line : RowLine d l
   first-line = record {
+    keyword = a .keyword;
     table = a .table;
     labels = a .labels;
     values = a .values;
+    isRow = a .isRow;
     isTable = a .isTable;
     areLabels = a .areLabels;
     areValues = a .areValues;
@@ -125,9 +127,11 @@ module _ {d : Policy} {q : Option QueryForm} {l m : List ℕ} (a : AlikeRows d q
 
   abbrev second-line : RowLine d m
   second-line = record {
+    keyword = a .keyword;
     table = a .table;
     labels = a .labels;
     values = a .values′;
+    isRow = a .isRow;
     isTable = a .isTable;
     areLabels = a .areLabels;
     areValues = a .areValues′;
@@ -138,11 +142,11 @@ module _ {d : Policy} {q : Option QueryForm} {l m : List ℕ} (a : AlikeRows d q
 -- ---- what the test says is so
 
 module _ (d e : Policy) (q : Option QueryForm) where
-  rows-read : (l m : List ℕ) (r s : Option (Word × List Item)) → bind (formOf l) rowInForm ≡ r → bind (formOf m) rowInForm ≡ s → bothRows d e q r s ≡ true → ReadAlike d e q l m
+  rows-read : (l m : List ℕ) (r s : Option (Word × List Item)) → bind (formOf l) rowInForm ≡ r → bind (formOf m) rowInForm ≡ s → keywordIn l ≡ keywordIn m → bothRows d e q r s ≡ true → ReadAlike d e q l m
   unfolding bothRows sameRow labelTexts
-  rows-read l m none s f g h = true-not-false h refl
-  rows-read l m (some r) none f g h = true-not-false h refl
-  rows-read l m (some (t, is)) (some (u, js)) f g h =
+  rows-read l m none s f g k h = true-not-false h refl
+  rows-read l m (some r) none f g k h = true-not-false h refl
+  rows-read l m (some (t, is)) (some (u, js)) f g k h =
       let h1 = and-left (sameBytes (t .bytes) (u .bytes) && sameTexts (labelTexts d t is) (labelTexts e u js)) _ h in
       record {
         table = t;
@@ -151,6 +155,7 @@ module _ (d e : Policy) (q : Option QueryForm) where
         items′ = js;
         reads = is-row l (t, is) f;
         reads′ = is-row m (u, js) g;
+        sameKeyword = k;
         sameTable = same-bytes _ _ (and-left (sameBytes (t .bytes) (u .bytes)) _ h1);
         sameLabels = same-texts _ _ (and-right (sameBytes (t .bytes) (u .bytes)) _ h1);
         alike = values-read _ 0 _ _ (and-right (sameBytes (t .bytes) (u .bytes) && sameTexts (labelTexts d t is) (labelTexts e u js)) _ h);
@@ -159,7 +164,9 @@ module _ (d e : Policy) (q : Option QueryForm) where
   line-read : (l m : List ℕ) (b : Bool) → sameBytes l m ≡ b → sameOrRows d e q b l m ≡ true → (l ≡ m) ⊎ ReadAlike d e q l m
   unfolding sameOrRows
   line-read l m true s h = inl (same-bytes l m s)
-  line-read l m false s h = inr (rows-read l m _ _ refl refl h)
+  line-read l m false s h =
+      let k = same-bytes _ _ (and-left (sameBytes (keywordIn l) (keywordIn m)) _ h) in
+      inr (rows-read l m _ _ refl refl k (and-right (sameBytes (keywordIn l) (keywordIn m)) _ h))
 
   lines-read : (ls ms : List (List ℕ)) → linesAlike d e q ls ms ≡ true → SameBut (ReadAlike d e q) ls ms
   unfolding linesAlike
@@ -212,8 +219,11 @@ module _ (d : Policy) (q : Option QueryForm) where
   line-tested {l} {m} a r s false =
       let x = row-line (first-line a) in
       let y = row-line (second-line a) in
-      go (x .0) (x .1) (x .2) (y .0) (y .1) (y .2)
+      and-both (sameBytes (keywordIn l) (keywordIn m)) _ one-keyword (go (x .0) (x .1) (x .2) (y .0) (y .1) (y .2))
     where
+      one-keyword : sameBytes (keywordIn l) (keywordIn m) ≡ true
+      one-keyword = ap (λ k. sameBytes k (keywordIn m)) (sym (row-keyword (first-line a))) ∙ ap (sameBytes (a .keyword)) (sym (row-keyword (second-line a))) ∙ bytes-same (a .keyword)
+
       go : (t : Word) (is : List Item) → formOf l ≡ some (row t is) → (u : Word) (js : List Item) → formOf m ≡ some (row u js) → bothRows d d q (bind (formOf l) rowInForm) (bind (formOf m) rowInForm) ≡ true
       go t is f u js g = unfold bothRows bind rowInForm in (λ i. bothRows d d q (bind (f i) rowInForm) (bind (g i) rowInForm)) ∙ rows-tested a t is (r t is f) u js (s u js g)
 

@@ -123,8 +123,8 @@ module _ {D : Policy} {q : Option QueryForm} where
       let y = line-accepted e m e′ g in
       subst₂ (Twins D q) (sym (x .added)) (sym (y .added))
       (add-rows d e tw k (a .table) (a .labels) (a .values) (a .values′) s refl (a .areLabels) (a .enoughLabels) (a .alike) (x .form) (y .form)
-      (row-back s (a .table) (a .labels) (a .values) (a .isTable) (a .areLabels) (a .areValues) (x .form) (ap formOf (sym (a .written)) ∙ x .is))
-      (row-back s (a .table) (a .labels) (a .values′) (a .isTable) (a .areLabels) (a .areValues′) (y .form) (ap formOf (sym (a .written′)) ∙ y .is))
+      (row-back s (a .keyword) (a .table) (a .labels) (a .values) (a .isRow) (a .isTable) (a .areLabels) (a .areValues) (x .form) (ap formOf (sym (a .written)) ∙ x .is))
+      (row-back s (a .keyword) (a .table) (a .labels) (a .values′) (a .isRow) (a .isTable) (a .areLabels) (a .areValues′) (y .form) (ap formOf (sym (a .written′)) ∙ y .is))
       (x .knows))
 
   line-same : (d e : Doc) → Twins D q d e → (l : List ℕ) (d′ e′ : Doc) → checkLine d l ≡ accepted d′ → checkLine e l ≡ accepted e′ → Twins D q d′ e′

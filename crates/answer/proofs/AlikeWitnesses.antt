@@ -32,6 +32,9 @@ asker = ascii "(purpose ads)\n(role desk)\n(user ana desk)\n(cond-role any desk 
 unfoldable pub plain : List ℕ
 plain = asker ++ ascii "(table t none (a num) (b num))\n"
 
+unfoldable pub named : List ℕ
+named = asker ++ ascii "(table t none (a name) (b name))\n"
+
 unfoldable pub labelled : List ℕ
 labelled = asker ++ ascii "(label open (allow ads) (deny))\n(label shut (allow) (deny))\n"
 
@@ -49,6 +52,9 @@ rows = labelled ++ ascii "(table t row (a num))\n"
 
 unfoldable pub cells : List ℕ
 cells = labelled ++ ascii "(table t cell (a num) (b num))\n"
+
+unfoldable pub namedCells : List ℕ
+namedCells = labelled ++ ascii "(table t cell (a name) (b name))\n"
 
 -- ---- the witnesses: the policy, the query text, and the lines behind the policy in the one document and in the other
 
@@ -89,6 +95,12 @@ freeValues =
     ∷ alikeFor plain "(select ana desk ads t (a))" "(row t 1 2)\n" "(row t 1 -345)\n"
     -- several reasons at once, and several rows: closed and not named; closed, withheld and not named
     ∷ alikeFor cells "(select ana desk ads t (a))" "(row t (1 open) (2 shut))\n(row t (3 shut) (4 shut))\n" "(row t (1 open) (20 shut))\n(row t (30 shut) (40 shut))\n"
+    -- a value that differs in the case of letters alone (02, Q-8): its column is not named, it is closed, its row is withheld
+    ∷ alikeFor named "(select ana desk ads t (a))" "(row t x y)\n" "(row t x Y)\n"
+    ∷ alikeFor namedCells "(count ana desk ads t (eq b y))" "(row t (x open) (y shut))\n" "(row t (x open) (Y shut))\n"
+    ∷ alikeFor namedCells "(select ana desk ads t (a b))" "(row t (x open) (y shut))\n" "(row t (X open) (y shut))\n"
+    -- row lines whose keyword is written in another case
+    ∷ alikeFor named "(select ana desk ads t (a))" "(ROW T x y)\n" "(ROW T x z)\n"
     ∷ []
 
 -- what may not differ
@@ -123,6 +135,15 @@ fixedValues =
     ∷ unlikeFor plain "" "(user bob desk)\n" "(user eve desk)\n"
     ∷ unlikeFor plain "" "(row t 1 2)\n" "(row t 1 2)\n(row t 1 2)\n"
     ∷ unlikeFor plain "" "(row t 1 2)\n" ""
+    -- an open value of a named column that differs in the case of letters alone (02, Q-8): selected, in the condition; and one whose column,
+    -- table and purpose the query names in another case
+    ∷ unlikeFor named "(select ana desk ads t (a))" "(row t x y)\n" "(row t X y)\n"
+    ∷ unlikeFor named "(count ana desk ads t (eq a x))" "(row t x y)\n" "(row t X y)\n"
+    ∷ unlikeFor named "(SELECT ana desk ADS T (A))" "(row t x y)\n" "(row t z y)\n"
+    -- a row's keyword, its table and its label in another case, with a value that may differ
+    ∷ unlikeFor named "" "(row t x y)\n" "(ROW t x z)\n"
+    ∷ unlikeFor named "" "(row t x y)\n" "(row T x z)\n"
+    ∷ unlikeFor rows "" "(row t open 1)\n" "(row t Open 2)\n"
     -- a refused document: the second, the first, both
     ∷ unlikeFor plain "" "(row t 1 2)\n" "(row t 1 x)\n"
     ∷ unlikeFor plain "" "(row t 1 x)\n" "(row t 1 2)\n"
@@ -135,7 +156,7 @@ asExpected w = not (sameBytes (w .first) (w .second)) && Bool·beq (alike? (w .t
 
 -- Of every witness the test says what is expected.
 pub witnesses : allOf asExpected (freeValues ++ fixedValues) ≡ true
-unfolding computing asker plain labelled shutTable openTable columns rows cells alikeFor unlikeFor freeValues fixedValues asExpected
+unfolding computing asker plain named labelled shutTable openTable columns rows cells namedCells alikeFor unlikeFor freeValues fixedValues asExpected
 witnesses = refl
 
 -- ---- so it is with being alike itself

@@ -18,18 +18,20 @@ session-accepted = tt
 
 -- the sample's select for a purpose
 unfoldable pub selecting : List ℕ → List ℕ
-selecting p = selectText (ascii "ana") (ascii "desk") p (ascii "sub (who) (gt due 50))")
+selecting p = selectText (ascii "select") (ascii "ana") (ascii "desk") p (ascii "sub (who) (gt due 50))")
 
 pub sample-below : SelectsBelow session (selecting (ascii "ads")) (selecting (ascii "post"))
 unfolding computing policy ida cy session selecting zipWith
 sample-below = record {
   checked = acceptedOr (record { lines = 0; doc = emptyDoc }) (check session);
   accepts = accepted-is (record { lines = 0; doc = emptyDoc }) (check session) session-accepted;
+  keyword = ascii "select";
   user = ascii "ana";
   role = ascii "desk";
   P = ascii "ads";
   Q = ascii "post";
   rest = ascii "sub (who) (gt due 50))";
+  isSelect = refl;
   isUser = refl;
   isRole = refl;
   isP = refl;

@@ -4,7 +4,7 @@ use Prim.Native.Nat.{_%_, _*_, _+_, _/_, _<_, _≤_, suc, zero, zero-le, ℕ}
 use borrow.Author.Tests.{eqb-true, ltb-false}
 use lib.Dec.{eqb, ltb}
 use lib.ListN.{getElem?, length, length-append, length-map}
-use mathlib.Core.Bool.{Bool, _||_, cond, false, true, true≢false}
+use mathlib.Core.Bool.{Bool, _||_, cond, false, true}
 use mathlib.Core.List.{List, [], _++_, _∷_, flatten, map}
 use mathlib.Core.Option.{Option, Option·none-ne-some, Option·some-injective, none, some}
 use mathlib.Core.Path.{_∙_, _≡_, ap, refl, subst, sym}
@@ -25,7 +25,7 @@ use Rattle.query.specs.Authority.{Clock}
 use Rattle.query.specs.Query.{Query, Wanted, resolved, select, sourceOf, unknownColumn, wantedOf}
 use Rattle.query.specs.QueryForm.{QueryForm, selectedWords}
 use Rattle.lists.proofs.ListLaws.{findIndex-found, keep-length, there-some}
-use Rattle.text.proofs.NameLaws.{sameName-equal, sameName-refl}
+use Rattle.text.proofs.NameLaws.{sameName-sym, sameName-trans}
 use Rattle.text.proofs.OffendingLaws.{leftmost-head, leftmost-tail, unless-none}
 use Rattle.text.proofs.RefusalLaws.{accepted-same, bind-accepted, need-accepted, refuseAt-accepted, then-accepted}
 use Rattle.lists.proofs.Tests.{neither-left, neither-right, true-not-false}
@@ -91,15 +91,15 @@ abbrev AllKnown : List Column → List Word → Type 0
 AllKnown cols [] = Unit {0}
 AllKnown cols (w ∷ ws) = (there (columnOf cols w) ≡ true) × AllKnown cols ws
 
-known-found : (cols : List Column) (w : Word) → there (columnOf cols w) ≡ true → (w .bytes ≡ nameAt (getElem? cols (columnNumber cols w))) × (columnNumber cols w < length cols)
+known-found : (cols : List Column) (w : Word) → there (columnOf cols w) ≡ true → (sameName (w .bytes) (nameAt (getElem? cols (columnNumber cols w))) ≡ true) × (columnNumber cols w < length cols)
 unfolding columnOf
 known-found cols w h =
     let i = findIndex-found (λ (c : Column). isCalled w (c .name)) cols (columnNumber cols w) (there-some (columnOf cols w) h) in
     (go (getElem? cols (columnNumber cols w)) (i .0), i .1)
   where
-    go : (o : Option Column) → holdsOf (λ (x : Column). isCalled w (x .name)) o ≡ true → w .bytes ≡ nameAt o
+    go : (o : Option Column) → holdsOf (λ (x : Column). isCalled w (x .name)) o ≡ true → sameName (w .bytes) (nameAt o) ≡ true
     go none e = unfold holdsOf in true-not-false e refl
-    go (some x) e = unfold holdsOf isCalled in sameName-equal _ _ e
+    go (some x) e = unfold holdsOf isCalled in e
 
 -- a word that none of the earlier ones equals names another column than they do
 not-used : (cols : List Column) (w : Word) (earlier : List Word) → there (columnOf cols w) ≡ true → AllKnown cols earlier → anyOf (λ v. isCalled w (v .bytes)) earlier ≡ false
@@ -109,7 +109,9 @@ not-used cols w [] h hs e = refl
 not-used cols w (v ∷ vs) h hs e = go (not-used cols w vs h (hs .1) (neither-right (sameName (w .bytes) (v .bytes)) _ e)) (eqb (columnNumber cols w) (columnNumber cols v)) refl
   where
     no-way : columnNumber cols w ≡ columnNumber cols v → ⊥
-    no-way p = true≢false (sym (ap (sameName (w .bytes)) (known-found cols v (hs .0) .0 ∙ ap (λ (k : ℕ). nameAt (getElem? cols k)) (sym p) ∙ sym (known-found cols w h .0)) ∙ sameName-refl (w .bytes)) ∙ neither-left (sameName (w .bytes) (v .bytes)) _ e)
+    no-way p =
+        let found : sameName (v .bytes) (nameAt (getElem? cols (columnNumber cols w))) ≡ true = ap (λ (k : ℕ). sameName (v .bytes) (nameAt (getElem? cols k))) p ∙ known-found cols v (hs .0) .0 in
+        true-not-false (sameName-trans (w .bytes) _ (v .bytes) (known-found cols w h .0) (sameName-sym (v .bytes) _ found)) (neither-left (sameName (w .bytes) (v .bytes)) _ e)
 
     go : member (columnNumber cols w) (map (columnNumber cols) vs) ≡ false → (b : Bool) → eqb (columnNumber cols w) (columnNumber cols v) ≡ b → (b || member (columnNumber cols w) (map (columnNumber cols) vs)) ≡ false
     go ih true p = absurd (no-way (eqb-true _ _ p))

@@ -27,7 +27,8 @@ use Rattle.query.specs.Query.{Query, resolved, select, wantedOf}
 use Rattle.query.specs.QueryForm.{QueryForm}
 use Rattle.text.proofs.ReadBack.{placeless}
 use Rattle.text.proofs.RefusalLaws.{accepted-same}
-use Rattle.text.specs.Names.{Name, isName}
+use Rattle.text.specs.Bytes.{ascii}
+use Rattle.text.specs.Names.{Name, isName, sameName}
 use Rattle.text.specs.Refusal.{accepted}
 use Rattle.text.specs.Words.{Word, isCalled, plainWord}
 
@@ -93,21 +94,21 @@ answer-prints d c q a ws e x =
 -- if a select for P is answered, the same select for Q below P is answered too, under the
 -- same clock, with a buffer as long as its answer needs and a text within 4,096 bytes.
 further-answered : (doc : List ℕ) (A : Accepted) → check doc ≡ accepted A
-    → (u r p p′ : Name) (rest : List ℕ) → isName u ≡ true → isName r ≡ true → isName p ≡ true → isName p′ ≡ true
+    → (k u r p p′ : Name) (rest : List ℕ) → sameName k (ascii "select") ≡ true → isName u ≡ true → isName r ≡ true → isName p ≡ true → isName p′ ≡ true
     → (n n′ : ℕ) → purposeOf (A .doc .policy) (plainWord p) ≡ some n → purposeOf (A .doc .policy) (plainWord p′) ≡ some n′ → descends (treeOf (A .doc .policy .purposes)) n′ n ≡ true
-    → (c : Clock) (room : ℕ) (a : Answered) → ask doc (selectText u r p rest) c room ≡ accepted a
-    → length (selectText u r p′ rest) ≤ 4096
-    → (s : Answered) × ((room′ : ℕ) → length (s .answer .bytes) ≤ room′ → ask doc (selectText u r p′ rest) c room′ ≡ accepted s) × Contains (a .answer) (s .answer)
+    → (c : Clock) (room : ℕ) (a : Answered) → ask doc (selectText k u r p rest) c room ≡ accepted a
+    → length (selectText k u r p′ rest) ≤ 4096
+    → (s : Answered) × ((room′ : ℕ) → length (s .answer .bytes) ≤ room′ → ask doc (selectText k u r p′ rest) c room′ ≡ accepted s) × Contains (a .answer) (s .answer)
 unfolding purposeOf isCalled plainWord other orZero IsSelect forPurpose placelessQuery resolved
-further-answered doc A is-A u r p p′ rest is-u is-r is-p is-p′ n n′ known-p known-p′ below c room a h short =
+further-answered doc A is-A k u r p p′ rest is-k is-u is-r is-p is-p′ n n′ known-p known-p′ below c room a h short =
     let d : Doc = A .doc in
     let x = ask-answered doc _ c room a h in
     let same-A : x .checked ≡ A = accepted-same (sym (x .accepts) ∙ is-A) in
     let q : QueryForm = x .form in
     let answers : Answers d c q a = subst (λ (B : Accepted). Answers (B .doc) c q a) same-A (x .answers) in
-    let w : Word = other u r p p′ rest is-u is-r is-p is-p′ in
-    let y = other-query u r p p′ rest is-u is-r is-p is-p′ q (x .reads) (le-leb _ _ short) in
-    let sel = is-select u r p p′ rest is-u is-r is-p is-p′ q (x .reads) in
+    let w : Word = other k u r p p′ rest is-k is-u is-r is-p is-p′ in
+    let y = other-query k u r p p′ rest is-k is-u is-r is-p is-p′ q (x .reads) (le-leb _ _ short) in
+    let sel = is-select k u r p p′ rest is-k is-u is-r is-p is-p′ q (x .reads) in
     let z = further-down d q w n′ known-p′ (subst (λ o. descends (treeOf (d .policy .purposes)) n′ (orZero o) ≡ true) (sym (ap (purposeOf (d .policy)) (sel .0) ∙ known-p)) below) c a (is-answered d c q a answers) in
     let s : Answered = z .0 in
     let q′ : QueryForm = forPurpose w (y .0) in
@@ -131,6 +132,6 @@ further-answered doc A is-A u r p p′ rest is-u is-r is-p is-p′ n n′ known-
 -- and its withheld count is no larger.
 pub rows-further-down : (doc text lower : List ℕ) → SelectsBelow doc text lower → (c : Clock) (room : ℕ) (a : Answered) → ask doc text c room ≡ accepted a → GivenFurtherDown doc lower c a
 rows-further-down doc text lower s c room a h =
-    let x = further-answered doc (s .checked) (s .accepts) (s .user) (s .role) (s .P) (s .Q) (s .rest) (s .isUser) (s .isRole) (s .isP) (s .isQ) (s .numberP) (s .numberQ) (s .knownP) (s .knownQ) (s .below) c room a
+    let x = further-answered doc (s .checked) (s .accepts) (s .keyword) (s .user) (s .role) (s .P) (s .Q) (s .rest) (s .isSelect) (s .isUser) (s .isRole) (s .isP) (s .isQ) (s .numberP) (s .numberQ) (s .knownP) (s .knownQ) (s .below) c room a
     (ap (λ t. ask doc t c room) (sym (s .is)) ∙ h) (subst (λ t. length t ≤ 4096) (s .isLower) (s .short)) in
     record { given = x .0; answers = λ room′ fits. ap (λ t. ask doc t c room′) (s .isLower) ∙ x .1 room′ fits; contains = x .2 }

@@ -14,15 +14,17 @@ use Rattle.query.proofs.QueryPlaceless.{bounds-placeless, placelessQuery}
 use Rattle.query.specs.QueryForm.{QueryForm, columnList, ifWithinBounds, queryBody, queryForm, queryForms, queryOf, selectColumns, selectedWords, withinBounds}
 use Rattle.text.proofs.ByteLaws.{name-nameBytes, run-stops}
 use Rattle.lists.proofs.ListLaws.{drop-append}
+use Rattle.text.proofs.NameLaws.{sameName-length}
 use Rattle.text.proofs.Places.{Agree, Same, bind-agree, bracketed-agree, byte-agree, each, give-agree, many-agree, neither, next-agree, optional-agree, then-agree, wordThat-agree}
 use Rattle.text.proofs.ReadBack.{left, placeless}
 use Rattle.text.proofs.ReaderLaws.{then-some}
+use Rattle.text.proofs.WordLaws.{same-name-bytes}
 use Rattle.text.specs.Brackets.{among, bracketed, keyword, next, optional}
-use Rattle.text.specs.Bytes.{firstByte, isDigit, isLetter, isNameByte}
-use Rattle.lists.specs.Lists.{isEmpty}
-use Rattle.text.specs.Names.{Name, isName, sameByte, sameName}
+use Rattle.text.specs.Bytes.{ascii, firstByte, isDigit, isLetter, isNameByte}
+use Rattle.lists.specs.Lists.{allOf, isEmpty}
+use Rattle.text.specs.Names.{Name, isName, sameName}
 use Rattle.text.specs.Reader.{Left, Reader, _>>=_, _>>_, andThen, byte, ended, give, whole}
-use Rattle.text.specs.Words.{Word, isCalled, name, nameBytes, word, wordThat}
+use Rattle.text.specs.Words.{Word, isCalled, name, word, wordThat}
 
 -- what stands behind the purpose, given the words before it
 unfoldable behindPurpose : Word → Word → Word → Reader QueryForm
@@ -61,11 +63,18 @@ tail u r p = do
   byte 41
   give x
 
-form-reads : (u r p : Name) (rest : List ℕ) (is-u : isName u ≡ true) (is-r : isName r ≡ true) → isName p ≡ true
-    → whole queryForm (selectText u r p rest)
+-- the keyword `select`, in any case of letters, calls for the body of a select
+keyword-select : (k bs : List ℕ) → sameName k (ascii "select") ≡ true → keyword queryForms (left 1 (k ++ 32 ∷ bs)) ≡ queryBody selectColumns (left 7 (32 ∷ bs))
+unfolding keyword word queryForms among isCalled allOf isNameByte isLetter isDigit
+keyword-select k bs e =
+    rw (run-stops k (32 ∷ bs) (same-name-bytes k (ascii "select") e refl) refl, drop-append k (32 ∷ bs), sameName-length k (ascii "select") e, e)
+
+form-reads : (k u r p : Name) (rest : List ℕ) → sameName k (ascii "select") ≡ true → (is-u : isName u ≡ true) (is-r : isName r ≡ true) → isName p ≡ true
+    → whole queryForm (selectText k u r p rest)
     ≡ ended (tail (userWord u r rest is-u is-r) (roleWord u r rest is-u is-r) (record { at = purposeAt u r rest is-u is-r; bytes = p }) (left (purposeAt u r rest is-u is-r + length p) (32 ∷ rest)))
-unfolding whole tail queryForm queryForms bracketed byte keyword word nameBytes isNameByte isLetter isDigit among isCalled sameName sameByte selectText
-form-reads u r p rest is-u is-r is-p = ap (λ o. ended (andThen o (λ x. byte 41 >> give x))) (body-reads u r rest is-u is-r p is-p)
+unfolding whole tail queryForm bracketed byte selectText
+form-reads k u r p rest is-k is-u is-r is-p =
+    ap (λ o. ended (andThen o (λ x. byte 41 >> give x))) (keyword-select k (u ++ 32 ∷ (r ++ 32 ∷ (p ++ 32 ∷ rest))) is-k ∙ body-reads u r rest is-u is-r p is-p)
 
 columns-agree : Agree (Option·map (map placeless)) selectColumns selectColumns
 unfolding selectColumns columnList
@@ -176,18 +185,18 @@ bounds-for : (w : Word) (q : QueryForm) → withinBounds (forPurpose w q) ≡ wi
 unfolding withinBounds selectedWords forPurpose
 bounds-for w q = refl
 
-module _ (u r p p′ : Name) (rest : List ℕ) (is-u : isName u ≡ true) (is-r : isName r ≡ true) (is-p : isName p ≡ true) (is-p′ : isName p′ ≡ true) where
+module _ (k u r p p′ : Name) (rest : List ℕ) (is-k : sameName k (ascii "select") ≡ true) (is-u : isName u ≡ true) (is-r : isName r ≡ true) (is-p : isName p ≡ true) (is-p′ : isName p′ ≡ true) where
   -- the word of the other purpose
   unfoldable pub other : Word
   other = record { at = purposeAt u r rest is-u is-r; bytes = p′ }
 
   -- the query for p is a select for p
-  pub is-select : (q : QueryForm) → queryOf (selectText u r p rest) ≡ some q → IsSelect (record { at = purposeAt u r rest is-u is-r; bytes = p }) q
-  is-select q h = ended-always _ (tail-select _ _ _) _ q (sym (form-reads u r p rest is-u is-r is-p) ∙ query-within _ q h .0)
+  pub is-select : (q : QueryForm) → queryOf (selectText k u r p rest) ≡ some q → IsSelect (record { at = purposeAt u r rest is-u is-r; bytes = p }) q
+  is-select q h = ended-always _ (tail-select _ _ _) _ q (sym (form-reads k u r p rest is-k is-u is-r is-p) ∙ query-within _ q h .0)
 
   -- the same select for p′ is a query, the same up to places but for its purpose
-  pub other-query : (q : QueryForm) → queryOf (selectText u r p rest) ≡ some q → leb (length (selectText u r p′ rest)) 4096 ≡ true
-      → (q′ : QueryForm) × (queryOf (selectText u r p′ rest) ≡ some (forPurpose other q′)) × (placelessQuery q ≡ placelessQuery q′)
+  pub other-query : (q : QueryForm) → queryOf (selectText k u r p rest) ≡ some q → leb (length (selectText k u r p′ rest)) 4096 ≡ true
+      → (q′ : QueryForm) × (queryOf (selectText k u r p′ rest) ≡ some (forPurpose other q′)) × (placelessQuery q ≡ placelessQuery q′)
   unfolding other
   other-query q h l =
       let w = query-within _ q h in
@@ -195,7 +204,7 @@ module _ (u r p p′ : Name) (rest : List ℕ) (is-u : isName u ≡ true) (is-r 
       let rw′ : Word = roleWord u r rest is-u is-r in
       let pw : Word = record { at = purposeAt u r rest is-u is-r; bytes = p } in
       let at : ℕ = purposeAt u r rest is-u is-r in
-      let x = both-ended other (tail-agree uw rw′ pw .on (at + length p) (at + length p′) (32 ∷ rest)) q (sym (form-reads u r p rest is-u is-r is-p) ∙ w .0) in
-      let whole′ : whole queryForm (selectText u r p′ rest) ≡ some (forPurpose other (x .0)) = form-reads u r p′ rest is-u is-r is-p′ ∙ ap ended (tail-swap uw rw′ pw other (left (at + length p′) (32 ∷ rest))) ∙ x .1 in
+      let x = both-ended other (tail-agree uw rw′ pw .on (at + length p) (at + length p′) (32 ∷ rest)) q (sym (form-reads k u r p rest is-k is-u is-r is-p) ∙ w .0) in
+      let whole′ : whole queryForm (selectText k u r p′ rest) ≡ some (forPurpose other (x .0)) = form-reads k u r p′ rest is-k is-u is-r is-p′ ∙ ap ended (tail-swap uw rw′ pw other (left (at + length p′) (32 ∷ rest))) ∙ x .1 in
       let bounds : withinBounds (x .0) ≡ true = sym (bounds-placeless (x .0)) ∙ ap withinBounds (sym (x .2)) ∙ bounds-placeless q ∙ w .1 in
       (x .0, query-is _ _ l whole′ (bounds-for other (x .0) ∙ bounds), x .2)

@@ -1,4 +1,4 @@
--- Meaning: when two documents are alike for a query (01, "The no-difference claim"). Which cells may differ is said by the policy
+-- Meaning: when two documents are alike for a query (01, "The no-difference claim"; 02, Q-8). Which cells may differ is said by the policy
 -- and the labels of the rows, which alike documents share.
 use Prim.Native.Nat.{suc, ℕ}
 use lib.Dec.{eqb}
@@ -17,7 +17,8 @@ use Rattle.query.specs.Query.{Source, sources}
 use Rattle.query.specs.QueryForm.{QueryForm, queryOf}
 use Rattle.text.specs.Lines.{cut}
 use Rattle.lists.specs.Lists.{allOf, anyOf, holdsOf, member, orZero}
-use Rattle.text.specs.Names.{Name, isName}
+use Rattle.text.specs.Bytes.{ascii}
+use Rattle.text.specs.Names.{Name, isName, sameName}
 use Rattle.text.specs.Numbers.{Value, isValue}
 use Rattle.text.specs.Refusal.{accepted}
 use Rattle.text.specs.Words.{plainWord}
@@ -51,30 +52,36 @@ rowOf d t ls vs = record {
   labels = map (λ l. orZero (labelOf d (plainWord l))) ls;
 }
 
--- a row line, written out from its parts: the table, the labels and the values
+-- a row line, written out from its parts: the keyword, which is `row` in any case of letters (02, Q-8), the table, the labels and the
+-- values
 pub record RowLine (d : Policy) (line : List ℕ) : Type 0 where
+  pub keyword : Name
   pub table : Name
   pub labels : List Name
   pub values : List Value
+  pub isRow : sameName keyword (ascii "row") ≡ true
   pub isTable : isName table ≡ true
   pub areLabels : allOf isName labels ≡ true
   pub areValues : allOf isValue values ≡ true
   pub enoughLabels : length labels ≡ labelCount (schemeOf d (plainWord table)) (length values)
-  pub written : line ≡ rowText (schemeOf d (plainWord table)) table labels values
+  pub written : line ≡ rowText (schemeOf d (plainWord table)) keyword table labels values
 
--- two row lines of one table with the same labels, whose values are the same or free to differ
+-- two row lines with the same keyword, table and labels, byte for byte, whose values are the same or free to differ: values that differ
+-- only in the case of letters differ, since answers print them (02, Q-8)
 pub record AlikeRows (d : Policy) (q : Option QueryForm) (line line′ : List ℕ) : Type 0 where
+  pub keyword : Name
   pub table : Name
   pub labels : List Name
   pub values : List Value
   pub values′ : List Value
+  pub isRow : sameName keyword (ascii "row") ≡ true
   pub isTable : isName table ≡ true
   pub areLabels : allOf isName labels ≡ true
   pub areValues : allOf isValue values ≡ true
   pub areValues′ : allOf isValue values′ ≡ true
   pub enoughLabels : length labels ≡ labelCount (schemeOf d (plainWord table)) (length values)
-  pub written : line ≡ rowText (schemeOf d (plainWord table)) table labels values
-  pub written′ : line′ ≡ rowText (schemeOf d (plainWord table)) table labels values′
+  pub written : line ≡ rowText (schemeOf d (plainWord table)) keyword table labels values
+  pub written′ : line′ ≡ rowText (schemeOf d (plainWord table)) keyword table labels values′
   pub alike : SameOrFree (free d q (rowOf d table labels values)) 0 values values′
 
 -- two lists of lines: equally many, and each line the same, or both row lines that are alike

@@ -12,6 +12,7 @@ use Rattle.document.specs.NameFaults.{rowLabels}
 use Rattle.document.specs.Policy.{Policy}
 use Rattle.form.specs.Form.{Form, Item, attr, condRole, grant, label, purpose, role, row, table, user}
 use Rattle.form.specs.FormReader.{formOf}
+use Rattle.form.specs.RowText.{keywordIn}
 use Rattle.answer.specs.Alike.{free, linesOf}
 use Rattle.query.specs.QueryForm.{QueryForm, queryOf}
 use Rattle.text.specs.Numbers.{Value}
@@ -69,10 +70,10 @@ module _ (d e : Policy) (q : Option QueryForm) where
   bothRows (some r) none = false
   bothRows (some r) (some s) = sameRow r s
 
-  -- two lines, which are the same or not: if not, both are rows that are alike
+  -- two lines, which are the same or not: if not, both are rows that are alike, with one keyword
   unfoldable pub sameOrRows : (same : Bool) → List ℕ → List ℕ → Bool
   sameOrRows true l m = true
-  sameOrRows false l m = bothRows (bind (formOf l) rowInForm) (bind (formOf m) rowInForm)
+  sameOrRows false l m = sameBytes (keywordIn l) (keywordIn m) && bothRows (bind (formOf l) rowInForm) (bind (formOf m) rowInForm)
 
   -- equally many lines, and each the same in both or a row that is alike
   unfoldable pub linesAlike : List (List ℕ) → List (List ℕ) → Bool

@@ -24,6 +24,7 @@ use Rattle.csv.specs.Records.{Entry, firstUnfit}
 use Rattle.lists.proofs.ListLaws.{there-some}
 use Rattle.lists.proofs.Tests.{and-both, and-left, and-right}
 use Rattle.lists.specs.Lists.{allOf, orZero, there}
+use Rattle.text.specs.Bytes.{ascii}
 use Rattle.text.specs.Lines.{Pieces, cut}
 use Rattle.text.specs.Names.{Name, isName}
 use Rattle.text.specs.Numbers.{isValue}
@@ -48,9 +49,9 @@ module _ (t l : Name) (nameT : isName t ≡ true) (nameL : isName l ≡ true) (p
   none-left rs n at = refl
 
   line-checked : (e : Entry) (rs : List Row) → allOf isValue (e .fields) ≡ true → Takes (docWith rs) t l e
-      → checkLine (docWith rs) (rowText oneLabel t (l ∷ []) (e .fields)) ≡ accepted (docWith (rs ++ (rowWith e ∷ [])))
+      → checkLine (docWith rs) (rowText oneLabel (ascii "row") t (l ∷ []) (e .fields)) ≡ accepted (docWith (rs ++ (rowWith e ∷ [])))
   unfolding withRow
-  line-checked e rs v k = let r = row-of t l (e .fields) nameT nameL v in row-accepts (docWith rs) e (r .2) s (rowText oneLabel t (l ∷ []) (e .fields)) (r .1) k
+  line-checked e rs v k = let r = row-of t l (e .fields) nameT nameL v in row-accepts (docWith rs) e (r .2) s (rowText oneLabel (ascii "row") t (l ∷ []) (e .fields)) (r .1) k
 
   -- the first line, and those behind it
   one-checked : (e : Entry) (es : List Entry) (rs : List Row) (n at : ℕ) → allOf isValue (e .fields) ≡ true → Takes (docWith rs) t l e
@@ -82,9 +83,9 @@ module _ (t l : Name) (nameT : isName t ≡ true) (nameL : isName l ≡ true) (p
       → Takes (docWith rs) t l e × ((at′ : ℕ) × (checkLines (rs ++ (rowWith e ∷ [])) (n + 1) at′ es ≡ accepted b))
   first-taken e es rs n at b v h =
       let r = row-of t l (e .fields) nameT nameL v in
-      let m = more-accepted (docWith rs) n at (rowText oneLabel t (l ∷ []) (e .fields)) (cut (recordLines t l es) .head) (cut (recordLines t l es) .others) b
+      let m = more-accepted (docWith rs) n at (rowText oneLabel (ascii "row") t (l ∷ []) (e .fields)) (cut (recordLines t l es) .head) (cut (recordLines t l es) .others) b
       (sym (ap (λ (ps : Pieces). checkFrom (docWith rs) n at (ps .head) (ps .others)) (lines-cut t l nameT nameL e es v)) ∙ h) in
-      let k = row-taken (docWith rs) e (r .2) s (rowText oneLabel t (l ∷ []) (e .fields)) (r .1) (m .0) (m .1) in
+      let k = row-taken (docWith rs) e (r .2) s (rowText oneLabel (ascii "row") t (l ∷ []) (e .fields)) (r .1) (m .0) (m .1) in
       let x = one-checked e es rs n at v k in
       (k, (x .0, sym (x .1) ∙ h))
 

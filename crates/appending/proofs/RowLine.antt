@@ -33,6 +33,8 @@ use Rattle.lists.proofs.Tests.{and-both, and-left, and-right, not-false}
 use Rattle.lists.specs.Lists.{allOf, holdsOf, orZero, there}
 use Rattle.text.proofs.OffendingLaws.{leftmost-head, leftmost-none, leftmost-nil, leftmost-only, leftmost-tail, unless-none, unless-true}
 use Rattle.text.proofs.ReadBack.{placeless}
+use Rattle.text.proofs.NameLaws.{sameName-refl}
+use Rattle.text.specs.Bytes.{ascii}
 use Rattle.text.specs.Names.{Name, isName}
 use Rattle.text.specs.Numbers.{Value, isValue}
 use Rattle.text.specs.Offending.{leftmost, missing, unless}
@@ -92,12 +94,12 @@ row-of-parts t l vs h f e =
     }
 
 -- the line is read as such a form
-pub row-of : (t l : Name) (vs : List Field) → isName t ≡ true → isName l ≡ true → allOf isValue vs ≡ true → (f : Form) × (formOf (rowText oneLabel t (l ∷ []) vs) ≡ some f) × RowOf t l vs f
+pub row-of : (t l : Name) (vs : List Field) → isName t ≡ true → isName l ≡ true → allOf isValue vs ≡ true → (f : Form) × (formOf (rowText oneLabel (ascii "row") t (l ∷ []) vs) ≡ some f) × RowOf t l vs f
 unfolding allOf
 row-of t l vs h k m =
     let named : allOf isName (l ∷ []) ≡ true = and-both (isName l) true k refl in
-    let r = row-read oneLabel t (l ∷ []) vs h named m in
-    (r .0, r .1, row-of-parts t l vs k (r .0) (row-back oneLabel t (l ∷ []) vs h named m (r .0) (r .1)))
+    let r = row-read oneLabel (ascii "row") t (l ∷ []) vs (sameName-refl (ascii "row")) h named m in
+    (r .0, r .1, row-of-parts t l vs k (r .0) (row-back oneLabel (ascii "row") t (l ∷ []) vs (sameName-refl (ascii "row")) h named m (r .0) (r .1)))
 
 -- ---- its tests, by those bytes
 

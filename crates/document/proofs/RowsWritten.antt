@@ -1,5 +1,5 @@
--- An accepted row line is written out from its parts, whatever its table's scheme: the table, the labels that the row uses
--- and its values. Assumes nothing.
+-- An accepted row line is written out from its parts, whatever its table's scheme: its keyword, the table, the labels that the row
+-- uses and its values. Assumes nothing.
 use Prim.Native.Nat.{suc, ℕ}
 use lib.ListN.{length}
 use mathlib.Core.Bool.{Bool, cond, false, true}
@@ -16,11 +16,12 @@ use Rattle.form.proofs.RowBack.{isItem, itemText, rowText-bytes}
 use Rattle.form.proofs.RowWritten.{row-written}
 use Rattle.form.specs.Form.{Item, Scheme, byCell, byColumn, byRow, byTable, labelled, plain, row, unlabelled}
 use Rattle.form.specs.FormReader.{formOf}
-use Rattle.form.specs.RowText.{bracketText, itemTexts, labelCount, rowText, spaced}
+use Rattle.form.specs.RowText.{bracketText, itemTexts, keywordIn, labelCount, rowText, spaced}
 use Rattle.lists.proofs.ListLaws.{map-inv}
 use Rattle.lists.proofs.Tests.{and-both, and-left, and-right}
 use Rattle.lists.specs.Lists.{allOf}
-use Rattle.text.specs.Names.{Name, isName}
+use Rattle.text.specs.Bytes.{ascii}
+use Rattle.text.specs.Names.{Name, isName, sameName}
 use Rattle.text.specs.Numbers.{Value, isValue}
 use Rattle.text.specs.Words.{Word}
 
@@ -88,15 +89,16 @@ items-shaped byCell is ws h e = bracket-shaped is ws h e
 
 -- ---- row lines
 
--- the line is a row line of this scheme, written out from the table, the labels and the values
+-- the line is a row line of this scheme, written out from its own keyword, the table, the labels and the values
 pub record WrittenFrom (s : Scheme ℕ) (line : List ℕ) (t : Name) (ls : List Name) (vs : List Value) : Type 0 where
+  pub isRow : sameName (keywordIn line) (ascii "row") ≡ true
   pub isTable : isName t ≡ true
   pub areLabels : allOf isName ls ≡ true
   pub areValues : allOf isValue vs ≡ true
   pub enoughLabels : length ls ≡ labelCount s (length vs)
-  pub written : line ≡ rowText s t ls vs
+  pub written : line ≡ rowText s (keywordIn line) t ls vs
 
--- A line that is read as a row form, whose items are shaped for the scheme, is written out from the table, the labels that
+-- A line that is read as a row form, whose items are shaped for the scheme, is written out from its keyword, the table, the labels that
 -- it uses and its values.
 pub row-parts : (line : List ℕ) (t : Word) (is : List Item) → formOf line ≡ some (row t is) → (s : Scheme ℕ) (ws : List Word) → rowValues s is ≡ some ws
     → WrittenFrom s line (t .bytes) (bytesOf (rowLabels s is)) (bytesOf ws)
@@ -104,13 +106,14 @@ row-parts line t is f s ws e =
     let w = row-written line t is f in
     let x = items-shaped s is ws (w .areItems) e in
     record {
+      isRow = w .isRow;
       isTable = w .isTable;
       areLabels = x .areLabels;
       areValues = x .areValues;
       enoughLabels = x .enoughLabels;
       written = w .written
-          ∙ ap (λ (ts : List (List ℕ)). 40 ∷ 114 ∷ 111 ∷ 119 ∷ 32 ∷ (t .bytes ++ (spaced ts ++ 41 ∷ []))) (x .texts)
-          ∙ sym (rowText-bytes s (t .bytes) (bytesOf (rowLabels s is)) (bytesOf ws));
+          ∙ ap (λ (ts : List (List ℕ)). 40 ∷ (keywordIn line ++ 32 ∷ (t .bytes ++ (spaced ts ++ 41 ∷ [])))) (x .texts)
+          ∙ sym (rowText-bytes s (keywordIn line) (t .bytes) (bytesOf (rowLabels s is)) (bytesOf ws));
     }
 
 -- the same where the scheme is that of its table: the values are those of the row that the line means
@@ -126,7 +129,7 @@ pub row-shaped : (d : Policy) (t : Word) (is : List Item) → misfit d (row t is
 unfolding misfit
 row-shaped d t is m = let v = row-values _ _ m in (v .0, v .1)
 
--- An accepted row line is written out from its table, the labels that it uses and the values of the row that it means.
+-- An accepted row line is written out from its keyword, its table, the labels that it uses and the values of the row that it means.
 pub accepted-row : (d : Policy) (line : List ℕ) (t : Word) (is : List Item) → formOf line ≡ some (row t is) → misfit d (row t is) ≡ false
     → WrittenFrom (schemeOf d t) line (t .bytes) (bytesOf (rowLabels (schemeOf d t) is)) (rowMeant d t is .values)
 accepted-row d line t is f m = let v = row-shaped d t is m in row-meant-parts d line t is f (v .0) (v .1)

@@ -1,5 +1,6 @@
 -- Reading a row line that was written out from its parts gives back the parts. Assumes nothing.
 use Prim.Native.Nat.{_+_, _≤_, suc, zero, ℕ}
+use Prim.Native.String.{String}
 use borrow.Author.Tests.{eqb-true}
 use lib.Dec.{eqb}
 use lib.ListN.{length, length-append}
@@ -13,15 +14,17 @@ use Rattle.form.specs.FormReader.{form, formOf, item, labelledItem, line
 use Rattle.form.specs.RowText.{bracketText, itemTexts, rowText, spaced}
 use Rattle.text.proofs.ByteLaws.{name-value, value-first}
 use Rattle.lists.proofs.ListLaws.{map-map}
-use Rattle.text.proofs.ReadBack.{Gives, Reads, bind-reads, bracketed-reads, give-reads, gives, left, name-reads, next-reads, placeless, value-reads}
+use Rattle.text.proofs.ReadBack.{Gives, Reads, bind-reads, bracketed-reads, give-reads, gives, left, name-reads, next-reads, placeless, value-reads, word-reads}
+use Rattle.text.proofs.NameLaws.{same-other}
+use Rattle.text.proofs.WordLaws.{same-name-bytes}
 use Rattle.lists.proofs.Tests.{and-left, and-right, true-not-false}
 use Rattle.text.specs.Brackets.{among, keyword, many, upTo}
-use Rattle.text.specs.Bytes.{firstByte, isDigit, isLetter, isNameByte}
+use Rattle.text.specs.Bytes.{ascii, firstByte, isDigit, isLetter, isNameByte}
 use Rattle.lists.specs.Lists.{allOf}
-use Rattle.text.specs.Names.{Name, isName, sameByte, sameName}
+use Rattle.text.specs.Names.{Name, isName, lower, sameByte, sameName}
 use Rattle.text.specs.Numbers.{Value, isValue}
 use Rattle.text.specs.Reader.{Left, ended, ifNext, whole}
-use Rattle.text.specs.Words.{Word, isCalled, nameBytes, plainWord, word}
+use Rattle.text.specs.Words.{Word, isCalled, plainWord}
 
 -- ---- row forms without places
 
@@ -129,14 +132,42 @@ unfolding rowForm rowParts
 rowForm-reads t is h k =
     bind-reads (next-reads (name-reads t _ h (spaced-begins is))) (λ y p. bind-reads (many-reads is k) (λ ys ps. give-reads _ _ (λ i. some (p i, ps i))))
 
--- the keyword `row` calls for the rest of a row form
-keyword-row : {bs : List ℕ} {x : Option (Word × List Item)} {rest : List ℕ} → Reads rowParts rowForm (32 ∷ bs) x rest → Reads rowParts (keyword lineForms) (114 ∷ 111 ∷ 119 ∷ 32 ∷ bs) x rest
-unfolding lineForms keyword word nameBytes isNameByte isLetter isDigit among isCalled sameName sameByte
-keyword-row h = record { from = λ at. h .from (at + 3) }
+-- a word that is called `row` is called by no other keyword, and calls for a row form
+row-among : (y : Word) → sameName (y .bytes) (ascii "row") ≡ true → among lineForms y ≡ rowForm
+unfolding lineForms among isCalled sameName sameByte lower
+row-among y e = rw (
+  other "purpose" refl,
+  other "role" refl,
+  other "attr" refl,
+  other "user" refl,
+  other "cond-role" refl,
+  other "grant" refl,
+  other "label" refl,
+  other "table" refl,
+  e,
+)
+  where
+    other : (k : String) → sameName (ascii "row") (ascii k) ≡ false → sameName (y .bytes) (ascii k) ≡ false
+    other k d = same-other (y .bytes) (ascii "row") (ascii k) e d
 
-form-row : {bs : List ℕ} {x : Option (Word × List Item)} {rest : List ℕ} → Reads rowParts rowForm (32 ∷ bs) x (41 ∷ rest) → Reads rowParts form (40 ∷ 114 ∷ 111 ∷ 119 ∷ 32 ∷ bs) x rest
+-- the name bytes of the keyword
+pub row-bytes : (k : Name) → sameName k (ascii "row") ≡ true → allOf isNameByte k ≡ true
+unfolding allOf isNameByte isLetter isDigit
+row-bytes k e = same-name-bytes k (ascii "row") e refl
+
+-- the keyword `row`, in any case of letters, calls for the rest of a row form
+keyword-row : (k : Name) → sameName k (ascii "row") ≡ true → {bs : List ℕ} {x : Option (Word × List Item)} {rest : List ℕ} → Reads rowParts rowForm (32 ∷ bs) x rest
+    → Reads rowParts (keyword lineForms) (k ++ 32 ∷ bs) x rest
+unfolding keyword isNameByte isLetter isDigit
+keyword-row k e {bs} h = bind-reads (word-reads k (32 ∷ bs) (row-bytes k e) refl) (λ y p. rw (row-among y (called y p)) h)
+  where
+    called : (y : Word) → placeless y ≡ plainWord k → sameName (y .bytes) (ascii "row") ≡ true
+    called y p = unfold placeless plainWord in ap (λ (w : Word). sameName (w .bytes) (ascii "row")) p ∙ e
+
+form-row : (k : Name) → sameName k (ascii "row") ≡ true → {bs : List ℕ} {x : Option (Word × List Item)} {rest : List ℕ} → Reads rowParts rowForm (32 ∷ bs) x (41 ∷ rest)
+    → Reads rowParts form (40 ∷ (k ++ 32 ∷ bs)) x rest
 unfolding form
-form-row h = bracketed-reads (keyword-row h)
+form-row k e h = bracketed-reads (keyword-row k e h)
 
 -- ---- the items of a row line, by scheme
 
@@ -213,34 +244,34 @@ module _ {L : Type 0} where
   items-placeless byCell ls vs = map-bracket vs ls
 
   -- the bytes of a row line
-  pub rowText-bytes : (s : Scheme L) (t : Name) (ls : List Name) (vs : List Value)
-      → rowText s t ls vs ≡ 40 ∷ 114 ∷ 111 ∷ 119 ∷ 32 ∷ (t ++ (spaced (itemTexts s ls vs) ++ 41 ∷ []))
+  pub rowText-bytes : (s : Scheme L) (k t : Name) (ls : List Name) (vs : List Value)
+      → rowText s k t ls vs ≡ 40 ∷ (k ++ 32 ∷ (t ++ (spaced (itemTexts s ls vs) ++ 41 ∷ [])))
   unfolding rowText
-  rowText-bytes s t ls vs = simp append-assoc
+  rowText-bytes s k t ls vs = simp append-assoc
 
-  rowText-is : (s : Scheme L) (t : Name) (ls : List Name) (vs : List Value)
-      → rowText s t ls vs ≡ 40 ∷ 114 ∷ 111 ∷ 119 ∷ 32 ∷ (t ++ (spaced (map itemText (itemsOf s ls vs)) ++ 41 ∷ []))
-  rowText-is s t ls vs = rw (items-texts s ls vs) (rowText-bytes s t ls vs)
+  rowText-is : (s : Scheme L) (k t : Name) (ls : List Name) (vs : List Value)
+      → rowText s k t ls vs ≡ 40 ∷ (k ++ 32 ∷ (t ++ (spaced (map itemText (itemsOf s ls vs)) ++ 41 ∷ [])))
+  rowText-is s k t ls vs = rw (items-texts s ls vs) (rowText-bytes s k t ls vs)
 
-  row-reads : (s : Scheme L) (t : Name) (ls : List Name) (vs : List Value) → isName t ≡ true → allOf isName ls ≡ true → allOf isValue vs ≡ true
-      → Reads rowParts form (rowText s t ls vs) (some (plainWord t, itemsOf s ls vs)) []
-  row-reads s t ls vs h k m =
-      rw (rowText-is s t ls vs) (form-row (rw (items-placeless s ls vs) at (rowForm-reads t (itemsOf s ls vs) h (items-fit s ls vs k m))))
+  row-reads : (s : Scheme L) (k t : Name) (ls : List Name) (vs : List Value) → sameName k (ascii "row") ≡ true → isName t ≡ true → allOf isName ls ≡ true → allOf isValue vs ≡ true
+      → Reads rowParts form (rowText s k t ls vs) (some (plainWord t, itemsOf s ls vs)) []
+  row-reads s k t ls vs e h l m =
+      rw (rowText-is s k t ls vs) (form-row k e (rw (items-placeless s ls vs) at (rowForm-reads t (itemsOf s ls vs) h (items-fit s ls vs l m))))
 
   -- A row line that was written out from its parts is the form of those parts.
-  pub row-back : (s : Scheme L) (t : Name) (ls : List Name) (vs : List Value) → isName t ≡ true → allOf isName ls ≡ true → allOf isValue vs ≡ true
-      → (f : Form) → formOf (rowText s t ls vs) ≡ some f → rowParts f ≡ some (plainWord t, itemsOf s ls vs)
+  pub row-back : (s : Scheme L) (k t : Name) (ls : List Name) (vs : List Value) → sameName k (ascii "row") ≡ true → isName t ≡ true → allOf isName ls ≡ true → allOf isValue vs ≡ true
+      → (f : Form) → formOf (rowText s k t ls vs) ≡ some f → rowParts f ≡ some (plainWord t, itemsOf s ls vs)
   unfolding formOf whole
-  row-back s t ls vs h k m f = go (row-reads s t ls vs h k m .from 0)
+  row-back s k t ls vs e h l m f = go (row-reads s k t ls vs e h l m .from 0)
     where
       go : {o : Option (Form × Left)} → Gives rowParts (some (plainWord t, itemsOf s ls vs)) [] o → ended o ≡ some f → rowParts f ≡ some (plainWord t, itemsOf s ls vs)
       go (gives p) e = unfold ended in cc
 
   -- and it is read as a form
-  pub row-read : (s : Scheme L) (t : Name) (ls : List Name) (vs : List Value) → isName t ≡ true → allOf isName ls ≡ true → allOf isValue vs ≡ true
-      → (f : Form) × (formOf (rowText s t ls vs) ≡ some f)
+  pub row-read : (s : Scheme L) (k t : Name) (ls : List Name) (vs : List Value) → sameName k (ascii "row") ≡ true → isName t ≡ true → allOf isName ls ≡ true → allOf isValue vs ≡ true
+      → (f : Form) × (formOf (rowText s k t ls vs) ≡ some f)
   unfolding formOf whole
-  row-read s t ls vs h k m = go (row-reads s t ls vs h k m .from 0)
+  row-read s k t ls vs e h l m = go (row-reads s k t ls vs e h l m .from 0)
     where
       go : {o : Option (Form × Left)} → Gives rowParts (some (plainWord t, itemsOf s ls vs)) [] o → (f : Form) × (ended o ≡ some f)
       go (gives {y} p) = unfold ended in (y, refl)

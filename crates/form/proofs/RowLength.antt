@@ -9,7 +9,7 @@ use native.Mathlib.Omega.{arith}
 use Rattle.condition.specs.CondForm.{conditionInForm}
 use Rattle.form.specs.Form.{Form, Item, Scheme, attr, byCell, byColumn, byRow, byTable, condRole, grant, label, labelled, plain, purpose, role, row, table, unlabelled, user}
 use Rattle.form.specs.FormReader.{attrForm, column, columnsUnderLabel, condRoleForm, form, formOf, givenForm, grantForm, item, kinds, labelForm, labelledColumn, labelledColumns, labelledItem, lineForms, node, plainColumns, plainItem, purposeSet, rowForm, schemes, tableForm, userForm}
-use Rattle.text.proofs.NameLaws.{sameName-equal}
+use Rattle.text.proofs.NameLaws.{sameName-length}
 use Rattle.text.proofs.ReaderLaws.{Eats, eats-bind, eats-bracketed, eats-byte, eats-give, eats-ifNext, eats-less, eats-many, eats-next, eats-word, eats-wordThat, listCost, past-trans, then-some, whole-some}
 use Rattle.text.specs.Brackets.{Keywords, among, bracketed, keyword, many, next, optional}
 use Rattle.text.specs.Bytes.{ascii}
@@ -140,7 +140,7 @@ unfolding among isCalled
 among-row w l f rest e = go (sameName (w .bytes) (ascii "row")) refl e
   where
     go : (b : Bool) → sameName (w .bytes) (ascii "row") ≡ b → cond b rowForm refuse l ≡ some (f, rest) → (length (w .bytes) ≡ 3) × (rowForm l ≡ some (f, rest))
-    go true p e = (ap length (sameName-equal (w .bytes) (ascii "row") p), e)
+    go true p e = (sameName-length (w .bytes) (ascii "row") p, e)
     go false p e = absurd (Option·none-ne-some _ e)
 
 -- a row comes from the keyword `row`

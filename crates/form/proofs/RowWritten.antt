@@ -1,32 +1,35 @@
--- A line that is read as a row form is that form written out: `(row`, then the table and the items, each behind a space,
--- and `)`. Assumes nothing.
+-- A line that is read as a row form is that form written out: `(row`, in any case of letters, then the table and the items, each
+-- behind a space, and `)`. Assumes nothing.
 use Prim.Native.Nat.{ℕ}
 use mathlib.Core.Bool.{true}
 use mathlib.Core.List.{List, [], _++_, _∷_, append-assoc, append-nil, map}
 use mathlib.Core.Option.{some}
-use mathlib.Core.Path.{_≡_, ap, refl, subst₂}
+use mathlib.Core.Path.{_∙_, _≡_, ap, refl, subst, subst₂, sym}
 use native.Mathlib.Omega.{arith}
 use Rattle.form.proofs.FormForward.{forward-attr, forward-condRole, forward-grant, forward-label, forward-node, forward-table, forward-user}
-use Rattle.form.proofs.RowBack.{isItem, itemText}
+use Rattle.form.proofs.RowBack.{isItem, itemText, row-bytes, rowText-bytes}
 use Rattle.form.proofs.RowLength.{Never, never-attr, never-condRole, never-grant, never-label, never-node, never-table, never-user, rowCost}
-use Rattle.form.specs.Form.{Form, Item, labelled, plain, purpose, role, row}
+use Rattle.form.specs.Form.{Form, Item, Scheme, labelled, plain, purpose, role, row}
 use Rattle.form.specs.FormReader.{form, formOf, item, labelledItem, lineForms, plainItem, rowForm}
-use Rattle.form.specs.RowText.{bracketText, spaced}
+use Rattle.form.specs.RowText.{bracketText, keywordIn, rowText, spaced}
 use Rattle.lists.proofs.Tests.{and-both}
 use Rattle.lists.specs.Lists.{allOf}
+use Rattle.text.proofs.ByteLaws.{run-stops}
 use Rattle.text.proofs.Forward.{Forward}
 use Rattle.text.proofs.Written.{Printed, Spells, printAll, prints-bind, prints-many, prints-next, spells-bracketed, spells-forward, spells-give, spells-ifNext, spells-keyword, spells-whole, spells-wordThat}
 use Rattle.text.specs.Brackets.{keyword, many, next}
-use Rattle.text.specs.Names.{isName}
-use Rattle.text.specs.Numbers.{isValue}
+use Rattle.text.specs.Bytes.{ascii, isDigit, isLetter, isNameByte}
+use Rattle.text.specs.Names.{Name, isName, sameName}
+use Rattle.text.specs.Numbers.{Value, isValue}
 use Rattle.text.specs.Reader.{Reader}
 use Rattle.text.specs.Words.{Word, name, value}
 
--- the line is the row form written out, its table is a name, and its items are values and names
-pub record RowWritten (line : List ℕ) (t : Word) (is : List Item) : Type 0 where
+-- the line is the row form written out behind the keyword k, its table is a name, and its items are values and names
+pub record RowWritten (line : List ℕ) (k : Name) (t : Word) (is : List Item) : Type 0 where
+  pub isRow : sameName k (ascii "row") ≡ true
   pub isTable : isName (t .bytes) ≡ true
   pub areItems : allOf isItem is ≡ true
-  pub written : line ≡ 40 ∷ 114 ∷ 111 ∷ 119 ∷ 32 ∷ (t .bytes ++ (spaced (map itemText is) ++ 41 ∷ []))
+  pub written : line ≡ 40 ∷ (k ++ 32 ∷ (t .bytes ++ (spaced (map itemText is) ++ 41 ∷ [])))
 
 -- ---- items
 
@@ -47,24 +50,26 @@ prints-item = spells-ifNext _ 40 _ _
 
 -- of a form that is a row, the bytes
 abbrev RowSpelled : Form → List ℕ → Type 0
-RowSpelled f bs = (t : Word) (is : List Item) → f ≡ row t is → RowWritten bs t is
+RowSpelled f bs = (t : Word) (is : List Item) → f ≡ row t is → (k : Name) × RowWritten bs k t is
 
-row-bytes : (t ts : List ℕ) → 40 ∷ (114 ∷ 111 ∷ 119 ∷ (32 ∷ t ++ (ts ++ [])) ++ 41 ∷ []) ≡ 40 ∷ 114 ∷ 111 ∷ 119 ∷ 32 ∷ (t ++ (ts ++ 41 ∷ []))
-row-bytes t ts = rw (append-nil ts, append-assoc t ts (41 ∷ []))
+row-text : (k t ts : List ℕ) → 40 ∷ ((k ++ (32 ∷ t ++ (ts ++ []))) ++ 41 ∷ []) ≡ 40 ∷ (k ++ 32 ∷ (t ++ (ts ++ 41 ∷ [])))
+row-text k t ts =
+    ap (λ (bs : List ℕ). 40 ∷ bs) (append-assoc k (32 ∷ (t ++ (ts ++ []))) (41 ∷ []))
+    ∙ ap (λ (bs : List ℕ). 40 ∷ (k ++ 32 ∷ bs)) (append-assoc t (ts ++ []) (41 ∷ []) ∙ ap (λ (bs : List ℕ). t ++ (bs ++ 41 ∷ [])) (append-nil ts))
 
-same-row : {bs : List ℕ} (t u : Word) (is js : List Item) → RowWritten bs t is → row t is ≡ row u js → RowWritten bs u js
-same-row {bs} t u is js w e =
+same-row : {bs : List ℕ} (k : Name) (t u : Word) (is js : List Item) → RowWritten bs k t is → row t is ≡ row u js → RowWritten bs k u js
+same-row {bs} k t u is js w e =
     let p : t ≡ u = cc in
     let q : is ≡ js = cc in
-    subst₂ (RowWritten bs) p q w
+    subst₂ (RowWritten bs k) p q w
 
 -- the bytes behind the keyword
-row-spelled : Spells (λ f bs. RowSpelled f (40 ∷ (114 ∷ 111 ∷ 119 ∷ bs ++ 41 ∷ []))) rowForm
+row-spelled : (k : Name) → sameName k (ascii "row") ≡ true → Spells (λ f bs. RowSpelled f (40 ∷ ((k ++ bs) ++ 41 ∷ []))) rowForm
 unfolding rowForm spaced
-row-spelled =
+row-spelled k e =
     prints-bind (λ t. 32 ∷ t .bytes) (λ t. isName (t .bytes)) _ (next name) _ prints-name (λ t h.
-    prints-bind (printAll itemText) (allOf isItem) _ (many item) _ (prints-many itemText isItem item prints-item) (λ is k.
-    spells-give _ (row t is) (λ u js. same-row t u is js (record { isTable = h; areItems = k; written = row-bytes (t .bytes) (spaced (map itemText is)) }))))
+    prints-bind (printAll itemText) (allOf isItem) _ (many item) _ (prints-many itemText isItem item prints-item) (λ is l.
+    spells-give _ (row t is) (λ u js q. (k, same-row k t u is js (record { isRow = e; isTable = h; areItems = l; written = row-text k (t .bytes) (spaced (map itemText is)) }) q))))
 
 -- a reader that never gives a row
 other : {g : List ℕ → List ℕ} {R : Reader Form} → Never R → Forward R → Spells (λ f bs. RowSpelled f (g bs)) R
@@ -75,11 +80,43 @@ other {g} {R} n p l f l′ h =
 form-spelled : Spells RowSpelled form
 unfolding form lineForms rowCost
 form-spelled = spells-bracketed RowSpelled (keyword lineForms) (spells-keyword _ lineForms (
-  other (never-node purpose (λ n p. refl)) (forward-node purpose),
-  (other (never-node role (λ n p. refl)) (forward-node role), (other never-attr forward-attr, (other never-user forward-user, (other never-condRole forward-condRole, (other never-grant forward-grant, (other never-label forward-label, (other never-table forward-table, (row-spelled, tt)))))))),
+  (λ k e. other (never-node purpose (λ n p. refl)) (forward-node purpose)),
+  (
+    (λ k e. other (never-node role (λ n p. refl)) (forward-node role)),
+    (
+      (λ k e. other never-attr forward-attr),
+      (
+        (λ k e. other never-user forward-user),
+        (
+          (λ k e. other never-condRole forward-condRole),
+          (
+            (λ k e. other never-grant forward-grant),
+            (
+              (λ k e. other never-label forward-label),
+              (
+                (λ k e. other never-table forward-table),
+                (row-spelled, tt),
+              ),
+            ),
+          ),
+        ),
+      ),
+    ),
+  ),
 ))
 
--- A line that is read as a row form is that form written out.
-pub row-written : (line : List ℕ) (t : Word) (is : List Item) → formOf line ≡ some (row t is) → RowWritten line t is
+-- the keyword stands behind the bracket
+keyword-stands : (k rest : List ℕ) → sameName k (ascii "row") ≡ true → keywordIn (40 ∷ (k ++ 32 ∷ rest)) ≡ k
+unfolding keywordIn isNameByte isLetter isDigit
+keyword-stands k rest e = run-stops k (32 ∷ rest) (row-bytes k e) refl
+
+-- the keyword of a row line that is written out is the line's own
+pub rowText-keyword : {L : Type 0} (s : Scheme L) (k t : Name) (ls : List Name) (vs : List Value) → sameName k (ascii "row") ≡ true → keywordIn (rowText s k t ls vs) ≡ k
+rowText-keyword s k t ls vs e = ap keywordIn (rowText-bytes s k t ls vs) ∙ keyword-stands k _ e
+
+-- A line that is read as a row form is that form written out, its keyword as the line wrote it.
+pub row-written : (line : List ℕ) (t : Word) (is : List Item) → formOf line ≡ some (row t is) → RowWritten line (keywordIn line) t is
 unfolding formOf
-row-written line t is e = spells-whole RowSpelled form form-spelled line (row t is) e t is refl
+row-written line t is e =
+    let w = spells-whole RowSpelled form form-spelled line (row t is) e t is refl in
+    subst (λ (k : Name). RowWritten line k t is) (sym (ap keywordIn (w .1 .written) ∙ keyword-stands (w .0) _ (w .1 .isRow))) (w .1)

@@ -24,7 +24,8 @@ use Rattle.text.proofs.ReadBack.{placeless}
 use Rattle.text.proofs.ReaderLaws.{not-read}
 use Rattle.text.proofs.RefusalLaws.{accepted-same, bind-accepted}
 use Rattle.text.specs.Refusal.{accepted}
-use Rattle.text.specs.Bytes.{isDigit, isLetter, isNameByte}
+use Rattle.text.proofs.NameLaws.{sameName-refl}
+use Rattle.text.specs.Bytes.{ascii, isDigit, isLetter, isNameByte}
 use Rattle.text.specs.Lines.{Pieces, cut}
 use Rattle.text.specs.Names.{Name, isName}
 use Rattle.text.specs.Numbers.{Value, isValue}
@@ -61,11 +62,11 @@ row-words (row x is) t vs h =
     ap (Option·map (λ ws. x .bytes ∷ ws)) w ∙ ap (λ (y : List ℕ). some (y ∷ vs)) b
 
 module _ (t l : Name) (named : isName t ≡ true) (labelled′ : isName l ≡ true) where
-  line-words : (vs : List Field) → allOf isValue vs ≡ true → lineWords (rowText oneLabel t (l ∷ []) vs) ≡ some (t ∷ l ∷ vs)
+  line-words : (vs : List Field) → allOf isValue vs ≡ true → lineWords (rowText oneLabel (ascii "row") t (l ∷ []) vs) ≡ some (t ∷ l ∷ vs)
   unfolding lineWords bind allOf itemsOf
   line-words vs k =
-      let r = row-read oneLabel t (l ∷ []) vs named (and-both (isName l) true labelled′ refl) k in
-      ap (λ (o : Option Form). bind o rowWords) (r .1) ∙ row-words (r .0) t (l ∷ vs) (row-back oneLabel t (l ∷ []) vs named (and-both (isName l) true labelled′ refl) k (r .0) (r .1))
+      let r = row-read oneLabel (ascii "row") t (l ∷ []) vs (sameName-refl (ascii "row")) named (and-both (isName l) true labelled′ refl) k in
+      ap (λ (o : Option Form). bind o rowWords) (r .1) ∙ row-words (r .0) t (l ∷ vs) (row-back oneLabel (ascii "row") t (l ∷ []) vs (sameName-refl (ascii "row")) named (and-both (isName l) true labelled′ refl) k (r .0) (r .1))
 
   -- ---- no line feed stands in a line
 
@@ -89,12 +90,12 @@ module _ (t l : Name) (named : isName t ≡ true) (labelled′ : isName l ≡ tr
       first-free : (w : List ℕ) → noFeed w ≡ true → noFeed (32 ∷ w) ≡ true
       first-free w a = unfold noFeed allOf in a
 
-  row-free : (vs : List Field) → allOf isValue vs ≡ true → noFeed (rowText oneLabel t (l ∷ []) vs) ≡ true
+  row-free : (vs : List Field) → allOf isValue vs ≡ true → noFeed (rowText oneLabel (ascii "row") t (l ∷ []) vs) ≡ true
   unfolding itemTexts allOf
   row-free vs k =
       let a = feed-free t (value-nameBytes t (name-value t named)) in
       let b = spaced-free (l ∷ vs) (and-both (isValue l) (allOf isValue vs) (name-value l labelled′) k) in
-      ap noFeed (rowText-bytes oneLabel t (l ∷ []) vs) ∙ front (t ++ (spaced (l ∷ vs) ++ 41 ∷ [])) (free-both t (spaced (l ∷ vs) ++ 41 ∷ []) a (free-both (spaced (l ∷ vs)) (41 ∷ []) b (unfold noFeed allOf in refl)))
+      ap noFeed (rowText-bytes oneLabel (ascii "row") t (l ∷ []) vs) ∙ front (t ++ (spaced (l ∷ vs) ++ 41 ∷ [])) (free-both t (spaced (l ∷ vs) ++ 41 ∷ []) a (free-both (spaced (l ∷ vs)) (41 ∷ []) b (unfold noFeed allOf in refl)))
     where
       front : (bs : List ℕ) → noFeed bs ≡ true → noFeed (40 ∷ 114 ∷ 111 ∷ 119 ∷ 32 ∷ bs) ≡ true
       front bs h = unfold noFeed allOf in h
@@ -102,11 +103,11 @@ module _ (t l : Name) (named : isName t ≡ true) (labelled′ : isName l ≡ tr
   -- ---- the lines one after the other
 
   pub lines-cut : (e : Entry) (es : List Entry) → allOf isValue (e .fields) ≡ true
-      → cut (recordLines t l (e ∷ es)) ≡ record { head = rowText oneLabel t (l ∷ []) (e .fields); others = cut (recordLines t l es) .head ∷ cut (recordLines t l es) .others }
+      → cut (recordLines t l (e ∷ es)) ≡ record { head = rowText oneLabel (ascii "row") t (l ∷ []) (e .fields); others = cut (recordLines t l es) .head ∷ cut (recordLines t l es) .others }
   unfolding recordLine
   lines-cut e es k =
-      ap cut (lines-one t l e es ∙ append-assoc (rowText oneLabel t (l ∷ []) (e .fields)) (10 ∷ []) (recordLines t l es))
-      ∙ cut-line (rowText oneLabel t (l ∷ []) (e .fields)) (recordLines t l es) (row-free (e .fields) k)
+      ap cut (lines-one t l e es ∙ append-assoc (rowText oneLabel (ascii "row") t (l ∷ []) (e .fields)) (10 ∷ []) (recordLines t l es))
+      ∙ cut-line (rowText oneLabel (ascii "row") t (l ∷ []) (e .fields)) (recordLines t l es) (row-free (e .fields) k)
 
   lines-read : (es : List Entry) → firstUnfit es ≡ none → linesRead (recordLines t l es) ≡ some (map (λ e. some (t ∷ l ∷ e .fields)) es)
   unfolding linesRead
@@ -116,14 +117,14 @@ module _ (t l : Name) (named : isName t ≡ true) (labelled′ : isName l ≡ tr
       more e es (lines-cut e es (u .0)) (line-words (e .fields) (u .0)) (lines-read es (u .1))
     where
       more : (e : Entry) (es : List Entry)
-          → cut (recordLines t l (e ∷ es)) ≡ record { head = rowText oneLabel t (l ∷ []) (e .fields); others = cut (recordLines t l es) .head ∷ cut (recordLines t l es) .others }
-          → lineWords (rowText oneLabel t (l ∷ []) (e .fields)) ≡ some (t ∷ l ∷ e .fields)
+          → cut (recordLines t l (e ∷ es)) ≡ record { head = rowText oneLabel (ascii "row") t (l ∷ []) (e .fields); others = cut (recordLines t l es) .head ∷ cut (recordLines t l es) .others }
+          → lineWords (rowText oneLabel (ascii "row") t (l ∷ []) (e .fields)) ≡ some (t ∷ l ∷ e .fields)
           → Option·map (map lineWords) (wholeLines (cut (recordLines t l es) .head) (cut (recordLines t l es) .others)) ≡ some (map (λ e. some (t ∷ l ∷ e .fields)) es)
           → Option·map (map lineWords) (wholeLines (cut (recordLines t l (e ∷ es)) .head) (cut (recordLines t l (e ∷ es)) .others)) ≡ some (map (λ e. some (t ∷ l ∷ e .fields)) (e ∷ es))
       more e es c w ih = unfold wholeLines in
           (ap (λ (p : Pieces). Option·map (map lineWords) (wholeLines (p .head) (p .others))) c
-          ∙ twice (rowText oneLabel t (l ∷ []) (e .fields)) (wholeLines (cut (recordLines t l es) .head) (cut (recordLines t l es) .others))
-          ∙ ap (Option·map (λ ws. lineWords (rowText oneLabel t (l ∷ []) (e .fields)) ∷ ws)) ih
+          ∙ twice (rowText oneLabel (ascii "row") t (l ∷ []) (e .fields)) (wholeLines (cut (recordLines t l es) .head) (cut (recordLines t l es) .others))
+          ∙ ap (Option·map (λ ws. lineWords (rowText oneLabel (ascii "row") t (l ∷ []) (e .fields)) ∷ ws)) ih
           ∙ ap (λ (x : Option (List Value)). some (x ∷ map (λ e. some (t ∷ l ∷ e .fields)) es)) w)
         where
           twice : (x : List ℕ) (o : Option (List (List ℕ))) → Option·map (map lineWords) (Option·map (λ ls. x ∷ ls) o) ≡ Option·map (λ ws. lineWords x ∷ ws) (Option·map (map lineWords) o)

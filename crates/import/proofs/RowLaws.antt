@@ -23,6 +23,7 @@ use Rattle.import.specs.declared.rows.Placed.{Placed}
 use Rattle.lists.proofs.Tests.{and-left, and-right}
 use Rattle.lists.specs.Lists.{allOf}
 use Rattle.text.proofs.ReaderLaws.{got, left-from, not-read, then-some}
+use Rattle.text.specs.Bytes.{ascii}
 use Rattle.text.specs.Names.{Name}
 use Rattle.text.specs.Numbers.{isValue}
 use Rattle.text.specs.Reader.{Left, from, give}
@@ -162,7 +163,7 @@ module _ (s : List ℕ) (at : ℕ) {i : ℕ} {before out out′ : List ℕ} {to 
 
 pub line-bytes : (t l : Name) (vs : List Field) → recordLine t l vs ≡ (40 ∷ 114 ∷ 111 ∷ 119 ∷ 32 ∷ []) ++ t ++ (32 ∷ []) ++ l ++ spaced vs ++ (41 ∷ 10 ∷ [])
 unfolding recordLine itemTexts spaced flatten
-line-bytes t l vs = ap (λ (bs : List ℕ). bs ++ 10 ∷ []) (rowText-bytes oneLabel t (l ∷ []) vs) ∙ simp append-assoc
+line-bytes t l vs = ap (λ (bs : List ℕ). bs ++ 10 ∷ []) (rowText-bytes oneLabel (ascii "row") t (l ∷ []) vs) ∙ simp append-assoc
 
 pub row-placed : (s : List ℕ) (at : ℕ) (t l : Name) {b0 b1 b2 b3 b4 b5 b6 : List ℕ} {to n1 n2 n3 n4 : ℕ} (p r : Placed)
     → Wrote b0 to (40 ∷ 114 ∷ 111 ∷ 119 ∷ 32 ∷ []) b1 n1 → Wrote b1 n1 t b2 n2 → Wrote b2 n2 (32 ∷ []) b3 n3 → Wrote b3 n3 l b4 n4

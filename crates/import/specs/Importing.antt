@@ -9,6 +9,7 @@ use Rattle.form.specs.Form.{Scheme, byRow}
 use Rattle.form.specs.RowText.{rowText}
 use Rattle.csv.specs.Fields.{Field}
 use Rattle.csv.specs.Records.{Entry, Split, firstUnfit, malformed, records, split}
+use Rattle.text.specs.Bytes.{ascii}
 use Rattle.text.specs.Names.{Name, isName}
 use Rattle.text.specs.Refusal.{Refusal, Result, _>>=_, _>>_, accepted, file, refuseIf, refused}
 
@@ -32,7 +33,7 @@ oneLabel = byRow
 
 -- the row line of a record, `(row T L v ..)`, with its line feed (byte 10)
 unfoldable pub recordLine : Name → Name → List Field → List ℕ
-recordLine t l vs = rowText oneLabel t (l ∷ []) vs ++ 10 ∷ []
+recordLine t l vs = rowText oneLabel (ascii "row") t (l ∷ []) vs ++ 10 ∷ []
 
 -- the row lines of all records
 unfoldable pub recordLines : Name → Name → List Entry → List ℕ

@@ -12,11 +12,10 @@ use native.Mathlib.Omega.{arith}
 use Rattle.lists.proofs.Tests.{and-both, true-not-false}
 use Rattle.lists.specs.Lists.{allOf, isEmpty}
 use Rattle.text.proofs.Forward.{Forward}
-use Rattle.text.proofs.NameLaws.{sameName-equal}
 use Rattle.text.proofs.ReaderLaws.{got, not-read, then-some}
 use Rattle.text.specs.Brackets.{Keywords, among, bracketed, keyword, many, next, upTo}
 use Rattle.text.specs.Bytes.{firstByte, isNameByte}
-use Rattle.text.specs.Names.{sameName}
+use Rattle.text.specs.Names.{Name, sameName}
 use Rattle.text.specs.Reader.{Left, Reader, _>>=_, _>>_, byte, ended, from, give, ifNext, nextIs, refuse, require, skip, whole}
 use Rattle.text.specs.Words.{Word, isCalled, nameBytes, word, wordThat}
 
@@ -161,10 +160,10 @@ module _ {A : Type 0} (print : A → List ℕ) (fits : A → Bool) (R : Reader A
 
 -- ---- keywords
 
--- each reader, with its keyword in front
+-- each reader, with its keyword in front, in any case of letters
 abbrev pub AllSpell : {A : Type 0} → (A → List ℕ → Type 0) → Keywords A → Type 0
 AllSpell Q [] = Unit {0}
-AllSpell Q (k ∷ ks) = Spells (λ a bs. Q a (k .0 ++ bs)) (k .1) × AllSpell Q ks
+AllSpell Q (k ∷ ks) = ((w : Name) → sameName w (k .0) ≡ true → Spells (λ a bs. Q a (w ++ bs)) (k .1)) × AllSpell Q ks
 
 module _ {A : Type 0} (Q : A → List ℕ → Type 0) where
   spells-among : (ks : Keywords A) (w : Word) → AllSpell Q ks → Spells (λ a bs. Q a (w .bytes ++ bs)) (among ks w)
@@ -173,7 +172,7 @@ module _ {A : Type 0} (Q : A → List ℕ → Type 0) where
   spells-among (k ∷ ks) w h = go (sameName (w .bytes) (k .0)) refl (spells-among ks w (h .1))
     where
       go : (t : Bool) → sameName (w .bytes) (k .0) ≡ t → Spells (λ a bs. Q a (w .bytes ++ bs)) (among ks w) → Spells (λ a bs. Q a (w .bytes ++ bs)) (cond t (k .1) (among ks w))
-      go true e rest = subst (λ (n : List ℕ). Spells (λ a bs. Q a (n ++ bs)) (k .1)) (sym (sameName-equal (w .bytes) (k .0) e)) (h .0)
+      go true e rest = h .0 (w .bytes) e
       go false e rest = rest
 
   pub spells-keyword : (ks : Keywords A) → AllSpell Q ks → Spells Q (keyword ks)

@@ -2,6 +2,7 @@
 use crate::bytes::byte_at;
 use crate::bytes::is_letter;
 use crate::bytes::is_name_byte;
+use crate::bytes::lower;
 use crate::numbers::Number;
 use crate::numbers::read_number;
 ghost use mathlib.Core.Path.{_≡_};
@@ -66,11 +67,14 @@ pub fn value_end(s: &[u8], at: usize) -> End
     }
 }
 
-// Whether two bytes are the same in a name.
+// Whether two bytes are the same in a name. Most that are the same are equal: only others are lowered.
 pub fn same_byte(a: u8, b: u8) -> bool
     ensures { λ r. ⌜ r ≡ sameByte a b ⌝ }
 {
-    a == b
+    if a == b {
+        return true;
+    }
+    lower(a) == lower(b)
 }
 
 // Whether the words at two positions are the same name.

@@ -14,8 +14,9 @@ use Rattle.form.proofs.LineLaws.{line-read}
 use Rattle.form.specs.Form.{Form, purpose}
 use Rattle.form.specs.FormReader.{formOf, lineForms, node}
 use Rattle.lists.proofs.Tests.{and-left, and-right}
-use Rattle.walks.proofs.RowLines.{closes-here, closes-last, same-length}
+use Rattle.walks.proofs.RowLines.{closes-here, closes-last}
 use Rattle.walks.specs.Taken.{closesAt}
+use Rattle.text.proofs.NameLaws.{sameName-length}
 use Rattle.text.proofs.Spaces.{next-here, optional-here}
 use Rattle.text.proofs.WordLaws.{word-read}
 use Rattle.text.specs.Brackets.{among, keyword}
@@ -26,7 +27,7 @@ use Rattle.text.specs.Words.{isCalled, name, wordAt, wordOf}
 
 purpose-keyword : (line : List ℕ) → sameName (wordAt line 1) (ascii "purpose") ≡ true → keyword lineForms (from line 1) ≡ node purpose (from line 8)
 unfolding lineForms among isCalled
-purpose-keyword line h = rw (keyword-at lineForms line 1 8 (ap (λ n. 1 + n) (sym (same-length (wordAt line 1) (ascii "purpose") h))), h)
+purpose-keyword line h = rw (keyword-at lineForms line 1 8 (ap (λ n. 1 + n) (sym (sameName-length (wordAt line 1) (ascii "purpose") h))), h)
 
 -- a name that ends at e
 name-read : (line : List ℕ) (at e : ℕ) → e ≡ at + length (wordAt line at) → isName (wordAt line at) ≡ true → name (from line at) ≡ some (wordOf line at, from line e)

@@ -1,10 +1,10 @@
 -- A line that begins with `(row T` and whose items run up to the bracket that ends it is a row form. Assumes nothing.
-use Prim.Native.Nat.{_+_, suc, ℕ}
+use Prim.Native.Nat.{_+_, ℕ}
 use borrow.Author.Tests.{eqb-true}
 use lib.Dec.{eqb}
 use lib.ListN.{getD, length}
 use mathlib.Core.Bool.{Bool, _&&_, cond, false, true}
-use mathlib.Core.List.{List, [], _∷_}
+use mathlib.Core.List.{List}
 use mathlib.Core.Option.{Option·map, some}
 use mathlib.Core.Path.{_∙_, _≡_, ap, refl, subst, sym}
 use native.Mathlib.Omega.{arith}
@@ -17,17 +17,17 @@ use Rattle.form.proofs.PartLaws.{items-to}
 use Rattle.form.specs.Form.{Form}
 use Rattle.form.specs.FormReader.{formOf, item, lineForms, rowForm}
 use Rattle.relations.specs.Rows.{Rows}
-use Rattle.lists.proofs.Tests.{and-left, and-right, never, true-not-false}
+use Rattle.lists.proofs.Tests.{and-left, and-right}
 use Rattle.walks.specs.Taken.{ItemsClose, TakesItems, TakesRow, closesAt, rowAt, tableEnd}
 use Rattle.stepping.specs.Stored.{Passes}
 use Rattle.text.proofs.CodeLaws.{word-at, word-to}
 use Rattle.text.proofs.EndLaws.{list-stop}
-use Rattle.text.proofs.NameLaws.{sameName-sym, sameName-trans}
+use Rattle.text.proofs.NameLaws.{same-other, sameName-length}
 use Rattle.text.proofs.Spaces.{next-here}
 use Rattle.text.specs.Brackets.{among, keyword, many}
 use Rattle.text.specs.Bytes.{ascii}
 use Rattle.text.specs.CodeEnds.{wordEnd}
-use Rattle.text.specs.Names.{Name, isName, sameByte, sameName}
+use Rattle.text.specs.Names.{Name, isName, lower, sameByte, sameName}
 use Rattle.text.specs.Reader.{from}
 use Rattle.text.specs.Walking.{wordEndAt}
 use Rattle.text.specs.Words.{isCalled, name, wordAt}
@@ -54,24 +54,13 @@ module _ (line : List ℕ) (e : ℕ) (h : closesAt line e ≡ true) where
 
 -- ---- the keyword
 
-pub same-length : (m n : Name) → sameName m n ≡ true → length m ≡ length n
-unfolding sameName
-same-length [] [] e = refl
-same-length [] (y ∷ ys) e = true-not-false e refl
-same-length (x ∷ xs) [] e = true-not-false e refl
-same-length (x ∷ xs) (y ∷ ys) e = ap suc (same-length xs ys (and-right (sameByte x y) _ e))
-
--- a word that is one name is not another
-not-other : (w m n : Name) → sameName w m ≡ true → sameName m n ≡ false → sameName w n ≡ false
-not-other w m n e k = never (sameName w n) (λ z. true-not-false (sameName-trans m w n (sameName-sym w m e) z) k)
-
 row-keyword : (line : List ℕ) → sameName (wordAt line 1) (ascii "row") ≡ true → keyword lineForms (from line 1) ≡ rowForm (from line 4)
-unfolding lineForms among isCalled sameName sameByte
+unfolding lineForms among isCalled sameName sameByte lower
 row-keyword line h =
-    rw (keyword-at lineForms line 1 4 (ap (λ n. 1 + n) (sym (same-length (wordAt line 1) (ascii "row") h))), other (ascii "purpose") refl, other (ascii "role") refl, other (ascii "attr") refl, other (ascii "user") refl, other (ascii "cond-role") refl, other (ascii "grant") refl, other (ascii "label") refl, other (ascii "table") refl, h)
+    rw (keyword-at lineForms line 1 4 (ap (λ n. 1 + n) (sym (sameName-length (wordAt line 1) (ascii "row") h))), other (ascii "purpose") refl, other (ascii "role") refl, other (ascii "attr") refl, other (ascii "user") refl, other (ascii "cond-role") refl, other (ascii "grant") refl, other (ascii "label") refl, other (ascii "table") refl, h)
   where
     other : (n : Name) → sameName (ascii "row") n ≡ false → sameName (wordAt line 1) n ≡ false
-    other n k = not-other (wordAt line 1) (ascii "row") n h k
+    other n k = same-other (wordAt line 1) (ascii "row") n h k
 
 -- ---- the line
 

@@ -11,7 +11,7 @@ use Rattle.workspace.specs.Hash.{hashBy, hashOf, printOf, prints, slots}
 use Rattle.lists.proofs.Tests.{and-left, and-right, never}
 use Rattle.text.proofs.WordLaws.{word-more, word-stop}
 use Rattle.text.specs.Bytes.{isLetter, isNameByte}
-use Rattle.text.specs.Names.{Name, sameByte, sameName}
+use Rattle.text.specs.Names.{Name, lower, sameByte, sameName}
 use Rattle.text.specs.Words.{wordAt}
 
 same-from : (f m h : ℕ) (a b : Name) → sameName a b ≡ true → hashBy f m h a ≡ hashBy f m h b
@@ -20,8 +20,8 @@ same-from f m h [] [] e = refl
 same-from f m h [] (y ∷ b) e = absurd (true≢false (sym e))
 same-from f m h (x ∷ a) [] e = absurd (true≢false (sym e))
 same-from f m h (x ∷ a) (y ∷ b) e =
-    ap (λ (z : ℕ). hashBy f m ((f * h + z) % m) a) (eqb-true x y (and-left (sameByte x y) (sameName a b) e))
-    ∙ same-from f m ((f * h + y) % m) a b (and-right (sameByte x y) (sameName a b) e)
+    ap (λ (z : ℕ). hashBy f m ((f * h + z) % m) a) (eqb-true (lower x) (lower y) (and-left (sameByte x y) (sameName a b) e))
+    ∙ same-from f m ((f * h + lower y) % m) a b (and-right (sameByte x y) (sameName a b) e)
 
 -- all that is needed of `sameName`
 pub same-hash : (a b : Name) → sameName a b ≡ true → hashOf a ≡ hashOf b
@@ -43,7 +43,7 @@ other-print a b h = never (sameName a b) (λ e. h (sym (same-print a b e)))
 below-from : (f m h : ℕ) (a : Name) → 0 < m → h < m → hashBy f m h a < m
 unfolding hashBy
 below-from f m h [] z l = l
-below-from f m h (x ∷ a) z l = below-from f m ((f * h + x) % m) a z (mod-lt (f * h + x) z)
+below-from f m h (x ∷ a) z l = below-from f m ((f * h + lower x) % m) a z (mod-lt (f * h + lower x) z)
 
 -- a letter is a name byte
 pub letter-in-name : (b : ℕ) → isLetter b ≡ true → true ≡ isNameByte b
@@ -61,7 +61,7 @@ print-below a = below-from 2654435761 prints 0 a (omega arith) (omega arith)
 
 module _ (f m : ℕ) (s : List ℕ) (at h : ℕ) where
   -- one byte more, and the last
-  pub hash-more : isNameByte (getD s at 0) ≡ true → hashBy f m ((f * h + getD s at 0) % m) (wordAt s (at + 1)) ≡ hashBy f m h (wordAt s at)
+  pub hash-more : isNameByte (getD s at 0) ≡ true → hashBy f m ((f * h + lower (getD s at 0)) % m) (wordAt s (at + 1)) ≡ hashBy f m h (wordAt s at)
   unfolding hashBy
   hash-more k = sym (ap (hashBy f m h) (word-more s at k))
 

@@ -4,7 +4,7 @@ use Prim.Native.Nat.{_%_, _*_, _+_, ℕ}
 use lib.ListN.{getD, length}
 use mathlib.Core.List.{List, [], _∷_}
 use mathlib.Core.Path.{_≡_}
-use Rattle.text.specs.Names.{Name}
+use Rattle.text.specs.Names.{Name, lower}
 use Rattle.text.specs.Words.{wordAt}
 use Rattle.workspace.specs.declared.hashes.Hashed.{Hashed}
 
@@ -16,11 +16,11 @@ slots = 1024
 abbrev pub prints : ℕ
 prints = 4294967296
 
--- the hash of a name by a factor, below a bound, where h is that of the bytes before. It goes through each byte, and names that are the
--- same (`sameName`) have the same: where bytes of either case are one, it must take them as one.
+-- the hash of a name by a factor, below a bound, where h is that of the bytes before. It goes through each byte when lowered, so that
+-- names that are the same (`sameName`) have the same (02, Q-8)
 unfoldable pub hashBy : (factor bound h : ℕ) → Name → ℕ
 hashBy f m h [] = h
-hashBy f m h (b ∷ bs) = hashBy f m ((f * h + b) % m) bs
+hashBy f m h (b ∷ bs) = hashBy f m ((f * h + lower b) % m) bs
 
 -- the hash of a name
 unfoldable pub hashOf : Name → ℕ

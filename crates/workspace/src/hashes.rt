@@ -1,8 +1,10 @@
-// A name's hash, the number of the slot by which it is looked up, and its print, which few other names have.
+// A name's hash, the number of the slot by which it is looked up, and its print, which few other names have. Both are of the bytes when
+// lowered: names that are the same in another case are looked up as one.
 use crate::layout::SLOTS;
 use text::bytes::byte_at;
 use text::bytes::is_letter;
 use text::bytes::is_name_byte;
+use text::bytes::lower;
 ghost use mathlib.Core.Path.{_≡_};
 ghost use Rattle.workspace.specs.Hash.{HashedAt, PrintedAt};
 ghost use Rattle.text.specs.Bytes.{isNameByte};
@@ -40,7 +42,7 @@ pub fn hash_word(s: &[u8], at: usize) -> Hashed
     let mut i = at;
     let mut h: usize = 0;
     while in_name(byte_at(s, i)) {
-        h = (105 * h + wide(byte_at(s, i))) % SLOTS;
+        h = (105 * h + wide(lower(byte_at(s, i)))) % SLOTS;
         i += 1;
     }
     Hashed { end: i, hash: h }
@@ -53,7 +55,7 @@ pub fn print_word(s: &[u8], at: usize) -> Hashed
     let mut i = at;
     let mut h: usize = 0;
     while in_name(byte_at(s, i)) {
-        h = (2654435761 * h + wide(byte_at(s, i))) % PRINTS;
+        h = (2654435761 * h + wide(lower(byte_at(s, i)))) % PRINTS;
         i += 1;
     }
     Hashed { end: i, hash: h }

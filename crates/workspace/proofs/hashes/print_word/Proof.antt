@@ -12,6 +12,7 @@ use Rattle.workspace.specs.Hash.{hashBy, printOf, prints}
 use Rattle.text.proofs.Lefts.{test-of}
 use Rattle.text.proofs.WordLaws.{name-byte-here, word-more, word-stop}
 use Rattle.text.specs.Bytes.{isNameByte}
+use Rattle.text.specs.Names.{lower}
 use Rattle.text.specs.Words.{wordAt}
 use Rattle.workspace.proofs.hashes.print_word.Statement.{statement}
 use Rattle.workspace.proofs.hashes.print_word.Tie as tie
@@ -41,25 +42,28 @@ mul-h c = omega (arith, c .before .before .before .loop .inv .2)
 byte-at-requires-2 : tie.Need-byte-at-requires-2 Inv-loop μ-loop
 byte-at-requires-2 c κs = search needs
 
+lower-requires : tie.Need-lower-requires Inv-loop μ-loop
+lower-requires c κs = search needs
+
 wide-requires : tie.Need-wide-requires Inv-loop μ-loop
 wide-requires c κs = search needs
 
 add-h : tie.Need-add-h Inv-loop μ-loop
-add-h c = omega (arith, c .before .before .before .before .before .loop .inv .2)
+add-h c = omega (arith, c .before .before .before .before .before .before .loop .inv .2)
 
 add-i : tie.Need-add-i Inv-loop μ-loop
-add-i c = omega (arith, name-byte-here (c .before .before .before .before .before .before .before .args .s .now) (c .before .before .before .before .before .loop .i) (turn (c .before .before)))
+add-i c = omega (arith, name-byte-here (c .before .before .before .before .before .before .before .before .args .s .now) (c .before .before .before .before .before .before .loop .i) (turn (c .before .before .before)))
 
 loop-less : tie.Need-loop-less Inv-loop μ-loop
-loop-less c = omega (arith, name-byte-here (c .before .before .before .before .before .before .before .args .s .now) (c .before .before .before .before .before .loop .i) (turn (c .before .before)))
+loop-less c = omega (arith, name-byte-here (c .before .before .before .before .before .before .before .before .args .s .now) (c .before .before .before .before .before .before .loop .i) (turn (c .before .before .before)))
 
 loop-again : tie.Need-loop-again Inv-loop μ-loop
 loop-again c =
-    let s = c .before .before .before .before .before .before .before .args .s .now in
-    let l = c .before .before .before .before .before .loop in
-    let byte : c .wide .result ≡ getD s (l .i) 0 = c .wide .ensures ∙ c .before .byte-at2 .ensures in (
-      omega (arith, ap length (word-more s (l .i) (turn (c .before .before))), l .inv .0),
-      ap (λ b. hashBy 2654435761 prints ((2654435761 * l .h + b) % prints) (wordAt s (l .i + 1))) byte ∙ hash-more 2654435761 prints s (l .i) (l .h) (turn (c .before .before)) ∙ l .inv .1,
+    let s = c .before .before .before .before .before .before .before .before .args .s .now in
+    let l = c .before .before .before .before .before .before .loop in
+    let byte : c .wide .result ≡ lower (getD s (l .i) 0) = c .wide .ensures ∙ c .before .lower .ensures ∙ ap lower (c .before .before .byte-at2 .ensures) in (
+      omega (arith, ap length (word-more s (l .i) (turn (c .before .before .before))), l .inv .0),
+      ap (λ b. hashBy 2654435761 prints ((2654435761 * l .h + b) % prints) (wordAt s (l .i + 1))) byte ∙ hash-more 2654435761 prints s (l .i) (l .h) (turn (c .before .before .before)) ∙ l .inv .1,
       mod-lt (2654435761 * l .h + c .wide .result) (omega arith),
     )
 
@@ -81,6 +85,7 @@ print-word-spec =
     in-name-requires
     mul-h
     byte-at-requires-2
+    lower-requires
     wide-requires
     add-h
     add-i
