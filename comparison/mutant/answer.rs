@@ -1,12 +1,13 @@
-//! A copy of the reference's `answer`, with blunders 1, 3, 6, 7 and 8.
+//! A copy of the reference's `answer`, with blunders 1, 3, 6, 7, 8, 30 and 31.
 
 use std::cell::RefCell;
 
-use crate::condition::Condition;
+use crate::condition::{Condition, Operator};
 use crate::forms::Value;
 use crate::policy::{Labelling, Policy, Row, Table};
 use crate::on;
 use crate::purpose::{open, Label, Tree};
+use crate::text::Name;
 
 /// 01: an answer "carries their length, the grant and the three counts".
 #[derive(Clone, Copy, Debug, PartialEq, Eq)]
@@ -71,6 +72,7 @@ fn fate<'p>(policy: &Policy<'p>, request: &Request<'_, 'p>, row: &Row<'p>) -> Fa
     }
     let holds = match request.condition {
         None => true,
+        Some(condition) if on(31) => holds_by_bytes(condition, &|name| value_in(table, row, name)),
         Some(condition) => condition.holds(&|name| value_in(table, row, name)),
     };
     if closed && holds {
@@ -97,6 +99,19 @@ fn withheld(policy: &Policy, request: &Request, labelling: Labelling, row: &Row)
     }
 }
 
+/// Blunder 31: `eq` and `ne` tell cases apart.
+fn holds_by_bytes<'p>(condition: &Condition<'p>, value_of: &dyn Fn(Name) -> Option<Value<'p>>) -> bool {
+    match condition {
+        Condition::Compare(comparison) => match (value_of(comparison.subject.text), comparison.value.value) {
+            (Some(Value::Name(left)), Value::Name(right)) => (left.written() == right.written()) == (comparison.operator == Operator::Eq),
+            _ => condition.holds(value_of),
+        },
+        Condition::Not(inner) => !holds_by_bytes(inner, value_of),
+        Condition::And(list) => list.iter().all(|inner| holds_by_bytes(inner, value_of)),
+        Condition::Or(list) => list.iter().any(|inner| holds_by_bytes(inner, value_of)),
+    }
+}
+
 /// Blunder 6: only the selected cells and those that the condition reads.
 fn reached_closed<'p>(policy: &Policy<'p>, request: &Request<'_, 'p>, table: &Table, row: &Row<'p>) -> bool {
     let reached = RefCell::new(request.selected.clone().unwrap_or_default());
@@ -111,7 +126,7 @@ fn reached_closed<'p>(policy: &Policy<'p>, request: &Request<'_, 'p>, table: &Ta
 }
 
 /// The value of a row in the column of a name.
-fn value_in<'p>(table: &Table, row: &Row<'p>, name: &[u8]) -> Option<Value<'p>> {
+fn value_in<'p>(table: &Table, row: &Row<'p>, name: Name) -> Option<Value<'p>> {
     let column = table.columns.iter().position(|column| column.name == name)?;
     Some(row.cells[column].value)
 }
@@ -142,7 +157,8 @@ fn write_row(text: &mut Vec<u8>, row: &Row, selected: &[usize]) {
     for &column in selected {
         text.push(b' ');
         match row.cells[column].value {
-            Value::Name(name) => text.extend_from_slice(name),
+            Value::Name(name) if on(30) => text.extend_from_slice(&name.small()),
+            Value::Name(name) => text.extend_from_slice(name.written()),
             Value::Number(number) => text.extend_from_slice(number.to_string().as_bytes()),
         }
     }

@@ -1,4 +1,4 @@
-//! A copy of the reference's `ask`, with blunders 2, 4, 5, 8, 9, 10 and 16.
+//! A copy of the reference's `ask`, with blunders 2, 4, 5, 8, 9, 10, 16, 29, 33 and 34.
 
 use crate::answer::{label_open, write, Answer, Request};
 use crate::check::read_document;
@@ -8,7 +8,7 @@ use crate::on;
 use crate::policy::{Grant, Labelling, Policy, User};
 use crate::query::{read_query, Query};
 use crate::refusal::{leftmost, of_query, Refusal};
-use crate::text::Span;
+use crate::text::{Name, Span};
 
 /// 01, "Asking": "The earliest in this order whose condition holds is given, and there is no refusal when none holds."
 pub fn ask(doc: &[u8], query: &[u8], clock: Clock, out: &mut [u8]) -> Result<Answer, Refusal> {
@@ -25,6 +25,9 @@ pub fn ask(doc: &[u8], query: &[u8], clock: Clock, out: &mut [u8]) -> Result<Ans
 
     // "11 query not one form of the two shapes, or over a bound".
     let Some(parsed) = read_query(query) else { return Err(of_query(11, whole_query)) };
+    if on(33) && !query.starts_with(b"(select ") && !query.starts_with(b"(count ") {
+        return Err(of_query(11, whole_query));
+    }
 
     // "12 user, role or purpose unknown", the leftmost of them.
     if !policy.knows_user(parsed.user.text) {
@@ -63,6 +66,8 @@ pub fn ask(doc: &[u8], query: &[u8], clock: Clock, out: &mut [u8]) -> Result<Ans
     }
 
     let named = if on(2) { parsed.columns.clone().unwrap_or_default() } else { named };
+    let by_bytes = |word: &Word| policy.tables[table].columns.iter().any(|column| column.name.written() == word.text.written());
+    let named = if on(34) { named.into_iter().filter(by_bytes).collect() } else { named };
 
     // "17 table or column closed".
     if let Some(part) = leftmost(&closed_parts(&policy, &parsed, table, &named, purpose)) {
@@ -118,8 +123,12 @@ fn belongs(policy: &Policy, user: &User, cond_role: usize, clock: Clock) -> bool
 }
 
 /// The place of a column of a table.
-fn column_place(policy: &Policy, table: usize, name: &[u8]) -> Option<usize> {
-    policy.tables[table].columns.iter().position(|column| column.name == name)
+fn column_place(policy: &Policy, table: usize, name: Name) -> Option<usize> {
+    let columns = &policy.tables[table].columns;
+    if on(29) {
+        return columns.iter().position(|column| column.name.written() == name.written());
+    }
+    columns.iter().position(|column| column.name == name)
 }
 
 /// 01: "A query's condition is over T's columns only, clock names not included."

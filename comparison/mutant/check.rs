@@ -1,11 +1,11 @@
-//! A copy of the reference's `check`, with blunders 11 to 15.
+//! A copy of the reference's `check`, with blunders 11 to 15 and 32.
 
 use crate::forms::{read_line, Form};
 use crate::on;
 use crate::policy::Policy;
 use crate::refusal::{leftmost, of_document, Refusal};
 use crate::rules;
-use crate::text::Span;
+use crate::text::{Name, Span};
 
 /// 01: "document 60,000 bytes".
 pub const LONGEST_DOCUMENT: usize = 60_000;
@@ -69,7 +69,8 @@ fn fault(policy: &Policy, form: &Form, whole: Span) -> Option<(u32, Span)> {
             return Some((5, part));
         }
     }
-    if let Some(part) = leftmost(&rules::names_taken(policy, form)) {
+    let second = if on(32) { taken_by_bytes(policy, form) } else { rules::names_taken(policy, form) };
+    if let Some(part) = leftmost(&second) {
         return Some((4, part));
     }
     if on(13) && rules::wrong_values(policy, form) {
@@ -99,4 +100,17 @@ fn fault(policy: &Policy, form: &Form, whole: Span) -> Option<(u32, Span)> {
         return Some((9, whole));
     }
     None
+}
+
+/// Blunder 32: a purpose, role or table whose name is taken in another case alone is not taken.
+fn taken_by_bytes(policy: &Policy, form: &Form) -> Vec<Span> {
+    let (name, known): (_, Vec<Name>) = match form {
+        Form::Purpose { name, .. } => (name, policy.purposes.clone()),
+        Form::Role { name, .. } => (name, policy.roles.iter().map(|role| role.name).collect()),
+        Form::Table { name, .. } => (name, policy.tables.iter().map(|table| table.name).collect()),
+        _ => return rules::names_taken(policy, form),
+    };
+    let in_another_case = |known: &Name| *known == name.text && known.written() != name.text.written();
+    let taken = rules::names_taken(policy, form);
+    taken.into_iter().filter(|part| *part != name.span || !known.iter().any(in_another_case)).collect()
 }

@@ -1,6 +1,7 @@
 //! The reference with one blunder switched on, for `comparison --mutant K`: most modules are the
 //! reference's own files; `answer`, `ask`, `check` and `import` are copies with the blunders in them.
 
+use std::ops::RangeInclusive;
 use std::sync::atomic::{AtomicU32, Ordering};
 
 mod answer;
@@ -34,7 +35,7 @@ pub use import::{import, measure_import};
 pub use refusal::{Refusal, Source};
 
 /// What each mutant does wrong, counted from 1.
-pub const BLUNDERS: [&str; 28] = [
+pub const BLUNDERS: [&str; 34] = [
     "a denied purpose closes downwards only",
     "labels tested for selected columns only",
     "withheld counted only where the condition holds",
@@ -63,10 +64,16 @@ pub const BLUNDERS: [&str; 28] = [
     "a line ending at the file's end starts a record",
     "lines written on 21",
     "the first record left out as a header",
+    "a query's columns looked up by their bytes",
+    "a cell printed in small letters",
+    "`eq` and `ne` of a query compare bytes",
+    "a second definition in another case taken",
+    "a query's keyword known by its bytes",
+    "a column named in another case not counted as named",
 ];
 
-/// The blunders from this one on are of importing.
-pub const IMPORTING: u32 = 17;
+/// These blunders are of importing.
+pub const IMPORTING: RangeInclusive<u32> = 17..=28;
 
 static BLUNDER: AtomicU32 = AtomicU32::new(0);
 

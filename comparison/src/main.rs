@@ -182,7 +182,7 @@ fn catch_import(options: &Options, blunder: u32) -> ExitCode {
 fn catch(options: &Options, blunder: u32) -> ExitCode {
     mutant::switch(blunder);
     println!("mutant {blunder}: {}", mutant::BLUNDERS[blunder as usize - 1]);
-    if blunder >= mutant::IMPORTING {
+    if mutant::IMPORTING.contains(&blunder) {
         return catch_import(options, blunder);
     }
     let mut run = Run::new(Second::Mutant);

@@ -4,6 +4,7 @@ use crate::condition::Condition;
 use crate::forms::Value;
 use crate::policy::{Labelling, Policy, Row, Table};
 use crate::purpose::open;
+use crate::text::Name;
 
 /// 01: an answer "carries their length, the grant and the three counts".
 #[derive(Clone, Copy, Debug, PartialEq, Eq)]
@@ -80,7 +81,7 @@ fn withheld(policy: &Policy, request: &Request, labelling: Labelling, row: &Row)
 }
 
 /// The value of a row in the column of a name.
-fn value_in<'p>(table: &Table, row: &Row<'p>, name: &[u8]) -> Option<Value<'p>> {
+fn value_in<'p>(table: &Table, row: &Row<'p>, name: Name) -> Option<Value<'p>> {
     let column = table.columns.iter().position(|column| column.name == name)?;
     Some(row.cells[column].value)
 }
@@ -111,7 +112,7 @@ fn write_row(text: &mut Vec<u8>, row: &Row, selected: &[usize]) {
     for &column in selected {
         text.push(b' ');
         match row.cells[column].value {
-            Value::Name(name) => text.extend_from_slice(name),
+            Value::Name(name) => text.extend_from_slice(name.written()),
             Value::Number(number) => text.extend_from_slice(number.to_string().as_bytes()),
         }
     }

@@ -7,7 +7,7 @@ use crate::forms::Word;
 use crate::policy::{Labelling, Policy, User};
 use crate::query::{read_query, Query};
 use crate::refusal::{leftmost, of_query, Refusal};
-use crate::text::Span;
+use crate::text::{Name, Span};
 
 /// 01, "Asking": "The earliest in this order whose condition holds is given, and there is no refusal when none holds."
 pub fn ask(doc: &[u8], query: &[u8], clock: Clock, out: &mut [u8]) -> Result<Answer, Refusal> {
@@ -109,7 +109,7 @@ fn belongs(policy: &Policy, user: &User, cond_role: usize, clock: Clock) -> bool
 }
 
 /// The place of a column of a table.
-fn column_place(policy: &Policy, table: usize, name: &[u8]) -> Option<usize> {
+fn column_place(policy: &Policy, table: usize, name: Name) -> Option<usize> {
     policy.tables[table].columns.iter().position(|column| column.name == name)
 }
 

@@ -1,7 +1,7 @@
 //! 01, "Clock and authority": the clock that the host gives.
 
 use crate::forms::{is_keyword, Value};
-use crate::text::{read_form, Item, Kind};
+use crate::text::{read_form, Item, Kind, Name};
 
 #[derive(Clone, Copy, Debug, PartialEq, Eq)]
 pub struct Clock {
@@ -23,8 +23,8 @@ impl Clock {
     }
 
     /// 01: "`year`, `day`, `hour` exist already, as numbers."
-    pub fn value<'a>(&self, name: &[u8]) -> Option<Value<'a>> {
-        let number = match name {
+    pub fn value<'a>(&self, name: Name) -> Option<Value<'a>> {
+        let number = match &name.small()[..] {
             b"year" => self.year,
             b"day" => self.day,
             b"hour" => self.hour,
@@ -79,7 +79,11 @@ mod tests {
     #[test]
     fn clock_lines_by_01() {
         assert_eq!(read_clock_line(b"(clock 2028 366 10)"), Some(Clock { year: 2028, day: 366, hour: 10 }));
-        for bad in ["", "(clock 2028 366)", "(clock 2028 366 10 )", "(clock 2028 366 -1)", "(clock 02028 366 10)", "(Clock 1 1 1)", "(clock 1 1 1 1)", "(clock a 1 1)"] {
+        // 02, Q-8: keywords without case.
+        for good in ["(CLOCK 2028 366 10)", "(Clock 2028 366 10)", "(cLOCk 2028 366 10)"] {
+            assert_eq!(read_clock_line(good.as_bytes()), Some(Clock { year: 2028, day: 366, hour: 10 }));
+        }
+        for bad in ["", "(clock 2028 366)", "(clock 2028 366 10 )", "(clock 2028 366 -1)", "(clock 02028 366 10)", "(clocks 1 1 1)", "(clock 1 1 1 1)", "(clock a 1 1)"] {
             assert_eq!(read_clock_line(bad.as_bytes()), None);
         }
     }

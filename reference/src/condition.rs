@@ -1,7 +1,7 @@
 //! 01: "A condition is a comparison, `(not c)`, or `and` or `or` over one or more conditions."
 
 use crate::forms::{given, word, Given, Type, Value, Word};
-use crate::text::{Item, Kind, Span};
+use crate::text::{Item, Kind, Name, Span};
 
 /// 01: "64 comparisons a condition".
 pub const MOST_COMPARISONS: usize = 64;
@@ -35,7 +35,7 @@ pub enum Condition<'a> {
     Or(Vec<Condition<'a>>),
 }
 
-/// The operator that a keyword stands for.
+/// The operator that a keyword in small letters stands for.
 fn operator(keyword: &[u8]) -> Option<Operator> {
     match keyword {
         b"eq" => Some(Operator::Eq),
@@ -53,12 +53,13 @@ pub fn read_condition<'a>(item: &Item<'a>) -> Option<Condition<'a>> {
     let Kind::Bracket(items) = &item.kind else { return None };
     let (head, rest) = items.split_first()?;
     let Kind::Name(keyword) = head.kind else { return None };
-    match (keyword, rest) {
+    let keyword = keyword.small();
+    match (&keyword[..], rest) {
         (b"not", [inner]) => Some(Condition::Not(Box::new(read_condition(inner)?))),
         (b"and", list) => Some(Condition::And(read_conditions(list)?)),
         (b"or", list) => Some(Condition::Or(read_conditions(list)?)),
         (_, [subject, value]) => Some(Condition::Compare(Comparison {
-            operator: operator(keyword)?,
+            operator: operator(&keyword)?,
             operator_span: head.span,
             subject: word(subject)?,
             value: given(value)?,
@@ -91,7 +92,7 @@ impl<'a> Condition<'a> {
     }
 
     /// 01, 8 and 16: "names take only `eq` and `ne`"; "for 8 the operator or the value".
-    pub fn wrong_types(&self, type_of: &dyn Fn(&[u8]) -> Option<Type>) -> Vec<Span> {
+    pub fn wrong_types(&self, type_of: &dyn Fn(Name) -> Option<Type>) -> Vec<Span> {
         let mut wrong = Vec::new();
         for comparison in self.comparisons() {
             let Some(kind) = type_of(comparison.subject.text) else { continue };
@@ -107,7 +108,7 @@ impl<'a> Condition<'a> {
     }
 
     /// Whether the condition holds for the values that `value_of` gives to its names.
-    pub fn holds(&self, value_of: &dyn Fn(&[u8]) -> Option<Value<'a>>) -> bool {
+    pub fn holds(&self, value_of: &dyn Fn(Name) -> Option<Value<'a>>) -> bool {
         match self {
             Condition::Compare(comparison) => match value_of(comparison.subject.text) {
                 Some(left) => compare(comparison.operator, left, comparison.value.value),
@@ -131,6 +132,7 @@ fn compare(operator: Operator, left: Value, right: Value) -> bool {
             Operator::Gt => l > r,
             Operator::Ge => l >= r,
         },
+        // 02, Q-8: without case, "in .. `eq`, `ne` .., cell values included".
         (Value::Name(l), Value::Name(r)) => match operator {
             Operator::Eq => l == r,
             Operator::Ne => l != r,

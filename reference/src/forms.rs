@@ -1,19 +1,19 @@
 //! 01, "Document forms": items to one of the nine forms, by shape alone.
 
 use crate::condition::{read_condition, Condition};
-use crate::text::{read_form, Item, Kind, Span};
+use crate::text::{read_form, Item, Kind, Name, Span};
 
 /// A name where it stands.
 #[derive(Clone, Copy, Debug)]
 pub struct Word<'a> {
-    pub text: &'a [u8],
+    pub text: Name<'a>,
     pub span: Span,
 }
 
 /// 01: "`v` for a name or a number".
 #[derive(Clone, Copy, Debug, PartialEq, Eq)]
 pub enum Value<'a> {
-    Name(&'a [u8]),
+    Name(Name<'a>),
     Number(i64),
 }
 
@@ -105,10 +105,10 @@ pub fn bracket<'i, 'a>(item: &'i Item<'a>) -> Option<&'i [Item<'a>]> {
     }
 }
 
-/// 01: "Keywords are known by position": the name standing there, byte for byte.
+/// 01: "Keywords are known by position": the name standing there, without case (02, Q-8).
 pub fn is_keyword(item: &Item, keyword: &str) -> bool {
     match item.kind {
-        Kind::Name(text) => text == keyword.as_bytes(),
+        Kind::Name(text) => text == Name::of(keyword.as_bytes()),
         _ => false,
     }
 }
@@ -129,7 +129,7 @@ pub fn read_line(line: &[u8], base: usize) -> Option<Form<'_>> {
     let items = read_form(line, base)?;
     let (head, rest) = items.split_first()?;
     let Kind::Name(keyword) = head.kind else { return None };
-    match keyword {
+    match &keyword.small()[..] {
         b"purpose" => named_with_parent(rest).map(|(name, parent)| Form::Purpose { name, parent }),
         b"role" => named_with_parent(rest).map(|(name, parent)| Form::Role { name, parent }),
         b"attr" => attr(rest),
@@ -202,7 +202,7 @@ fn purpose_set<'a>(item: &Item<'a>, keyword: &str) -> Option<Vec<Word<'a>>> {
 fn table<'a>(items: &[Item<'a>]) -> Option<Form<'a>> {
     let [name, scheme_word, rest @ ..] = items else { return None };
     let Kind::Name(keyword) = scheme_word.kind else { return None };
-    let (scheme, columns) = match keyword {
+    let (scheme, columns) = match &keyword.small()[..] {
         b"none" => (Scheme::None, rest),
         b"table" => {
             let (label, columns) = rest.split_first()?;

@@ -3,19 +3,20 @@
 use crate::condition::Condition;
 use crate::forms::{Form, RowItem, Scheme, Type, Value};
 use crate::purpose::{Label, Tree};
+use crate::text::Name;
 
 /// 01: "`year`, `day`, `hour` exist already, as numbers."
-pub const CLOCK_NAMES: [&[u8]; 3] = [b"year", b"day", b"hour"];
+pub const CLOCK_NAMES: [Name; 3] = [Name::of(b"year"), Name::of(b"day"), Name::of(b"hour")];
 
 #[derive(Debug)]
 pub struct Role<'a> {
-    pub name: &'a [u8],
+    pub name: Name<'a>,
     pub parent: Option<usize>,
 }
 
 #[derive(Debug)]
 pub struct Attribute<'a> {
-    pub name: &'a [u8],
+    pub name: Name<'a>,
     pub role: usize,
     pub kind: Type,
 }
@@ -23,14 +24,14 @@ pub struct Attribute<'a> {
 /// A user form: the user, the role and the values in that role.
 #[derive(Debug)]
 pub struct User<'a> {
-    pub name: &'a [u8],
+    pub name: Name<'a>,
     pub role: usize,
-    pub values: Vec<(&'a [u8], Value<'a>)>,
+    pub values: Vec<(Name<'a>, Value<'a>)>,
 }
 
 #[derive(Debug)]
 pub struct CondRole<'a> {
-    pub name: &'a [u8],
+    pub name: Name<'a>,
     pub role: usize,
     pub condition: Condition<'a>,
 }
@@ -53,14 +54,14 @@ pub enum Labelling {
 
 #[derive(Debug)]
 pub struct Column<'a> {
-    pub name: &'a [u8],
+    pub name: Name<'a>,
     pub kind: Type,
     pub label: Option<usize>,
 }
 
 #[derive(Debug)]
 pub struct Table<'a> {
-    pub name: &'a [u8],
+    pub name: Name<'a>,
     pub labelling: Labelling,
     pub columns: Vec<Column<'a>>,
 }
@@ -80,14 +81,14 @@ pub struct Row<'a> {
 
 #[derive(Debug, Default)]
 pub struct Policy<'a> {
-    pub purposes: Vec<&'a [u8]>,
+    pub purposes: Vec<Name<'a>>,
     pub tree: Tree,
     pub roles: Vec<Role<'a>>,
     pub attributes: Vec<Attribute<'a>>,
     pub users: Vec<User<'a>>,
     pub cond_roles: Vec<CondRole<'a>>,
     pub grants: Vec<Grant>,
-    pub label_names: Vec<&'a [u8]>,
+    pub label_names: Vec<Name<'a>>,
     pub labels: Vec<Label>,
     pub tables: Vec<Table<'a>>,
     pub rows: Vec<Row<'a>>,
@@ -95,42 +96,42 @@ pub struct Policy<'a> {
 
 impl<'a> Policy<'a> {
     /// The purpose of a name.
-    pub fn purpose(&self, name: &[u8]) -> Option<usize> {
+    pub fn purpose(&self, name: Name) -> Option<usize> {
         self.purposes.iter().position(|known| *known == name)
     }
 
     /// The role of a name.
-    pub fn role(&self, name: &[u8]) -> Option<usize> {
+    pub fn role(&self, name: Name) -> Option<usize> {
         self.roles.iter().position(|known| known.name == name)
     }
 
     /// The attribute of a name, clock names apart.
-    pub fn attribute(&self, name: &[u8]) -> Option<&Attribute<'a>> {
+    pub fn attribute(&self, name: Name) -> Option<&Attribute<'a>> {
         self.attributes.iter().find(|known| known.name == name)
     }
 
     /// The conditional role of a name.
-    pub fn cond_role(&self, name: &[u8]) -> Option<usize> {
+    pub fn cond_role(&self, name: Name) -> Option<usize> {
         self.cond_roles.iter().position(|known| known.name == name)
     }
 
     /// The label of a name.
-    pub fn label(&self, name: &[u8]) -> Option<usize> {
+    pub fn label(&self, name: Name) -> Option<usize> {
         self.label_names.iter().position(|known| *known == name)
     }
 
     /// The table of a name.
-    pub fn table(&self, name: &[u8]) -> Option<usize> {
+    pub fn table(&self, name: Name) -> Option<usize> {
         self.tables.iter().position(|known| known.name == name)
     }
 
     /// Whether some user form has this user.
-    pub fn knows_user(&self, name: &[u8]) -> bool {
+    pub fn knows_user(&self, name: Name) -> bool {
         self.users.iter().any(|known| known.name == name)
     }
 
     /// The user form of a user and a role.
-    pub fn user_in_role(&self, name: &[u8], role: usize) -> Option<&User<'a>> {
+    pub fn user_in_role(&self, name: Name, role: usize) -> Option<&User<'a>> {
         self.users.iter().find(|known| known.name == name && known.role == role)
     }
 
@@ -153,7 +154,7 @@ impl<'a> Policy<'a> {
     }
 
     /// 01: "over attributes of ROLE and those above, and the clock".
-    pub fn condition_type(&self, role: usize, name: &[u8]) -> Option<Type> {
+    pub fn condition_type(&self, role: usize, name: Name) -> Option<Type> {
         if CLOCK_NAMES.contains(&name) {
             return Some(Type::Num);
         }
@@ -244,7 +245,7 @@ impl<'a> Policy<'a> {
 }
 
 /// 01: "in a row table, the first item if that is a name".
-pub fn row_label<'a>(first: &RowItem<'a>) -> Option<&'a [u8]> {
+pub fn row_label<'a>(first: &RowItem<'a>) -> Option<Name<'a>> {
     match first {
         RowItem::Plain(given) => match given.value {
             Value::Name(name) => Some(name),

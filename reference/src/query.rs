@@ -27,7 +27,7 @@ pub fn read_query(text: &[u8]) -> Option<Query<'_>> {
     let items = read_form(text, 0)?;
     let [head, user, role, purpose, table, rest @ ..] = &items[..] else { return None };
     let Kind::Name(keyword) = head.kind else { return None };
-    let (columns, rest) = match keyword {
+    let (columns, rest) = match &keyword.small()[..] {
         b"select" => {
             let (columns, rest) = rest.split_first()?;
             (Some(selected(columns)?), rest)

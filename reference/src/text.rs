@@ -19,10 +19,49 @@ pub struct Item<'a> {
     pub kind: Kind<'a>,
 }
 
+/// A name as its text wrote it. 02, Q-8: "Names that differ only in the case of ASCII letters are now the same name", so `==` has no
+/// case wherever names meet, and the bytes are had by `written` alone.
+#[derive(Clone, Copy, Debug)]
+pub struct Name<'a> {
+    bytes: &'a [u8],
+}
+
+impl<'a> Name<'a> {
+    pub const fn of(bytes: &'a [u8]) -> Name<'a> {
+        Name { bytes }
+    }
+
+    /// 02, Q-8: "Answers print a cell as its row line wrote it."
+    pub fn written(&self) -> &'a [u8] {
+        self.bytes
+    }
+
+    /// The name in small letters, for keywords.
+    pub fn small(&self) -> Vec<u8> {
+        self.bytes.iter().map(|&byte| small_letter(byte)).collect()
+    }
+}
+
+impl PartialEq for Name<'_> {
+    fn eq(&self, other: &Name) -> bool {
+        self.small() == other.small()
+    }
+}
+
+impl Eq for Name<'_> {}
+
+/// 02, Q-8: "the case of ASCII letters": the 26 have two, and no other byte has.
+fn small_letter(byte: u8) -> u8 {
+    match byte {
+        b'A'..=b'Z' => byte - b'A' + b'a',
+        _ => byte,
+    }
+}
+
 /// A name, a number or a bracket.
 #[derive(Clone, Debug, PartialEq, Eq)]
 pub enum Kind<'a> {
-    Name(&'a [u8]),
+    Name(Name<'a>),
     Number(i64),
     Bracket(Vec<Item<'a>>),
 }
@@ -115,7 +154,7 @@ fn read_item(text: &[u8], at: usize, depth: usize, base: usize) -> Option<(Item<
         end += 1;
     }
     let word = text.get(at..end)?;
-    let kind = if is_name(word) { Kind::Name(word) } else { Kind::Number(number(word)?) };
+    let kind = if is_name(word) { Kind::Name(Name::of(word)) } else { Kind::Number(number(word)?) };
     Some((Item { span: Span { start: base + at, len: end - at }, kind }, end))
 }
 
@@ -147,6 +186,27 @@ mod tests {
         for bad in [&b""[..], b"-a", b"_a", b"9a", b"a.b", b"\xc3\xa9"] {
             assert!(!is_name(bad));
         }
+    }
+
+    #[test]
+    fn names_without_case() {
+        let same = |one: &[u8], other: &[u8]| Name::of(one) == Name::of(other);
+        assert!(same(b"abcdefghijklmnopqrstuvwxyz", b"ABCDEFGHIJKLMNOPQRSTUVWXYZ"));
+        assert!(same(b"Ads", b"aDS"));
+        assert!(!same(b"ads", b"adss"));
+        assert!(!same(b"ads", b"adr"));
+        // No byte but a letter has another case: each byte is the same as itself, and a letter as one more.
+        for one in 0..=255u8 {
+            let alike: Vec<u8> = (0..=255u8).filter(|&other| same(&[one], &[other])).collect();
+            let expected = match one {
+                b'A'..=b'Z' => vec![one, one + 32],
+                b'a'..=b'z' => vec![one - 32, one],
+                _ => vec![one],
+            };
+            assert_eq!(alike, expected);
+        }
+        assert_eq!(Name::of(b"Cond-Role_9").small(), b"cond-role_9");
+        assert_eq!(Name::of(b"Ada").written(), b"Ada");
     }
 
     #[test]

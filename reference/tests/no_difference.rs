@@ -46,6 +46,10 @@ fn exempt_cells_make_no_difference() {
         // A closed cell, and an open one beside it in a row withheld.
         ("(row e (8 nomid) (y open))", "(row e (88 nomid) (y open))", &["(select u r leaf e (b))", "(select u r leaf e (a))", "(count u r leaf e (eq a 8))", "(count u r leaf e)"][..]),
         ("(row e (8 nomid) (y open))", "(row e (8 nomid) (Y2 open))", &["(select u r leaf e (a b))", "(select u r leaf e (b) (gt a 0))", "(count u r leaf e (or (eq b y) (eq a 8)))"][..]),
+        // In case alone, where a value may change at all (02, Q-8).
+        ("(row n 1 x)", "(row n 1 X)", &["(select u r leaf n (a))", "(count U R leaf N)", "(select u r leaf e (a b))"][..]),
+        ("(row e (8 nomid) (y open))", "(row e (8 nomid) (Y open))", &["(select u r leaf e (A b))", "(count u r leaf E (or (eq b y) (eq A 8)))"][..]),
+        ("(row e (9 open) (z shut))", "(row e (9 open) (Z shut))", &["(select u r leaf e (b))", "(select u r leaf e (a))", "(count u r side E (ne B z))"][..]),
         // Texts that are no query, and purposes unknown.
         ("(row n 1 x)", "(row n 10 y)", &["(select", "", "(count u r nosuch n)"][..]),
     ] {
@@ -63,4 +67,8 @@ fn open_cells_do_make_a_difference() {
     let doc = format!("{BASE}{TABLES}");
     let changed = doc.replace("(row r nomid 6)", "(row r nomid 66)");
     assert_ne!(outcome(&doc, "(select u r side r (a))"), outcome(&changed, "(select u r side r (a))"));
+    // 02, Q-8: another case of an open value "may be printed".
+    let changed = doc.replace("(row e (8 nomid) (y open))", "(row e (8 nomid) (Y open))");
+    assert_ne!(outcome(&doc, "(select u r side e (B))"), outcome(&changed, "(select u r side e (B))"));
+    assert_eq!(outcome(&doc, "(count u r side e (eq b y))"), outcome(&changed, "(count u r side e (eq b y))"));
 }
