@@ -5,9 +5,10 @@ use crate::model::*;
 use crate::pairs::may_differ;
 use crate::queries::{self, Query};
 use crate::random::Random;
+use crate::recase::{self, listed, same};
 
 /// What a cell may be to a query. A run has to see each of them, most as the one reason for which the cell may differ.
-const SITUATIONS: [&str; 22] = [
+const SITUATIONS: [&str; 24] = [
     "no query",
     "unknown purpose, table without labels",
     "unknown purpose, labelled table",
@@ -30,6 +31,8 @@ const SITUATIONS: [&str; 22] = [
     "bound, named by the condition alone",
     "bound, another column being unknown",
     "several reasons at once",
+    "bound, in other cases",
+    "closed or withheld, in other cases",
 ];
 
 /// Two to five purposes, one to three tables with two to six rows, and what these need; at times a user with a grant.
@@ -110,7 +113,7 @@ fn case(random: &mut Random) -> (Model, Vec<u8>, Option<Query>) {
 /// What the cell is to the query, by the model.
 fn situations(model: &Model, query: Option<&Query>, row: &Row, column: usize) -> Vec<&'static str> {
     let Some(query) = query else { return vec!["no query"] };
-    let queried = model.tables.iter().find(|table| table.name == query.table);
+    let queried = model.tables.iter().find(|table| same(&table.name, &query.table));
     match (queried, model.purpose(&query.purpose)) {
         (None, None) => vec!["several reasons at once"],
         (None, Some(purpose)) => vec![of_unknown_table(model, query, row, column, purpose)],
@@ -125,18 +128,18 @@ fn situations(model: &Model, query: Option<&Query>, row: &Row, column: usize) ->
 }
 
 fn is_named(model: &Model, query: &Query, row: &Row, column: usize) -> bool {
-    query.named().contains(&model.tables[row.table].columns[column].name.as_str())
+    listed(&query.named(), &model.tables[row.table].columns[column].name)
 }
 
 fn names_unknown(query: &Query, queried: &Table) -> bool {
-    query.named().iter().any(|named| queried.columns.iter().all(|column| column.name != *named))
+    query.named().iter().any(|named| queried.columns.iter().all(|column| !same(&column.name, named)))
 }
 
 fn of_unknown_table(model: &Model, query: &Query, row: &Row, column: usize, purpose: usize) -> &'static str {
     let first = model.tables[0].columns.get(column);
     if !model.cell_open(row, column, purpose) {
         "several reasons at once"
-    } else if first.is_some_and(|first| query.named().contains(&first.name.as_str())) {
+    } else if first.is_some_and(|first| listed(&query.named(), &first.name)) {
         "unknown table, column that the first table has"
     } else {
         "unknown table, other column"
@@ -145,7 +148,7 @@ fn of_unknown_table(model: &Model, query: &Query, row: &Row, column: usize, purp
 
 fn of_unknown_purpose(model: &Model, query: &Query, row: &Row, column: usize) -> &'static str {
     let table = &model.tables[row.table];
-    if table.name != query.table || !is_named(model, query, row, column) {
+    if !same(&table.name, &query.table) || !is_named(model, query, row, column) {
         "several reasons at once"
     } else if table.scheme == Scheme::None {
         "unknown purpose, table without labels"
@@ -157,7 +160,7 @@ fn of_unknown_purpose(model: &Model, query: &Query, row: &Row, column: usize) ->
 /// Why the cell may differ, its table and purpose being known; none where it may not.
 fn reason(model: &Model, query: &Query, row: &Row, column: usize, purpose: usize) -> Option<&'static str> {
     let table = &model.tables[row.table];
-    let in_table = table.name == query.table;
+    let in_table = same(&table.name, &query.table);
     let open = model.cell_open(row, column, purpose);
     let withheld = model.row_withheld(row, &query.named(), purpose);
     Some(match (in_table, is_named(model, query, row, column), open, withheld) {
@@ -185,7 +188,7 @@ fn bound(model: &Model, query: &Query, row: &Row, column: usize) -> Vec<&'static
         Scheme::Row => "bound, open by the row's label",
         Scheme::Cell => "bound, open by its own label",
     }];
-    if query.columns.iter().flatten().all(|selected| *selected != table.columns[column].name) {
+    if query.columns.iter().flatten().all(|selected| !same(selected, &table.columns[column].name)) {
         seen.push("bound, named by the condition alone");
     }
     if names_unknown(query, table) {
@@ -194,19 +197,38 @@ fn bound(model: &Model, query: &Query, row: &Row, column: usize) -> Vec<&'static
     seen
 }
 
+/// The situation of a cell whose document and query are not in one case.
+fn recased(situation: &str) -> Option<&'static str> {
+    if situation.starts_with("bound") {
+        Some("bound, in other cases")
+    } else if situation.starts_with("closed") || situation.starts_with("open, in a row withheld") {
+        Some("closed or withheld, in other cases")
+    } else {
+        None
+    }
+}
+
 /// Prints the cases: the document and the query on a line each, then a word of 0 and 1 for each row, 1 where the value may differ;
 /// and how often each situation was seen. Fails where one never was.
 pub fn print(seed: u64, cases: u64) -> bool {
     let mut seen = Vec::new();
     for place in 0..cases {
-        let (model, text, query) = case(&mut Random::new(seed, place | 1 << 41));
-        println!("document {}", model.text().escape_ascii());
+        let random = &mut Random::new(seed, place | 1 << 41);
+        let (model, text, query) = case(random);
+        // 02, Q-8: all that the model says holds in every case.
+        let (document, one) = recase::any(random, model.text());
+        let (text, other) = recase::any(random, text);
+        println!("document {}", document.escape_ascii());
         println!("query {}", text.escape_ascii());
         print!("cells");
         for row in &model.rows {
             print!(" ");
             for column in 0..row.cells.len() {
-                seen.extend(situations(&model, query.as_ref(), row, column));
+                let found = situations(&model, query.as_ref(), row, column);
+                if one != other {
+                    seen.extend(recased(found[0]));
+                }
+                seen.extend(found);
                 print!("{}", u8::from(may_differ(&model, query.as_ref(), row, column)));
             }
         }

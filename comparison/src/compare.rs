@@ -206,7 +206,8 @@ pub fn check(second: Second, doc: &[u8]) -> Result<(Checked, usize), Difference>
 
 /// Whether an answered query is a select whose column bracket repeats no column.
 pub fn repeats_no_column(query: &[u8]) -> bool {
-    let text = String::from_utf8_lossy(query);
+    // 02, Q-8: without case, so that `who` and `Who` are one column.
+    let text = String::from_utf8_lossy(query).to_ascii_lowercase();
     let Some(rest) = text.strip_prefix("(select ") else { return false };
     let Some((_, columns)) = rest.split_once('(') else { return false };
     let Some((columns, _)) = columns.split_once(')') else { return false };

@@ -2,8 +2,10 @@
 
 use crate::model::*;
 use crate::random::Random;
+use crate::recase::{self, listed, same};
 
-/// Names for every kind: few, so that kinds share them; keywords, and names that differ in case, length or last byte alone.
+/// Names for every kind: few, so that kinds share them; keywords, some in several cases, and names that differ in length or last
+/// byte alone.
 const NAMES: [&str; 33] = [
     "all", "bill", "ads", "post", "care", "desk", "boss", "a", "b", "C", "x-1", "y_2", "row", "table", "cell", "none", "num",
     "name", "allow", "deny", "select", "count", "eq", "and", "not", "purpose", "Ads", "aDs", "abcdefgh", "abcdefghi",
@@ -27,7 +29,7 @@ pub fn long_name(random: &mut Random, length: usize) -> String {
     name
 }
 
-/// A name that isn't taken, mostly out of a pool.
+/// A name that isn't taken in any case, mostly out of a pool.
 fn fresh(random: &mut Random, pool: &[&str], taken: impl Fn(&str) -> bool) -> String {
     for _ in 0..3 {
         let name = random.pick(pool).to_string();
@@ -162,7 +164,7 @@ impl<'r> Builder<'r> {
     }
 
     pub fn purpose(&mut self) {
-        let name = self.fresh(&NAMES, |m, name| m.purposes.iter().any(|p| p.name == name));
+        let name = self.fresh(&NAMES, |m, name| m.purposes.iter().any(|p| same(&p.name, name)));
         let count = self.model.purposes.len();
         let parent = match count {
             0 => None,
@@ -174,7 +176,7 @@ impl<'r> Builder<'r> {
     }
 
     pub fn role(&mut self) {
-        let name = self.fresh(&NAMES, |m, name| m.roles.iter().any(|r| r.name == name));
+        let name = self.fresh(&NAMES, |m, name| m.roles.iter().any(|r| same(&r.name, name)));
         let count = self.model.roles.len();
         let parent = match count {
             0 => None,
@@ -194,7 +196,7 @@ impl<'r> Builder<'r> {
         if self.model.roles.is_empty() {
             self.role();
         }
-        let name = self.fresh(&NAMES, |m, name| m.attributes.iter().any(|a| a.name == name) || ["year", "day", "hour"].contains(&name));
+        let name = self.fresh(&NAMES, |m, name| m.attributes.iter().any(|a| same(&a.name, name)) || listed(&["year", "day", "hour"], name));
         let role = self.random.below(self.model.roles.len());
         let kind = if self.random.chance(2, 3) { Type::Num } else { Type::Name };
         self.model.attributes.push(Attribute { role, name, kind });
@@ -207,7 +209,7 @@ impl<'r> Builder<'r> {
         }
         let role = self.random.below(self.model.roles.len());
         let pool = if self.random.chance(1, 6) { &NAMES[..] } else { &USERS[..] };
-        let name = self.fresh(pool, |m, name| m.users.iter().any(|u| u.name == name && u.role == role));
+        let name = self.fresh(pool, |m, name| m.users.iter().any(|u| same(&u.name, name) && u.role == role));
         let mut attributes = self.model.attributes_of(role);
         for place in (1..attributes.len()).rev() {
             attributes.swap(place, self.random.below(place + 1));
@@ -242,7 +244,7 @@ impl<'r> Builder<'r> {
     }
 
     pub fn cond_role_of(&mut self, role: usize, condition: Condition) {
-        let name = self.fresh(&NAMES, |m, name| m.cond_roles.iter().any(|c| c.name == name));
+        let name = self.fresh(&NAMES, |m, name| m.cond_roles.iter().any(|c| same(&c.name, name)));
         self.model.cond_roles.push(CondRole { name, role, condition });
         self.model.lines.push(Line::CondRole(self.model.cond_roles.len() - 1));
     }
@@ -292,7 +294,7 @@ impl<'r> Builder<'r> {
     }
 
     pub fn label(&mut self) {
-        let name = self.fresh(&NAMES, |m, name| m.labels.iter().any(|l| l.name == name));
+        let name = self.fresh(&NAMES, |m, name| m.labels.iter().any(|l| same(&l.name, name)));
         let many = if self.random.chance(1, 30) { 256 } else { 3 };
         let mut allow = self.purpose_set(many);
         let deny = if self.random.chance(1, 2) { self.purpose_set(many - 1) } else { Vec::new() };
@@ -324,12 +326,12 @@ impl<'r> Builder<'r> {
         if self.model.labels.is_empty() {
             self.label();
         }
-        let name = self.fresh(&NAMES, |m, name| m.tables.iter().any(|t| t.name == name));
+        let name = self.fresh(&NAMES, |m, name| m.tables.iter().any(|t| same(&t.name, name)));
         let mut list: Vec<Column> = Vec::new();
         for _ in 0..columns {
             let name = match self.names {
                 Some(length) => long_name(self.random, length),
-                None => fresh(self.random, &COLUMNS, |name| list.iter().any(|column| column.name == name)),
+                None => fresh(self.random, &COLUMNS, |name| list.iter().any(|column| same(&column.name, name))),
             };
             let kind = if self.random.chance(1, 2) { Type::Num } else { Type::Name };
             let label = self.random.below(self.model.labels.len());
@@ -588,7 +590,8 @@ pub fn faulty_line(random: &mut Random, model: &Model) -> Vec<u8> {
     for _ in 0..*random.pick(&[0, 1, 1, 2, 2, 3]) {
         crate::damage::word(random, &mut text, &document, 1);
     }
-    text
+    // A name taken in another case, among others.
+    recase::any(random, text).0
 }
 
 /// A kind of `faulty_line` that the model has as many of as it may.

@@ -8,6 +8,7 @@ use crate::gate::{self, Checked, Import, Imported, Second};
 use crate::model::{Model, Scheme, Type};
 use crate::queries;
 use crate::random::Random;
+use crate::recase;
 use std::collections::BTreeMap;
 
 /// Bytes on both sides of a lent buffer that nobody may touch.
@@ -30,6 +31,8 @@ pub struct ImportTally {
     pub documents: u64,
     pub accepted: u64,
     pub rows: u64,
+    /// Those whose lines have the table or the label in another case.
+    pub recased: u64,
     /// Refused documents, by number.
     pub refused: [u64; 22],
 }
@@ -69,6 +72,9 @@ impl ImportTally {
         missing.extend([5, 7, 8].iter().filter(|&&n| self.refused[n] == 0).map(|n| format!("a document with lines refused with {n}")));
         if self.accepted == 0 || self.rows == 0 {
             missing.push("a document accepted with lines".to_string());
+        }
+        if self.recased == 0 {
+            missing.push("a document accepted with lines in another case".to_string());
         }
         missing
     }
@@ -262,7 +268,11 @@ pub fn desk(random: &mut Random, buffers: &mut Buffers, second: Second, tally: &
         .map(|_| kinds.iter().map(|&kind| documents::value(random, kind).to_string().into_bytes()).collect())
         .collect();
     let label = random.pick(&model.labels).name.clone();
-    let mut import = Import { file: Vec::new(), table: table.name.clone().into_bytes(), label: label.into_bytes() };
+    // Table and label in whichever case: the lines have them as given (02, Q-8).
+    let mut given = |name: &str| if random.chance(1, 2) { recase::name(random, name) } else { name.to_string() };
+    let (table, label) = (given(&table.name), given(&label));
+    let recased = !model.tables.iter().any(|known| known.name == table) || !model.labels.iter().any(|known| known.name == label);
+    let mut import = Import { file: Vec::new(), table: table.into_bytes(), label: label.into_bytes() };
     // Lines that the document refuses: another type, another count, a table or label that it lacks.
     let fits = match random.below(10) {
         0 if count > 0 => {
@@ -284,7 +294,7 @@ pub fn desk(random: &mut Random, buffers: &mut Buffers, second: Second, tally: &
         _ => true,
     };
     import.file = files::of_records(random, &records);
-    let mut doc = model.text();
+    let (mut doc, _) = recase::any(random, model.text());
     let before = doc.len();
     let alone = |what: String, doc: &[u8], gate: String| Difference { what, doc: doc.to_vec(), alike: None, question: None, gate, second: shown(&import) };
     let mut out = vec![0; before + 200 * count + 1_000];
@@ -302,6 +312,7 @@ pub fn desk(random: &mut Random, buffers: &mut Buffers, second: Second, tally: &
         Checked::Accepted { .. } => {
             tally.accepted += 1;
             tally.rows += count as u64;
+            tally.recased += u64::from(recased && count > 0);
         }
         Checked::Refused(refused) => {
             let within = model.rows.len() + count <= 1_024 && doc.len() <= 60_000;
@@ -313,5 +324,6 @@ pub fn desk(random: &mut Random, buffers: &mut Buffers, second: Second, tally: &
     }
     let clock = queries::clock(random);
     let query = queries::good(random, &model, clock).text();
+    let (query, _) = recase::any(random, query);
     buffers.ask(second, &doc, &Question { query, clock, buffer: LONGEST_RESERVE }).map(|_| ())
 }

@@ -14,6 +14,7 @@ mod model;
 mod pairs;
 mod queries;
 mod random;
+mod recase;
 #[cfg(feature = "stub")]
 mod stub;
 mod texts;
@@ -121,6 +122,11 @@ fn compare_all(options: &Options) -> ExitCode {
         println!("FAILED: pairs that aren't alike are hardly told apart");
         return ExitCode::FAILURE;
     }
+    let recased = [tally.recased.accepted, tally.recased.answered, pairs.recased, pairs.case_alone, pairs.told_apart_case];
+    if options.texts > 0 && options.pairs > 0 && recased.contains(&0) {
+        println!("FAILED: too little was recased");
+        return ExitCode::FAILURE;
+    }
     println!("no difference");
     ExitCode::SUCCESS
 }
@@ -135,6 +141,9 @@ fn summary(options: &Options, tally: &Tally, pairs: &PairTally) {
     println!("refusals seen:    {}", histogram(&tally.refusals));
     println!("pairs alike:       {}, answered {}, refused{}", pairs.pairs, pairs.answered, histogram(&pairs.refusals));
     println!("pairs not alike:   {}, told apart {}", pairs.unlike, pairs.told_apart);
+    let recased = &tally.recased;
+    println!("recased:           {} texts, accepted {}; {} queries, answered {}; {} pairs alike", recased.texts, recased.accepted, recased.queries, recased.answered, pairs.recased);
+    println!("in case alone:     {} pairs alike; {} not alike, told apart {}", pairs.case_alone, pairs.unlike_case, pairs.told_apart_case);
 }
 
 /// Every file: random ones, all short ones, and one document in ten files to which a list's lines are added.
@@ -158,7 +167,7 @@ fn import_summary(tally: &ImportTally) {
     let histogram = |refusals: &[u64; 22]| -> String { (1..=21).filter(|&n| refusals[n] > 0).map(|n| format!(" {n}:{}", refusals[n])).collect() };
     println!("files:             {} and all {} of up to 7 bytes, the longest {} bytes", tally.files, tally.small, tally.longest);
     println!("imported:          {} of {} calls, refused{}", tally.written, tally.calls, histogram(&tally.refusals));
-    println!("with lines added:  {} documents, accepted {} with {} lines more, refused{}", tally.documents, tally.accepted, tally.rows, histogram(&tally.refused));
+    println!("with lines added:  {} documents, accepted {} with {} lines more, {} in another case, refused{}", tally.documents, tally.accepted, tally.rows, tally.recased, histogram(&tally.refused));
 }
 
 /// A mutant of importing: a difference has to be found on files.
@@ -194,7 +203,7 @@ fn catch(options: &Options, blunder: u32) -> ExitCode {
     let mut pairs = PairTally::default();
     let leaked = (0..options.pairs).find(|place| {
         let mut random = Random::new(options.seed, place | 1 << 40);
-        pairs::run(&mut random, Subject::Mutant, &mut buffers, &mut pairs).is_err()
+        pairs::run(&mut random, Subject::Mutant, &mut buffers, &mut pairs).is_err_and(|difference| difference.what == pairs::TOLD_APART)
     });
     match leaked {
         Some(place) => println!("mutant {blunder}: breaks the no-difference claim after {} pairs", place + 1),

@@ -1,6 +1,7 @@
 //! The generator's own picture of a document: what each line says, and which cells are closed (01).
 //! It is built with the text and never read from it.
 
+use crate::recase::{listed, same};
 use std::fmt;
 
 #[derive(Clone, Copy, Debug, PartialEq, Eq)]
@@ -90,7 +91,7 @@ impl Condition {
                     "gt" => l > *r,
                     _ => l >= *r,
                 },
-                (Some(Value::Name(l)), Value::Name(r)) => (*operator == "eq") == (l == *r),
+                (Some(Value::Name(l)), Value::Name(r)) => (*operator == "eq") == same(&l, r),
                 _ => false,
             },
             Condition::Not(inner) => !inner.holds(value_of),
@@ -302,7 +303,7 @@ impl Model {
     }
 
     pub fn purpose(&self, name: &str) -> Option<usize> {
-        self.purposes.iter().position(|purpose| purpose.name == name)
+        self.purposes.iter().position(|purpose| same(&purpose.name, name))
     }
 
     /// The label of a cell by its table's scheme; none under scheme none.
@@ -329,18 +330,18 @@ impl Model {
             Scheme::None | Scheme::Table(_) | Scheme::Column => false,
             Scheme::Row => !self.open(row.label, p),
             Scheme::Cell => (0..table.columns.len())
-                .any(|column| named.contains(&table.columns[column].name.as_str()) && !self.open(row.cells[column].1, p)),
+                .any(|column| listed(named, &table.columns[column].name) && !self.open(row.cells[column].1, p)),
         }
     }
 
     /// Whether some grant lets a user form act for a purpose (only to aim queries with).
     pub fn authorised(&self, user: usize, purpose: usize, clock: [u64; 3]) -> bool {
         let user = &self.users[user];
-        let value_of = |name: &str| match name {
+        let value_of = |name: &str| match name.to_ascii_lowercase().as_str() {
             "year" => i64::try_from(clock[0]).ok().map(Value::Num),
             "day" => i64::try_from(clock[1]).ok().map(Value::Num),
             "hour" => i64::try_from(clock[2]).ok().map(Value::Num),
-            _ => user.values.iter().find(|(a, _)| self.attributes[*a].name == name).map(|(_, v)| v.clone()),
+            _ => user.values.iter().find(|(a, _)| same(&self.attributes[*a].name, name)).map(|(_, v)| v.clone()),
         };
         self.grants.iter().any(|grant| {
             let cond_role = &self.cond_roles[grant.cond_role];

@@ -6,6 +6,7 @@ use crate::gate::{self, Asked, Checked, Subject};
 use crate::model::*;
 use crate::queries::{self, Query};
 use crate::random::Random;
+use crate::recase::{self, listed, same, Recasing};
 use crate::texts::keep;
 
 #[derive(Default)]
@@ -16,7 +17,16 @@ pub struct PairTally {
     pub refusals: [u64; 19],
     pub unlike: u64,
     pub told_apart: u64,
+    /// Pairs alike whose documents or query are in another case than the generator wrote them.
+    pub recased: u64,
+    /// Pairs alike that differ in the case of values alone, and pairs not alike that do.
+    pub case_alone: u64,
+    pub unlike_case: u64,
+    pub told_apart_case: u64,
 }
+
+/// What is said of a pair alike with two outcomes.
+pub const TOLD_APART: &str = "a pair alike told apart";
 
 /// Cells by row and column.
 type Cells = Vec<(usize, usize)>;
@@ -43,13 +53,21 @@ pub fn may_differ(model: &Model, query: Option<&Query>, row: &Row, column: usize
     let table = &model.tables[row.table];
     let named = query.named();
     !model.cell_open(row, column, purpose)
-        || table.name != query.table
-        || !named.contains(&table.columns[column].name.as_str())
+        || !same(&table.name, &query.table)
+        || !listed(&named, &table.columns[column].name)
         || model.row_withheld(row, &named, purpose)
 }
 
+/// How values are changed: for others, or in their case alone (02, Q-8: "Two documents that differ in the case of an open value
+/// aren't alike", and a value that may differ may differ in that too).
+#[derive(Clone, Copy, PartialEq, Eq)]
+enum Change {
+    Values,
+    Case,
+}
+
 /// The model with some of those cells changed, each in its type; at least one, and the text within its bound.
-fn changed(random: &mut Random, model: &Model, cells: &Cells, all: bool) -> Option<Model> {
+fn changed(random: &mut Random, model: &Model, cells: &Cells, all: bool, change: Change) -> Option<Model> {
     let mut other = model.clone();
     let mut any = false;
     let share = if all { 1 } else { *random.pick(&[1, 2, 4, 20]) };
@@ -58,7 +76,11 @@ fn changed(random: &mut Random, model: &Model, cells: &Cells, all: bool) -> Opti
             continue;
         }
         let kind = model.tables[model.rows[row].table].columns[column].kind;
-        let given = documents::value(random, kind);
+        let given = match &model.rows[row].cells[column].0 {
+            Value::Name(name) if change == Change::Case || random.chance(1, 8) => Value::Name(recase::name(random, name)),
+            _ if change == Change::Case => continue,
+            _ => documents::value(random, kind),
+        };
         any = any || given != model.rows[row].cells[column].0;
         other.rows[row].cells[column].0 = given;
     }
@@ -75,7 +97,7 @@ fn accepted(doc: &[u8]) -> bool {
 
 /// One pair alike, with its questions; and where the query is answered, one pair that isn't alike.
 pub fn run(random: &mut Random, subject: Subject, buffers: &mut Buffers, tally: &mut PairTally) -> Result<(), Difference> {
-    let (model, query, text, clock, alike) = loop {
+    let (model, query, text, clock, alike, change) = loop {
         let model = match random.below(100) {
             0 => documents::at_bound(random).0,
             _ => documents::ordinary(random),
@@ -94,17 +116,22 @@ pub fn run(random: &mut Random, subject: Subject, buffers: &mut Buffers, tally: 
         let text = if is_query { query.text() } else { queries::no_query(random, &model, &query) };
         let query = if is_query { Some(query) } else { None };
         let free = free_cells(&model, query.as_ref());
-        let Some(alike) = changed(random, &model, &free, false) else { continue };
+        let change = if random.chance(1, 5) { Change::Case } else { Change::Values };
+        let Some(alike) = changed(random, &model, &free, false, change) else { continue };
         if accepted(&model.text()) {
-            break (model, query, text, clock, alike);
+            break (model, query, text, clock, alike, change);
         }
     };
-    let (doc, alike) = (model.text(), alike.text());
+    let recasing = Recasing::any(random);
+    let (doc, alike) = (recasing.turn(&model.text()), recasing.turn(&alike.text()));
+    let (text, other) = recase::any(random, text);
     if !accepted(&alike) {
         let question = Question { query: text, clock, buffer: 0 };
         return Err(pair_difference(subject, "a document alike is refused".to_string(), &doc, &alike, &question));
     }
     tally.pairs += 1;
+    tally.recased += u64::from(other || doc != model.text());
+    tally.case_alone += u64::from(change == Change::Case);
     let put = |buffer: usize, buffers: &mut Buffers| -> Result<Asked, Difference> {
         let question = Question { query: text.clone(), clock, buffer };
         let (asked, equal) = buffers.ask_pair(subject, &doc, &alike, &question)?;
@@ -134,11 +161,22 @@ pub fn run(random: &mut Random, subject: Subject, buffers: &mut Buffers, tally: 
         .flat_map(|row| (0..model.rows[row].cells.len()).map(move |column| (row, column)))
         .filter(|cell| !free.contains(cell))
         .collect();
-    if let Some(unlike) = changed(random, &model, &bound, true) {
-        let question = Question { query: text.clone(), clock, buffer: LONGEST_RESERVE };
-        let (_, equal) = buffers.ask_pair(subject, &doc, &unlike.text(), &question)?;
+    let question = Question { query: text.clone(), clock, buffer: LONGEST_RESERVE };
+    if let Some(unlike) = changed(random, &model, &bound, true, Change::Values) {
+        let (_, equal) = buffers.ask_pair(subject, &doc, &recasing.turn(&unlike.text()), &question)?;
         tally.unlike += 1;
         tally.told_apart += u64::from(!equal);
+    }
+    if let Some(unlike) = changed(random, &model, &bound, true, Change::Case) {
+        let unlike = recasing.turn(&unlike.text());
+        let (other, _) = buffers.ask_pair(subject, &unlike, &doc, &question)?;
+        let (_, equal) = buffers.ask_pair(subject, &doc, &unlike, &question)?;
+        tally.unlike_case += 1;
+        tally.told_apart_case += u64::from(!equal);
+        // Letters of the answer may be others; its length, its grant and its counts may not.
+        if other != asked {
+            return Err(pair_difference(subject, "another case of values changes what is counted".to_string(), &doc, &unlike, &question));
+        }
     }
     Ok(())
 }
@@ -155,5 +193,5 @@ fn smaller(subject: Subject, buffers: &mut Buffers, doc: &[u8], alike: &[u8], qu
         let two: Vec<u8> = places.iter().flat_map(|&place| others[place].clone()).collect();
         accepted(&one) && accepted(&two) && matches!(buffers.ask_pair(subject, &one, &two, question), Ok((_, false)))
     });
-    pair_difference(subject, "a pair alike told apart".to_string(), &keep(doc, &kept), &keep(alike, &kept), question)
+    pair_difference(subject, TOLD_APART.to_string(), &keep(doc, &kept), &keep(alike, &kept), question)
 }

@@ -3,6 +3,7 @@
 use crate::documents::{condition, deep_condition, long_name, value, wide_condition, OPERATORS};
 use crate::model::*;
 use crate::random::Random;
+use crate::recase::same;
 use reference::Clock;
 
 #[derive(Clone, Debug)]
@@ -156,7 +157,7 @@ pub fn good(random: &mut Random, model: &Model, clock: Clock) -> Query {
         if random.chance(1, 2) {
             if let Some(Condition::Compare(_, subject, value)) = &mut query.condition {
                 let rows: Vec<&Row> = model.rows.iter().filter(|row| model.tables[row.table].name == table.name).collect();
-                let place = table.columns.iter().position(|column| column.name == *subject);
+                let place = table.columns.iter().position(|column| same(&column.name, subject));
                 if let (false, Some(place)) = (rows.is_empty(), place) {
                     *value = random.pick(&rows).cells[place].0.clone();
                 }
@@ -223,7 +224,7 @@ pub fn fault(random: &mut Random, model: &Model, query: &mut Query) {
         }
         9 | 10 => {
             // 16: an operator or a value of the wrong type, somewhere in the condition.
-            if let Some(table) = model.tables.iter().find(|table| table.name == query.table) {
+            if let Some(table) = model.tables.iter().find(|table| same(&table.name, &query.table)) {
                 let column = random.pick(&table.columns);
                 let kind = if random.chance(1, 2) { Type::Num } else { Type::Name };
                 let operator = *random.pick(&OPERATORS);
@@ -252,7 +253,7 @@ pub fn fault(random: &mut Random, model: &Model, query: &mut Query) {
 
 /// A query of exactly so many bytes (about 4,096), its condition holding 64 comparisons.
 pub fn of_length(random: &mut Random, model: &Model, mut query: Query, length: usize) -> Option<Query> {
-    let table = model.tables.iter().find(|table| table.name == query.table)?;
+    let table = model.tables.iter().find(|table| same(&table.name, &query.table))?;
     let column = random.pick(&table.columns);
     let word = |random: &mut Random, letters: usize| match column.kind {
         Type::Name => Value::Name(long_name(random, letters)),
@@ -309,7 +310,7 @@ pub fn of_length(random: &mut Random, model: &Model, mut query: Query, length: u
 /// A text that is surely no query (11), made from one that is.
 pub fn no_query(random: &mut Random, model: &Model, query: &Query) -> Vec<u8> {
     let mut query = query.clone();
-    let columns: Vec<(String, Type)> = match model.tables.iter().find(|table| table.name == query.table) {
+    let columns: Vec<(String, Type)> = match model.tables.iter().find(|table| same(&table.name, &query.table)) {
         Some(table) => table.columns.iter().map(|column| (column.name.clone(), column.kind)).collect(),
         None => vec![("who".to_string(), Type::Name)],
     };
@@ -352,7 +353,14 @@ pub fn no_query(random: &mut Random, model: &Model, query: &Query) -> Vec<u8> {
             text[place] = *random.pick(&[0, 10, 13, 9, 128, 255, b'.', b'"']);
             text
         }
-        11 => [&b"(Select"[..], &text[7..]].concat(),
+        11 => {
+            // A byte that is no letter, 32 away: that is no other case of it.
+            let mut text = text;
+            let others: Vec<usize> = (0..text.len()).filter(|&place| !text[place].is_ascii_alphabetic()).collect();
+            let place = *random.pick(&others);
+            text[place] ^= 32;
+            text
+        }
         _ => b"(select)".to_vec(),
     }
 }

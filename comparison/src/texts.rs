@@ -7,10 +7,20 @@ use crate::gate::{self, Asked, Checked, Second};
 use crate::model::Model;
 use crate::queries;
 use crate::random::Random;
+use crate::recase;
 use reference::Clock;
 
 /// Texts over this length get fewer questions, for the time they take.
 const LARGE: usize = 10_000;
+
+/// How much was recased (02, Q-8).
+#[derive(Default)]
+pub struct Recased {
+    pub texts: u64,
+    pub accepted: u64,
+    pub queries: u64,
+    pub answered: u64,
+}
 
 /// What a run has seen.
 #[derive(Default)]
@@ -21,6 +31,8 @@ pub struct Tally {
     pub queries: u64,
     pub answered: u64,
     pub asked: u64,
+    /// Texts and queries in another case than the generator wrote them; of these, those accepted and answered.
+    pub recased: Recased,
     /// By refusal number.
     pub refusals: [u64; 19],
 }
@@ -46,6 +58,7 @@ struct Text {
     model: Model,
     doc: Vec<u8>,
     valid: bool,
+    recased: bool,
 }
 
 fn document(random: &mut Random) -> Text {
@@ -83,7 +96,8 @@ fn document(random: &mut Random) -> Text {
             valid = false;
         }
     }
-    Text { model, doc, valid }
+    let (doc, recased) = recase::any(random, doc);
+    Text { model, doc, valid, recased }
 }
 
 /// A query text: mostly good, else with one or two faults, of a length at the bound, no query, or damaged.
@@ -143,6 +157,8 @@ impl Run {
         self.tally.texts += 1;
         self.tally.longest = self.tally.longest.max(text.doc.len());
         let reserve = self.check(&text)?;
+        self.tally.recased.texts += u64::from(text.recased);
+        self.tally.recased.accepted += u64::from(text.recased && reserve.is_some());
         let questions = match (reserve, text.doc.len() > LARGE) {
             (None, _) => 1,
             (Some(_), true) => 2,
@@ -151,7 +167,10 @@ impl Run {
         for _ in 0..questions {
             let clock = queries::clock(random);
             let query = query(random, &text.model, &text.doc, clock);
-            self.query(random, &text.doc, &query, clock, reserve)?;
+            let (query, recased) = recase::any(random, query);
+            let answered = self.query(random, &text.doc, &query, clock, reserve)?;
+            self.tally.recased.queries += u64::from(recased);
+            self.tally.recased.answered += u64::from(recased && answered);
         }
         if before == text.doc {
             Ok(())
@@ -174,8 +193,8 @@ impl Run {
         }
     }
 
-    /// One query with several buffers, most of them about as long as the answer.
-    fn query(&mut self, random: &mut Random, doc: &[u8], query: &[u8], clock: Clock, reserve: Option<usize>) -> Result<(), Difference> {
+    /// One query with several buffers, most of them about as long as the answer; whether it is answered in some.
+    fn query(&mut self, random: &mut Random, doc: &[u8], query: &[u8], clock: Clock, reserve: Option<usize>) -> Result<bool, Difference> {
         self.tally.queries += 1;
         let mut question = Question { query: query.to_vec(), clock, buffer: LONGEST_RESERVE };
         let mut asked = self.ask(doc, &question)?;
@@ -186,7 +205,7 @@ impl Run {
         self.measure(doc, &question, asked)?;
         let Asked::Answered { length, .. } = asked else {
             question.buffer = random.below(40);
-            return self.ask(doc, &question).map(|_| ());
+            return self.ask(doc, &question).map(|_| false);
         };
         self.tally.answered += 1;
         let length = length as usize;
@@ -201,7 +220,7 @@ impl Run {
             question.buffer = buffer;
             self.ask(doc, &question)?;
         }
-        Ok(())
+        Ok(true)
     }
 
     /// Measuring gives the answer's length, or the refusal, and the second implementation measures the same (02, Q-4).

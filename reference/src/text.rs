@@ -44,7 +44,7 @@ impl<'a> Name<'a> {
 
 impl PartialEq for Name<'_> {
     fn eq(&self, other: &Name) -> bool {
-        self.small() == other.small()
+        self.bytes.len() == other.bytes.len() && self.bytes.iter().zip(other.bytes).all(|(&one, &two)| small_letter(one) == small_letter(two))
     }
 }
 
