@@ -75,6 +75,7 @@ CASES = [
     ("a name that begins with a digit", b"9a\n", (20, 0)),
     ("hyphen and underscore in a name", b"a-_9\n", [b"a-_9"]),
     ("case is kept", b"Ida,IDA,ida\n", [b"Ida IDA ida"]),
+    ("the case of table and label is kept", b"Ida,40\nbO,2\n", [b"Ida 40", b"bO 2"], b"SuB", b"FREE"),
     ("a space before a field", b"a, b\n", (20, 0)),
     ("a space behind a field", b"a ,b\n", (20, 0)),
     ("a semicolon", b"a;b\n", (20, 0)),

@@ -47,6 +47,19 @@ def nested(depth):
     return "(not " * (depth - 1) + "(eq level 1)" + ")" * (depth - 1)
 
 
+KEYWORDS = r"\((?:purpose|role|attr|user|cond-role|grant|label|table|row|allow|deny|and|or|not|[engl][eqt])\b| (?:num|name)\b|(?<=table . )\w+"
+
+
+def capital_keywords(line):
+    """A line of ROWS with its keywords alone in capitals."""
+    return re.sub(KEYWORDS, lambda word: word[0].upper(), line)
+
+
+def capital_names(line):
+    """The same with all but its keywords in capitals."""
+    return re.sub(rf"({KEYWORDS})|[a-z]", lambda found: found[0] if found[1] else found[0].upper(), line)
+
+
 def some(n, form):
     return [form.format(i) for i in range(n)]
 
@@ -84,6 +97,19 @@ CASES = [
     ("grants repeat", after(ROLES, "(grant ads senior)", "(grant ads senior)"), len(ROLES) + 2),
     ("names of different kinds", ["(purpose x)", "(role x)", "(attr x x num)", "(label x (allow x) (deny))", "(table x none (x num))"], 5),
     ("keywords as names", ["(purpose purpose)", "(role row)", "(label deny (allow purpose) (deny))", "(table table none (name num))", "(row table 3)"], 5),
+    # names without case (02, Q-8)
+    ("a keyword in another case", ["(Purpose all)"], 1),
+    ("all in capitals", [line.upper() for line in ROWS], len(ROWS)),
+    ("keywords in capitals", [capital_keywords(line) for line in ROWS], len(ROWS)),
+    ("names in capitals on every other line", [capital_names(line) if n % 2 else line for n, line in enumerate(ROWS)], len(ROWS)),
+    ("a purpose in two cases", ["(purpose Ads)", "(purpose post ads)", "(role r)", "(cond-role c r (eq hour 1))", "(grant aDS c)", "(label l (allow ADS) (deny adS))"], 6),
+    ("a type, a scheme and a set in another case", after(LABELS, "(table x COLUMN (a NUM free) (b Name free))", "(label l (Allow) (DENY))"), len(LABELS) + 2),
+    ("operators in another case", after(BASE, "(cond-role c clerk (AND (Eq level 1) (NE team red) (lT level 1) (Le level 1) (GT level 1) (gE level 1) (Not (OR (eq level 1)))))"), len(BASE) + 1),
+    ("the clock's names in another case", after(BASE, "(cond-role c desk (and (eq Year 1) (eq DAY 1) (eq houR 1)))"), len(BASE) + 1),
+    ("attributes in another case", after(BASE, "(user ben CLERK (TEAM red) (Level 7))"), len(BASE) + 1),
+    ("a label in another case in a row and in a cell", after(TABLES, "(row R Free 4 z)", "(row E (Ida FREE) (40 noAds))"), len(TABLES) + 2),
+    ("a keyword in capitals as a name", ["(role ROW)", "(user None row)", "(table Row none (Num num))", "(row ROW 1)"], 4),
+    ("names that differ in more than case", ["(role a-b)", "(role a_b)", "(role a0b)", "(role a1b)", "(role ab)", "(role abb)"], 6),
     ("values in any order", after(BASE, "(user ben clerk (level 7) (team red))"), len(BASE) + 1),
     ("user with a second role", after(USERS, "(user ana clerk (team red) (level 1))"), len(USERS) + 1),
     ("64 purposes", tree(64), 64),
@@ -108,7 +134,6 @@ CASES = [
     ("unfinished line", b"(purpose all)\n(role r)", (2, 1, None)),
     ("only a line feed", b"\n", (2, 0, None)),
     ("no form", ["(porpoise all)"], (2, 0, None)),
-    ("keyword by case", ["(Purpose all)"], (2, 0, None)),
     ("two spaces", ["(purpose  all)"], (2, 0, None)),
     ("space before bracket", ["(purpose all )"], (2, 0, None)),
     ("space after bracket", ["( purpose all)"], (2, 0, None)),
@@ -118,6 +143,15 @@ CASES = [
     ("name that begins with a digit", ["(purpose 1all)"], (2, 0, None)),
     ("byte above 127", b"(purpose caf\xc3\xa9)\n", (2, 0, None)),
     ("carriage return", b"(purpose all)\r\n", (2, 0, None)),
+    # bytes 32 apart that are no letters: 64 and 96, 91 and 123; 13 and 45, 95 and 127
+    ("an at sign in a name", ["(purpose a@)"], (2, 0, None)),
+    ("a backquote in a name", ["(purpose a`)"], (2, 0, None)),
+    ("a square bracket in a name", ["(purpose a[)"], (2, 0, None)),
+    ("a brace in a name", ["(purpose a{)"], (2, 0, None)),
+    ("byte 127 in a name", b"(purpose a\x7f)\n", (2, 0, None)),
+    ("bytes 193 and 225 in names", b"(purpose a\xc1)\n(purpose b a\xe1)\n", (2, 0, None)),
+    ("a carriage return for the keyword's hyphen", b"(role r)\n(cond\rrole c r (eq hour 1))\n", (2, 1, None)),
+    ("an underscore for the keyword's hyphen", ["(role r)", "(cond_role c r (eq hour 1))"], (2, 1, None)),
     ("attribute without type", after(BASE, "(attr desk extra)"), (2, len(BASE), None)),
     ("attribute of another type", after(BASE, "(attr desk extra date)"), (2, len(BASE), None)),
     ("user without role", after(BASE, "(user ana)"), (2, len(BASE), None)),
@@ -166,7 +200,21 @@ CASES = [
     ("unknown name twice in the denied set", after(LABELS, "(label l (allow) (deny nix nix))"), (4, len(LABELS), ("nix", 1))),
     ("table taken", after(TABLES, "(table e none (a num))"), (4, len(TABLES), ("e", 0))),
     ("column twice", after(LABELS, "(table x none (aa num) (bb num) (aa name))"), (4, len(LABELS), ("aa", 1))),
+    ("purpose taken in another case", after(BASE, "(purpose Ads bill)"), (4, len(BASE), ("Ads", 0))),
+    ("the root's name in another case", ["(purpose all)", "(purpose ALL)"], (4, 1, ("ALL", 0))),
+    ("role taken in another case", after(BASE, "(role DESK)"), (4, len(BASE), ("DESK", 0))),
+    ("attribute taken in another case", after(BASE, "(attr desk Level num)"), (4, len(BASE), ("Level", 0))),
+    ("clock name in another case as attribute", after(BASE, "(attr desk Hour num)"), (4, len(BASE), ("Hour", 0))),
+    ("pair of user and role in another case", after(USERS, "(user Ana DESK (level 9))"), (4, len(USERS), ("DESK", 0))),
+    ("conditional role taken in another case", after(ROLES, "(cond-role Senior clerk (eq hour 1))"), (4, len(ROLES), ("Senior", 0))),
+    ("label taken in another case", after(LABELS, "(label FREE (allow) (deny))"), (4, len(LABELS), ("FREE", 0))),
+    ("purpose twice in a set, in two cases", after(LABELS, "(label l (allow ads Ads) (deny))"), (4, len(LABELS), ("Ads", 0))),
+    ("unknown name twice in a set, in two cases", after(LABELS, "(label l (allow) (deny nix NIX))"), (4, len(LABELS), ("NIX", 0))),
+    ("table taken in another case", after(TABLES, "(table E none (a num))"), (4, len(TABLES), ("E", 0))),
+    ("column twice in two cases", after(LABELS, "(table x none (aa num) (bb num) (aA name))"), (4, len(LABELS), ("aA", 0))),
     # ---- 5
+    ("own name as parent in another case", ["(purpose all)", "(purpose self Self)"], (5, 1, ("Self", 0))),
+    ("a hyphen for an underscore", ["(role a_b)", "(role c a-b)"], (5, 1, ("a-b", 0))),
     ("unknown parent among 255 purposes", chain(255) + ["(purpose p255 p256)"], (5, 255, ("p256", 0))),
     ("unknown parent", after(BASE, "(purpose more nix)"), (5, len(BASE), ("nix", 0))),
     ("own name as parent", ["(purpose all)", "(purpose self self)"], (5, 1, ("self", 1))),
@@ -192,6 +240,8 @@ CASES = [
     # ---- 7
     ("attribute missing", after(BASE, "(user ana clerk (team red))"), (7, len(BASE), None)),
     ("attribute twice", after(BASE, "(user ana desk (level 5) (level 5))"), (7, len(BASE), None)),
+    ("attribute twice in two cases", after(BASE, "(user ana desk (level 5) (LEVEL 5))"), (7, len(BASE), None)),
+    ("clock name given in another case", after(BASE, "(user ana desk (level 5) (Hour 5))"), (7, len(BASE), None)),
     ("attribute of another role", after(BASE, "(user ana desk (size 5))"), (7, len(BASE), None)),
     ("clock name given", after(BASE, "(user ana desk (level 5) (hour 5))"), (7, len(BASE), None)),
     ("row with a value too few", after(TABLES, "(row n 1)"), (7, len(TABLES), None)),
@@ -206,6 +256,7 @@ CASES = [
     ("name for a number attribute", after(BASE, "(user ana desk (level high))"), (8, len(BASE), ("high", 0))),
     ("number for a name attribute", after(BASE, "(user ben clerk (level 7) (team 3))"), (8, len(BASE), ("3", 0))),
     ("operator that names do not take", after(BASE, "(cond-role c clerk (lt team 3))"), (8, len(BASE), ("lt", 0))),
+    ("operator in capitals that names do not take", after(BASE, "(cond-role c clerk (LT Team red))"), (8, len(BASE), ("LT", 0))),
     ("value of the wrong type in a condition", after(BASE, "(cond-role c clerk (and (eq team red) (eq level x)))"), (8, len(BASE), ("x", 0))),
     ("name for the clock", after(BASE, "(cond-role c desk (eq hour noon))"), (8, len(BASE), ("noon", 0))),
     ("name in a number column", after(TABLES, "(row n x y)"), (8, len(TABLES), ("x", 0))),

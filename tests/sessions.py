@@ -123,6 +123,30 @@ def of_words(purpose, names):
     return one(f"four words, asked for {purpose}", f"(select ana desk {purpose} recs (who))", answer, DAY, words("p0"))
 
 
+# names without case (02, Q-8)
+CAPITALS = [line.upper() for line in SAMPLE]
+TWO_CASES = ["(purpose All)", "(purpose Ads ALL)"] + ASKER + [
+    "(grant aDS ANY)",
+    "(label Free (allow adS) (deny))",
+    "(label Shut (allow ALL) (deny ads))",
+    "(table Recs row (Who name))",
+    "(row recs FREE Fay)",
+    "(row RECS shut Gus)",
+]
+HOURS = [
+    "(purpose p)",
+    "(role desk)",
+    "(attr desk Team name)",
+    "(user ana desk (TEAM Blue))",
+    "(user bob desk (team RED))",
+    "(cond-role c desk (or (lt Hour 17) (eq teaM red)))",
+    "(grant p C)",
+    "(table t none (k num))",
+]
+MIXED = SAMPLE[:4] + ASKER + ["(grant all any)", "(table names none (k name))"] + [
+    f"(row names {name})" for name in ["ada", "Ada", "ADA", "ad", "ada-", "ada_", "ada0", "adA-z"]
+]
+
 DAY = "(clock 2026 100 10)"
 NIGHT = "(clock 2026 100 21)"
 LEAP = "(clock 2028 366 10)"
@@ -207,7 +231,7 @@ SESSIONS = [
     one("unknown purpose", "(count ana desk sport sub)", (12, "sport")),
     one("the leftmost counts", "(count ana boss sport nowhere)", (12, "boss")),
     one("12 before 15", "(count ana desk sport nowhere)", (12, "sport")),
-    one("case counts", "(count Ana desk post sub)", (12, "Ana")),
+    one("a user whose name is longer", "(count anna desk post sub)", (12, "anna")),
     # 13
     one("a role below the user's", "(count ana night post sub)", (13, "night")),
     one("a role above the user's", "(count ana staff post sub)", (13, "staff")),
@@ -271,6 +295,38 @@ SESSIONS = [
     one("cell, count", "(count ana desk post sub (ge due 50))", [end(1, 2, 1)]),
     one("cell, a branch not reached", "(count ana desk post sub (or (ge due 0) (eq who Ida)))", [end(1, 3, 0)]),
     one("cell, another purpose", "(select ana desk bill sub (who due))", ["(row Ida 40)", "(row Bo 75)", "(row Cy 60)", end(3, 1, 0)]),
+    # names without case (02, Q-8)
+    one("user, role, purpose and table in another case", "(count Ana DESK Post SUB)", [end(4, 0, 0)]),
+    one("a purpose in another case than its definition, grant and label", "(select ana desk ADS Recs (who))", ["(row Fay)", end(1, 1, 0)], DAY, TWO_CASES),
+    one("the same, as it was defined", "(select ana desk Ads recs (who))", ["(row Fay)", end(1, 1, 0)], DAY, TWO_CASES),
+    one("a policy in capitals", SAMPLE_QUERY, ["(row CY)", end(1, 1, 1)], LEAP, CAPITALS),
+    one("a query in capitals", SAMPLE_QUERY.upper(), ["(row Cy)", end(1, 1, 1)], LEAP, SAMPLE),
+    one("both in capitals", SAMPLE_QUERY.upper(), ["(row CY)", end(1, 1, 1)], LEAP, CAPITALS),
+    one("a keyword in capitals", "(SELECT ana desk post sub (who) (GT due 50))", ["(row Cy)", end(1, 1, 1)], LEAP, SAMPLE),
+    one("keywords in mixed case", "(Count ana desk post sub (Or (Not (Eq due 40)) (aND (nE due 40) (lE due 40))))", [end(1, 1, 1)], LEAP, SAMPLE),
+    one("the clock line in capitals", SAMPLE_QUERY, ["(row Cy)", end(1, 1, 1)], "(CLOCK 2028 366 10)", SAMPLE),
+    one("the clock line in mixed case", SAMPLE_QUERY, ["(row Cy)", end(1, 1, 1)], "(cLocK 2028 366 10)", SAMPLE),
+    one("another word for the clock", SAMPLE_QUERY, (10, None), "(CLOCKS 2028 366 10)", SAMPLE),
+    one("a byte for a letter of the clock", SAMPLE_QUERY, (10, None), "(cloc{ 2028 366 10)", SAMPLE),
+    one("the hour in another case in a condition", "(count ana desk p t)", (14, "p"), "(clock 2028 1 17)", HOURS),
+    one("the hour in another case in a condition, earlier", "(count ana desk P T)", [end(0, 0, 0)], "(clock 2028 1 16)", HOURS),
+    one("a user's name value in another case", "(count bob desk p t)", [end(0, 0, 0)], "(clock 2028 1 17)", HOURS),
+    one("eq on a cell in another case, printed as written", "(select ana desk bill names (k) (eq k aDa))", ["(row ada)", "(row Ada)", "(row ADA)", end(3, 0, 5)], DAY, MIXED),
+    one("ne on a cell in another case", "(select ana desk bill names (k) (ne k ADA))", ["(row ad)", "(row ada-)", "(row ada_)", "(row ada0)", "(row adA-z)", end(5, 0, 3)], DAY, MIXED),
+    one("hyphen and underscore have no case", "(select ana desk bill names (k) (or (eq k ADA-) (eq k Ada_)))", ["(row ada-)", "(row ada_)", end(2, 0, 6)], DAY, MIXED),
+    one("a value with letters behind a hyphen", "(select ana desk bill names (K) (eq K Ada-Z))", ["(row adA-z)", end(1, 0, 7)], DAY, MIXED),
+    one("a column twice in two cases", "(select ana desk bill plain (who WHO Due) (eq WHO bo))", ["(row Bo Bo -75)", end(1, 0, 1)]),
+    one("a closed table in another case", "(count ana desk post LED)", (17, "LED")),
+    one("a closed column in another case", "(select ana desk post cols (Who Tag DUE))", (17, "Tag")),
+    one("a closed column in another case in the condition", "(select ana desk post cols (who) (gt DUE 7))", (17, "DUE")),
+    one("a cell in another case is closed all the same", "(select ana desk post SUB (WHO) (gt Due 50))", [end(0, 3, 1)]),
+    one("an operator in capitals that names do not take", "(count ana desk post sub (GT Who Ida))", (16, "GT")),
+    one("unknown in every case", "(count ANA DESK SPORT sub)", (12, "SPORT")),
+    one("a role in another case that is not the user's", "(count ana NIGHT post sub)", (13, "NIGHT")),
+    one("a purpose in another case that is not granted", "(count ana desk ALL plain)", (14, "ALL")),
+    one("a backquote in a name", "(count an` desk post sub)", (11, WHOLE)),
+    one("an at sign in a name", "(count @na desk post sub)", (11, WHOLE)),
+    one("a square bracket in a keyword", "(selec[ ana desk post sub (who))", (11, WHOLE)),
     # 256 purposes
     one("granted at the root, asked 255 below", "(select ana desk p255 recs (who))", ["(row Ada)", "(row Bea)", end(2, 1, 0)], DAY, chain("p0")),
     one("granted at the root, asked at the root", "(select ana desk p0 recs (who))", ["(row Ada)", end(1, 2, 0)], DAY, chain("p0")),
