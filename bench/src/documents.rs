@@ -250,23 +250,32 @@ fn purpose(number: usize) -> String {
 }
 
 /// The cases that are made to be bad, which the goals leave out.
-pub const BAD: [&str; 7] = ["full", "turns", "dear", "front", "nots", "alike", "wide"];
+pub const BAD: [&str; 9] = ["full", "turns", "dear", "front", "mixed", "nots", "cased", "alike", "wide"];
 
 /// Lookups that are dear: 64 labels of 24 bytes that differ in the last two, each of 16 cells in a row with the last of them.
 pub fn dear_lookups() -> Case {
-    lookups("dear", |number| format!("label-with-a-long-name{number:02}"))
+    lookups("dear", last_two, |name| name)
+}
+
+fn last_two(number: usize) -> String {
+    format!("label-with-a-long-name{number:02}")
 }
 
 /// The same with labels that differ in the first two bytes.
 pub fn front_lookups() -> Case {
-    lookups("front", |number| format!("{}{}-name-of-a-label-long", letter(number / 8), letter(number % 8)))
+    lookups("front", |number| format!("{}{}-name-of-a-label-long", letter(number / 8), letter(number % 8)), |name| name)
+}
+
+/// As the first, with the labels defined in small letters and used in capitals (02, Q-8).
+pub fn mixed_lookups() -> Case {
+    lookups("mixed", last_two, |name| name.to_uppercase())
 }
 
 fn letter(place: usize) -> char {
     (b'a' + place as u8) as char
 }
 
-fn lookups(scheme: &'static str, named: fn(usize) -> String) -> Case {
+fn lookups(scheme: &'static str, named: fn(usize) -> String, used: fn(String) -> String) -> Case {
     let mut text = String::from("(purpose all)\n(role desk)\n(user ana desk)\n(cond-role any desk (ge hour 0))\n(grant all any)\n");
     for number in 0..64 {
         text.push_str(&format!("(label {} (allow all) (deny))\n", named(number)));
@@ -276,7 +285,7 @@ fn lookups(scheme: &'static str, named: fn(usize) -> String) -> Case {
         text.push_str(&format!(" (c{column:02} num)"));
     }
     text.push_str(")\n");
-    let row = format!("(row sub{})\n", format!(" (1 {})", named(63)).repeat(16));
+    let row = format!("(row sub{})\n", format!(" (1 {})", used(named(63))).repeat(16));
     while text.len() + row.len() <= 60_000 {
         text.push_str(&row);
     }
@@ -342,7 +351,16 @@ pub fn nested_nots() -> Case {
 
 /// 64 comparisons of names that are the same to the last byte, every one of which is met in every row.
 pub fn alike_names() -> Case {
-    plain("alike", " (c00 name)", &format!(" {LONG}"), "c00", &format!("(or{})", format!(" (ne c00 {LONG})").repeat(64)))
+    same_names("alike", LONG)
+}
+
+/// The same with names that are the same but for their case (02, Q-8).
+pub fn cased_names() -> Case {
+    same_names("cased", &LONG.to_uppercase())
+}
+
+fn same_names(scheme: &'static str, compared: &str) -> Case {
+    plain(scheme, " (c00 name)", &format!(" {LONG}"), "c00", &format!("(or{})", format!(" (ne c00 {compared})").repeat(64)))
 }
 
 /// One column of long names, selected sixteen times.

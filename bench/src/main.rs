@@ -292,7 +292,9 @@ fn main() -> std::io::Result<()> {
     cases.push(documents::turning_condition());
     cases.push(documents::dear_lookups());
     cases.push(documents::front_lookups());
+    cases.push(documents::mixed_lookups());
     cases.push(documents::nested_nots());
+    cases.push(documents::cased_names());
     cases.push(documents::alike_names());
     cases.push(documents::wide_answer());
     let words: Vec<String> = std::env::args().skip(1).collect();

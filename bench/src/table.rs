@@ -62,8 +62,8 @@ fn explain(turns: usize, in_a_row: usize) {
     println!("Growth: over the row of half its size. bytes: one pass of two byte classes over the same text; nine: the same with nine classes.");
     println!("chain: no rows, 64 and 256 purposes, each below the one before it; growth is that of the second over the first.");
     println!("Bad inputs. full: scheme none, a condition of 64 comparisons that come out alike in most rows; turns: that come out otherwise in nearly every row.");
-    println!("dear: 64 labels of 24 bytes alike but for the last two; front: but for the first two.");
-    println!("nots: 64 comparisons below five nots each; alike: 64 of names that are the same; wide: one column selected sixteen times.\n");
+    println!("dear: 64 labels of 24 bytes alike but for the last two; front: but for the first two; mixed: as dear, used in another case than defined.");
+    println!("nots: 64 comparisons below five nots each; alike: 64 of names that are the same; cased: the same but for their case; wide: one column selected sixteen times.\n");
 }
 
 /// Asking from the text, and its goals.

@@ -1,5 +1,5 @@
-//! Documents that are dear to check: as many names of one kind as there may be, of 24 bytes each, alike but for a few bytes or of one
-//! hash. The gate's check beside the reference's.
+//! Documents that are dear to check: as many names of one kind as there may be, of 24 bytes each, alike but for a few bytes, of one
+//! hash, or in mixed case. The gate's check beside the reference's.
 
 use crate::samples::Samples;
 use crate::{gate, plain, taken};
@@ -21,14 +21,17 @@ enum Differing {
     Hash,
     /// The same of the print by which users, conditional roles and the names within a line are told apart.
     Print,
+    /// As at the end, and each name in another case wherever it stands (02, Q-8).
+    Case,
 }
 
-const DIFFERING: [(&str, Differing); 5] = [
+const DIFFERING: [(&str, Differing); 6] = [
     ("end", Differing::End),
     ("middle", Differing::Middle),
     ("front", Differing::Front),
     ("hash", Differing::Hash),
     ("print", Differing::Print),
+    ("case", Differing::Case),
 ];
 
 fn letter(place: usize) -> char {
@@ -77,12 +80,17 @@ fn of_one_hash(so_many: usize, factor: u64, bound: u64) -> Vec<String> {
 fn names(so_many: usize, differing: Differing) -> Vec<String> {
     let made = |made: fn(String) -> String| (0..so_many).map(|number| made(two(number))).collect();
     match differing {
-        Differing::End => made(|word| format!("a-name-that-is-so-long{word}")),
+        Differing::End | Differing::Case => made(|word| format!("a-name-that-is-so-long{word}")),
         Differing::Middle => made(|word| format!("a-name-that{word}is-so-long")),
         Differing::Front => made(|word| format!("{word}a-name-that-is-so-long")),
         Differing::Hash => of_one_hash(so_many, 105, 1 << 10),
         Differing::Print => of_one_hash(so_many, 2_654_435_761, 1 << 32),
     }
+}
+
+/// The text with every third letter in capitals, counted over the whole of it, so that few uses of a name are alike.
+fn mixed(text: Vec<u8>) -> Vec<u8> {
+    text.iter().enumerate().map(|(place, byte)| if place % 3 == 0 { byte.to_ascii_uppercase() } else { *byte }).collect()
 }
 
 const HEAD: &str = "(purpose all)\n(role desk)\n";
@@ -242,9 +250,10 @@ fn long_line(repeats: bool) -> Vec<u8> {
     let mut text = String::from("(purpose p)\n(label l (allow");
     // The digits of the number times an odd factor: no order that a hash might like.
     let name = |number: usize| -> String {
-        const BYTES: &[u8] = b"abcdefghijklmnopqrstuvwxyzABCDEFGHIJKLMNOPQRSTUVWXYZ0123456789-_";
-        let mixed = number * 7_919 % (52 * 64 * 64);
-        [mixed / 4_096, mixed / 64 % 64, mixed % 64].map(|place| char::from(BYTES[place])).iter().collect()
+        // Without capitals: no two names may be the same but for case.
+        const BYTES: &[u8] = b"abcdefghijklmnopqrstuvwxyz0123456789-_";
+        let mixed = number * 7_919 % (26 * 38 * 38);
+        [mixed / (38 * 38), mixed / 38 % 38, mixed % 38].map(|place| char::from(BYTES[place])).iter().collect()
     };
     let mut number = 0;
     while text.len() + 20 <= LONGEST {
@@ -281,7 +290,8 @@ fn documents() -> Vec<(String, Vec<u8>)> {
     for (alike, differing) in DIFFERING {
         let names = names(256, differing);
         for (kind, document) in KINDS {
-            documents.push((format!("{kind}; {alike}"), document(&names)));
+            let text = document(&names);
+            documents.push((format!("{kind}; {alike}"), if differing == Differing::Case { mixed(text) } else { text }));
         }
     }
     documents.push(("a line of 14,990 names; refused with 5".into(), long_line(false)));
@@ -291,7 +301,7 @@ fn documents() -> Vec<(String, Vec<u8>)> {
 
 /// Measures those whose name has the word in it, and prints a table.
 pub fn measure(word: &str) {
-    println!("Microseconds of a check, 10th percentile; names of 24 bytes that differ in two bytes (hash: that have one hash).\n");
+    println!("Microseconds of a check, 10th percentile; names of 24 bytes that differ in two bytes (hash, print: that have one of these; case: in mixed case).\n");
     println!("{:50}{:>7}{:>9}{:>11}{:>11}{:>10}", "document", "bytes", "refusal", "gate", "reference", "gate/ref");
     for (name, text) in documents().iter().filter(|(name, _)| name.contains(word)) {
         let (number, _) = gate::check(text);

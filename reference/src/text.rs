@@ -38,25 +38,18 @@ impl<'a> Name<'a> {
 
     /// The name in small letters, for keywords.
     pub fn small(&self) -> Vec<u8> {
-        self.bytes.iter().map(|&byte| small_letter(byte)).collect()
+        self.bytes.to_ascii_lowercase()
     }
 }
 
+/// 02, Q-8: "the case of ASCII letters": the 26 have two, and no other byte has.
 impl PartialEq for Name<'_> {
     fn eq(&self, other: &Name) -> bool {
-        self.bytes.len() == other.bytes.len() && self.bytes.iter().zip(other.bytes).all(|(&one, &two)| small_letter(one) == small_letter(two))
+        self.bytes.eq_ignore_ascii_case(other.bytes)
     }
 }
 
 impl Eq for Name<'_> {}
-
-/// 02, Q-8: "the case of ASCII letters": the 26 have two, and no other byte has.
-fn small_letter(byte: u8) -> u8 {
-    match byte {
-        b'A'..=b'Z' => byte - b'A' + b'a',
-        _ => byte,
-    }
-}
 
 /// A name, a number or a bracket.
 #[derive(Clone, Debug, PartialEq, Eq)]
