@@ -203,7 +203,7 @@ fn catch(options: &Options, blunder: u32) -> ExitCode {
     let mut pairs = PairTally::default();
     let leaked = (0..options.pairs).find(|place| {
         let mut random = Random::new(options.seed, place | 1 << 40);
-        pairs::run(&mut random, Subject::Mutant, &mut buffers, &mut pairs).is_err_and(|difference| difference.what == pairs::TOLD_APART)
+        pairs::run(&mut random, Subject::Mutant, &mut buffers, &mut pairs).is_err_and(|difference| difference.what != pairs::COUNTED_OTHERWISE)
     });
     match leaked {
         Some(place) => println!("mutant {blunder}: breaks the no-difference claim after {} pairs", place + 1),

@@ -25,8 +25,8 @@ pub struct PairTally {
     pub told_apart_case: u64,
 }
 
-/// What is said of a pair alike with two outcomes.
-pub const TOLD_APART: &str = "a pair alike told apart";
+/// What is said of a pair that is not alike, where another case of values changes more than letters: no break of the claim.
+pub const COUNTED_OTHERWISE: &str = "another case of values changes what is counted";
 
 /// Cells by row and column.
 type Cells = Vec<(usize, usize)>;
@@ -175,7 +175,7 @@ pub fn run(random: &mut Random, subject: Subject, buffers: &mut Buffers, tally: 
         tally.told_apart_case += u64::from(!equal);
         // Letters of the answer may be others; its length, its grant and its counts may not.
         if other != asked {
-            return Err(pair_difference(subject, "another case of values changes what is counted".to_string(), &doc, &unlike, &question));
+            return Err(pair_difference(subject, COUNTED_OTHERWISE.to_string(), &doc, &unlike, &question));
         }
     }
     Ok(())
@@ -193,5 +193,5 @@ fn smaller(subject: Subject, buffers: &mut Buffers, doc: &[u8], alike: &[u8], qu
         let two: Vec<u8> = places.iter().flat_map(|&place| others[place].clone()).collect();
         accepted(&one) && accepted(&two) && matches!(buffers.ask_pair(subject, &one, &two, question), Ok((_, false)))
     });
-    pair_difference(subject, TOLD_APART.to_string(), &keep(doc, &kept), &keep(alike, &kept), question)
+    pair_difference(subject, "a pair alike told apart".to_string(), &keep(doc, &kept), &keep(alike, &kept), question)
 }
