@@ -1,23 +1,33 @@
 //! The rows of a document and a query on them in SQL, modified for its purpose, for peers that hold the rows with their labels.
+//! Names have no case (02, Q-8): all but the values of rows are held in small letters.
 
 /// A bracket text: a word or a list.
 enum Form {
-    Word(String),
+    Word { written: String, small: String },
     List(Vec<Form>),
 }
 
 impl Form {
+    /// A keyword, a name or a number, in small letters.
     fn word(&self) -> &str {
         match self {
-            Form::Word(word) => word,
+            Form::Word { small, .. } => small,
             Form::List(_) => panic!("a word is wanted"),
+        }
+    }
+
+    /// The value of a row, which is printed as it is written.
+    fn value(&self) -> Value {
+        match self {
+            Form::Word { written, .. } => Value::of(written),
+            Form::List(_) => panic!("a value is wanted"),
         }
     }
 
     fn list(&self) -> &[Form] {
         match self {
             Form::List(forms) => forms,
-            Form::Word(_) => panic!("a list is wanted"),
+            Form::Word { .. } => panic!("a list is wanted"),
         }
     }
 }
@@ -32,7 +42,10 @@ fn read(text: &str) -> Form {
                 let done = open.pop().expect("brackets in pairs");
                 open.last_mut().expect("brackets in pairs").push(Form::List(done));
             }
-            _ => open.last_mut().expect("brackets in pairs").push(Form::Word(word.to_string())),
+            _ => {
+                let word = Form::Word { written: word.to_string(), small: word.to_ascii_lowercase() };
+                open.last_mut().expect("brackets in pairs").push(word);
+            }
         }
     }
     open.remove(0).remove(0)
@@ -73,6 +86,33 @@ impl Held {
     }
 }
 
+/// How a peer compares a column of names with a name, without the case of the 26 ASCII letters (02, Q-8).
+#[derive(Clone, Copy, PartialEq, Eq)]
+pub enum Compared {
+    /// By the column's collation, as SQLite has one for it.
+    Collated,
+    /// By the column in small letters, as PostgreSQL does where its locale is C.
+    Lowered,
+}
+
+impl Compared {
+    /// The type of a column of names.
+    fn kind(self) -> &'static str {
+        match self {
+            Compared::Collated => "TEXT COLLATE NOCASE",
+            Compared::Lowered => "TEXT",
+        }
+    }
+
+    /// What is compared with a name in small letters.
+    fn column(self, column: &str) -> String {
+        match self {
+            Compared::Collated => column.into(),
+            Compared::Lowered => format!("lower({column})"),
+        }
+    }
+}
+
 struct Label {
     name: String,
     allowed: Mask,
@@ -89,6 +129,7 @@ pub struct Table {
     pub name: String,
     scheme: String,
     held: Held,
+    compared: Compared,
     columns: Vec<Column>,
     pub rows: Vec<Vec<Value>>,
 }
@@ -101,7 +142,7 @@ impl Table {
             fields.extend(self.held.fields(ROW));
         }
         for column in &self.columns {
-            fields.push(format!("{} {}", column.name, if column.holds_numbers { "BIGINT" } else { "TEXT" }));
+            fields.push(format!("{} {}", column.name, if column.holds_numbers { "BIGINT" } else { self.compared.kind() }));
             if self.scheme == "cell" {
                 fields.extend(self.held.fields(&column.name));
             }
@@ -127,6 +168,7 @@ pub struct Document {
     parents: Vec<(String, Option<String>)>,
     labels: Vec<Label>,
     held: Held,
+    compared: Compared,
     pub tables: Vec<Table>,
 }
 
@@ -142,9 +184,9 @@ fn by_masks(of: &str, [above, related]: [Mask; 2]) -> String {
 const LABELS: &str = "labels";
 
 impl Document {
-    pub fn read(text: &[u8], held: Held) -> Document {
-        let labels = Table { name: LABELS.into(), scheme: "none".into(), held, columns: Vec::new(), rows: Vec::new() };
-        let mut document = Document { parents: Vec::new(), labels: Vec::new(), held, tables: vec![labels] };
+    pub fn read(text: &[u8], held: Held, compared: Compared) -> Document {
+        let mut document = Document { parents: Vec::new(), labels: Vec::new(), held, compared, tables: Vec::new() };
+        document.tables.push(document.table(LABELS, "none", Vec::new()));
         for (name, holds_numbers) in [("of_table", false), ("of_column", false), ("allowed", true), ("denied", true)] {
             document.tables[0].columns.push(Column { name: name.into(), holds_numbers });
         }
@@ -163,6 +205,11 @@ impl Document {
             }
         }
         document
+    }
+
+    /// A table without rows.
+    fn table(&self, name: &str, scheme: &str, columns: Vec<Column>) -> Table {
+        Table { name: name.into(), scheme: scheme.into(), held: self.held, compared: self.compared, columns, rows: Vec::new() }
     }
 
     fn mask<'a>(&self, purposes: impl Iterator<Item = &'a str>) -> Mask {
@@ -191,7 +238,7 @@ impl Document {
         }
         let columns = columns.iter().map(Form::list);
         let columns = columns.map(|column| Column { name: column[0].word().into(), holds_numbers: column[1].word() == "num" });
-        self.tables.push(Table { name: name.into(), scheme: scheme.into(), held: self.held, columns: columns.collect(), rows: Vec::new() });
+        self.tables.push(self.table(name, scheme, columns.collect()));
     }
 
     fn add_row(&mut self, name: &str, items: &[Form]) {
@@ -206,15 +253,15 @@ impl Document {
         match self.tables[place].scheme.as_str() {
             "row" => {
                 row.extend(labels(&items[0]));
-                row.extend(items[1..].iter().map(|item| Value::of(item.word())));
+                row.extend(items[1..].iter().map(Form::value));
             }
             "cell" => {
                 for item in items.iter().map(Form::list) {
-                    row.push(Value::of(item[0].word()));
+                    row.push(item[0].value());
                     row.extend(labels(&item[1]));
                 }
             }
-            _ => row.extend(items.iter().map(|item| Value::of(item.word()))),
+            _ => row.extend(items.iter().map(Form::value)),
         }
         self.tables[place].rows.push(row);
     }
@@ -255,7 +302,7 @@ impl Document {
         let (selected, rest) = if kind.word() == "select" { (rest[0].list(), &rest[1..]) } else { (&[][..], rest) };
         let selected: Vec<String> = selected.iter().map(|column| column.word().to_string()).collect();
         let mut named = selected.clone();
-        let condition = rest.first().map(|form| condition(form, &mut named));
+        let condition = rest.first().map(|form| condition(form, self.compared, &mut named));
         named.sort();
         named.dedup();
         let closed = |among: String| format!("SELECT count(*) FROM {LABELS} WHERE of_table = '{name}' AND {among} AND NOT ({})", by_masks("", self.around(purpose)));
@@ -281,7 +328,7 @@ impl Document {
 }
 
 /// A condition in SQL; the columns that it names are added to the others.
-fn condition(form: &Form, named: &mut Vec<String>) -> String {
+fn condition(form: &Form, compared: Compared, named: &mut Vec<String>) -> String {
     let [word, rest @ ..] = form.list() else { panic!("a condition has a word") };
     let operator = match word.word() {
         "eq" => "=",
@@ -290,16 +337,16 @@ fn condition(form: &Form, named: &mut Vec<String>) -> String {
         "le" => "<=",
         "gt" => ">",
         "ge" => ">=",
-        "not" => return format!("(NOT {})", condition(&rest[0], named)),
+        "not" => return format!("(NOT {})", condition(&rest[0], compared, named)),
         joined => {
-            let parts: Vec<String> = rest.iter().map(|part| condition(part, named)).collect();
+            let parts: Vec<String> = rest.iter().map(|part| condition(part, compared, named)).collect();
             return format!("({})", parts.join(&format!(" {} ", joined.to_uppercase())));
         }
     };
     let column = rest[0].word();
     named.push(column.to_string());
     match Value::of(rest[1].word()) {
-        Value::Name(name) => format!("({column} {operator} '{name}')"),
+        Value::Name(name) => format!("({} {operator} '{name}')", compared.column(column)),
         Value::Number(number) => format!("({column} {operator} {number})"),
     }
 }

@@ -25,7 +25,7 @@ pub fn shown(number: f64, places: usize) -> String {
 fn explain() {
     println!("\nThe document loaded, beside SQLite that holds the same rows with their labels, in memory, without an index, queries prepared.");
     match crate::sqlite::version() {
-        Some(version) => println!("SQLite {version}, by its C interface. Its answers were the same, byte by byte."),
+        Some(version) => println!("SQLite {version}, by its C interface, names by its collation NOCASE. Its answers were the same, byte by byte."),
         None => println!("SQLite is left out: no libsqlite3 to link (libsqlite3-dev)."),
     }
     println!("text: the gate from the text. loaded: the gate on the loaded document.");

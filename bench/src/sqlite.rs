@@ -1,7 +1,7 @@
 //! SQLite by its C interface, in memory, with the rows of a document and prepared queries.
 
 use crate::documents::Case;
-use crate::modified::{Document, Held, Modified, Table, Value};
+use crate::modified::{Compared, Document, Held, Modified, Table, Value};
 use crate::writing::Writing;
 use crate::{Call, BUFFER};
 use std::ffi::{c_char, c_int, c_void, CStr, CString};
@@ -227,7 +227,7 @@ struct Form {
 
 impl Form {
     fn new(case: &Case, held: Held) -> Form {
-        let document = Document::read(&case.text, held);
+        let document = Document::read(&case.text, held, Compared::Collated);
         let database = Database::load(&document);
         let select = Query::new(&database, document.modify(&case.select));
         let count = Query::new(&database, document.modify(&case.count));

@@ -5,7 +5,7 @@ mod server;
 
 use crate::documents::Case;
 use crate::loaded::Loaded;
-use crate::modified::{Document, Held, Modified, Table, Value};
+use crate::modified::{Compared, Document, Held, Modified, Table, Value};
 use crate::samples::Samples;
 use crate::writing::Writing;
 use crate::{key, taken, Call, BUFFER};
@@ -52,7 +52,7 @@ struct Postgres {
 impl Postgres {
     /// Each document has a schema of its own.
     fn open(folder: &Path, owner: &mut Server, case: &Case) -> Result<Postgres> {
-        let document = Document::read(&case.text, Held::Masks);
+        let document = Document::read(&case.text, Held::Masks, Compared::Lowered);
         let (select, count) = (document.modify(&case.select), document.modify(&case.count));
         let schema = key(case).replace('-', "_");
         owner.run(&format!("CREATE SCHEMA {schema}; GRANT USAGE ON SCHEMA {schema} TO {ASKER}; SET search_path TO {schema}"))?;
@@ -162,7 +162,7 @@ pub fn measure(cases: &[Case], folder: &Path) -> Result<()> {
     let mut owner = Server::connect(folder, OWNER, OWNER)?;
     owner.run(&format!("CREATE ROLE {ASKER} LOGIN"))?;
     println!("Microseconds a call, 10th percentile, turns alternating. PostgreSQL over a socket, without an index, statements prepared, values in binary.");
-    println!("Every value is looked at and none written. Labels of rows: row-level security. Labels of cells: the modified query.");
+    println!("Every value is looked at and none written. Labels of rows: row-level security. Labels of cells: the modified query. Names are compared by lower().");
     println!("nothing: SELECT 1, the way there and back. l/without: loaded over PostgreSQL without that. The rows were the same, byte by byte.");
     print!("\n{:7}{:>7}{:>6} {:8}", "scheme", "bytes", "rows", "call");
     println!("{:>12}{:>12}{:>12}{:>12}{:>12}{:>12}{:>12}", "text", "loaded", "PostgreSQL", "nothing", "text/Post", "loaded/Post", "l/without");
