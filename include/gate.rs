@@ -228,7 +228,7 @@ pub fn measure(doc: &[u8], query: &[u8], clock: Clock) -> Result<usize, Refusal>
 }
 
 /// The version of the struct below, as include/gate.h has it.
-const DOCUMENT_VERSION: u64 = 7_700_001;
+const DOCUMENT_VERSION: u64 = 7_700_002;
 
 /// As `struct gate_document` in include/gate.h.
 #[repr(C)]
@@ -242,7 +242,7 @@ struct Document {
     grants: [u64; 256],
     labels: [u64; 64],
     sets: [u64; 512],
-    tables: [u64; 416],
+    tables: [u64; 424],
     rows: [u64; 35840],
 }
 

@@ -13,7 +13,7 @@ use Rattle.answer.specs.Seen.{Seen, onlyNamed, rowsIn, seenIn, seenRow, 
 use Rattle.condition.proofs.HoldsLaws.{holds-agree}
 use Rattle.condition.specs.Comparison.{Comparison, meets}
 use Rattle.condition.specs.Cond.{Cond, comparisonsIn}
-use Rattle.document.specs.Lookup.{schemeAt}
+use Rattle.document.specs.Lookup.{labellingAt}
 use Rattle.document.specs.Open.{labelOpen, rowWithheld}
 use Rattle.document.specs.Policy.{Doc, Row}
 use Rattle.form.specs.Form.{unlabelled}
@@ -29,7 +29,7 @@ use Rattle.text.specs.Numbers.{Value}
 
 -- of two columns the second is named: its value is seen, and the first's is not
 named-alone : (isOpen : Option ℕ → Bool) (t : ℕ) (a b : Value)
-    → seenRow isOpen unlabelled (1 ∷ []) (1 ∷ []) (record { table = t; values = a ∷ b ∷ []; labels = [] }) ≡ shown ([] ∷ b ∷ [])
+    → seenRow isOpen (unlabelled false) (1 ∷ []) (1 ∷ []) (record { table = t; values = a ∷ b ∷ []; labels = [] }) ≡ shown ([] ∷ b ∷ [])
 unfolding seenRow rowWithheld onlyNamed member anyOf
 named-alone isOpen t a b = refl
 
@@ -100,7 +100,7 @@ module _ (passes : List Value → Bool) (vs : List Value) where
 module _ (d : Doc) (q : Query) (parts : NamesParts q) where
   -- what is seen of a row
   abbrev seen : Row → Seen
-  seen r = seenRow (labelOpen (d .policy) (q .purpose)) (schemeAt (d .policy) (q .source .table)) (q .source .withholding) (q .source .named) r
+  seen r = seenRow (labelOpen (d .policy) (q .purpose)) (labellingAt (d .policy) (q .source .table)) (q .source .withholding) (q .source .named) r
 
   -- a row's values in the named columns
   abbrev visible : Row → List Value

@@ -14,7 +14,7 @@ use Rattle.document.specs.Lookup.{schemeOf}
 use Rattle.document.specs.Meaning.{rowMeant}
 use Rattle.document.specs.Policy.{Policy, Row}
 use Rattle.form.proofs.RowBack.{row-back, row-read, rowParts}
-use Rattle.form.specs.Form.{Form, Item, attr, condRole, grant, label, purpose, role, row, table, user}
+use Rattle.form.specs.Form.{Form, Item, attr, condRole, grant, label, note, purpose, role, row, table, user}
 use Rattle.form.specs.FormReader.{formOf}
 use Rattle.form.specs.RowText.{keywordIn, labelCount}
 use Rattle.answer.proofs.AlikeComplete.{ReadParts, alike-as-read, asRowLine, meant-parts, parts-once, read-parts, row-keyword}
@@ -85,6 +85,7 @@ row-or-none (condRole c r x) = inr (refl, refl)
 row-or-none (grant p c) = inr (refl, refl)
 row-or-none (label l ps qs) = inr (refl, refl)
 row-or-none (table t s cs) = inr (refl, refl)
+row-or-none (note t n) = inr (refl, refl)
 row-or-none (row t is) = inl (t, is, refl)
 
 -- a line that the test takes for a row is read as that row

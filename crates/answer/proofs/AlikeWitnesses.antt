@@ -1,4 +1,4 @@
--- Pairs of documents that pin which values may differ (01, "The no-difference claim"), by computation, both ways: for each
+-- Pairs of documents that pin which values may differ (01, "The no-difference claim"; 02, Q-2), by computation, both ways: for each
 -- reason that lets a value differ a pair that is alike for that reason alone, and pairs that are not alike. The claim itself
 -- does not pin the reasons: it gets easier where fewer values are free.
 use Prim.Native.Nat.{ℕ}
@@ -29,11 +29,14 @@ pub record Witness : Type 0 where
 unfoldable pub asker : List ℕ
 asker = ascii "(purpose ads)\n(role desk)\n(user ana desk)\n(cond-role any desk (gt day 0))\n(grant ads any)\n"
 
+unfoldable pub undeclared : List ℕ
+undeclared = asker ++ ascii "(table t none (a num) (b num))\n"
+
 unfoldable pub plain : List ℕ
-plain = asker ++ ascii "(table t none (a num) (b num))\n"
+plain = undeclared ++ ascii "(public t)\n"
 
 unfoldable pub named : List ℕ
-named = asker ++ ascii "(table t none (a name) (b name))\n"
+named = asker ++ ascii "(table t none (a name) (b name))\n(public t)\n"
 
 unfoldable pub labelled : List ℕ
 labelled = asker ++ ascii "(label open (allow ads) (deny))\n(label shut (allow) (deny))\n"
@@ -70,6 +73,11 @@ freeValues =
     -- closed: by its table's label, by its column's; the query names it, and no row is withheld
     alikeFor shutTable "(select ana desk ads t (a))" "(row t 1)\n" "(row t 2)\n"
     ∷ alikeFor columns "(select ana desk ads t (a b))" "(row t 1 2)\n" "(row t 1 3)\n"
+    -- closed: its table has no labels and is not declared public (02, Q-2), though another is; its table has, and is declared public
+    ∷ alikeFor undeclared "(select ana desk ads t (a b))" "(row t 1 2)\n" "(row t 3 2)\n"
+    ∷ alikeFor undeclared "(count ana desk ads t (eq b 2))" "(row t 1 2)\n" "(row t 1 3)\n"
+    ∷ alikeFor undeclared "(select ana desk ads t (a))" "(table u none (a num))\n(public u)\n(row t 1 2)\n" "(table u none (a num))\n(public u)\n(row t 3 2)\n"
+    ∷ alikeFor shutTable "(select ana desk ads t (a))" "(public t)\n(row t 1)\n" "(public t)\n(row t 2)\n"
     -- its column is not named: by a select, by a condition, by a count
     ∷ alikeFor plain "(select ana desk ads t (a))" "(row t 1 2)\n" "(row t 1 3)\n"
     ∷ alikeFor plain "(count ana desk ads t (eq b 2))" "(row t 1 2)\n" "(row t 3 2)\n"
@@ -81,7 +89,7 @@ freeValues =
     ∷ alikeFor cells "(select ana desk ads t (a) (eq b 2))" "(row t (1 open) (2 shut))\n" "(row t (3 open) (2 shut))\n"
     -- its row's label is closed, so that the cell is and the row is withheld
     ∷ alikeFor rows "(select ana desk ads t (a))" "(row t shut 1)\n" "(row t shut 2)\n"
-    -- an unknown purpose has every cell closed to it, also where there are no labels
+    -- an unknown purpose has every cell closed to it, also where the table is public
     ∷ alikeFor plain "(select ana desk post t (a))" "(row t 1 2)\n" "(row t 3 2)\n"
     ∷ alikeFor rows "(select ana desk post t (a))" "(row t open 1)\n" "(row t open 2)\n"
     -- an unknown table is none of the document's, so that none is named
@@ -112,6 +120,8 @@ fixedValues =
     ∷ unlikeFor columns "(select ana desk ads t (a))" "(row t 1 2)\n" "(row t 3 2)\n"
     ∷ unlikeFor rows "(select ana desk ads t (a))" "(row t open 1)\n" "(row t open 2)\n"
     ∷ unlikeFor cells "(select ana desk ads t (a))" "(row t (1 open) (2 shut))\n" "(row t (3 open) (2 shut))\n"
+    -- the same where the table is declared public behind its rows (02, Q-2)
+    ∷ unlikeFor undeclared "(select ana desk ads t (a))" "(row t 1 2)\n(public t)\n" "(row t 3 2)\n(public t)\n"
     -- in a column of the condition, though its branch is not reached; of a count's condition
     ∷ unlikeFor plain "(select ana desk ads t (a) (or (eq a 1) (eq b 2)))" "(row t 1 2)\n" "(row t 1 3)\n"
     ∷ unlikeFor plain "(count ana desk ads t (eq b 2))" "(row t 1 2)\n" "(row t 1 3)\n"
@@ -156,7 +166,7 @@ asExpected w = not (sameBytes (w .first) (w .second)) && Bool·beq (alike? (w .t
 
 -- Of every witness the test says what is expected.
 pub witnesses : allOf asExpected (freeValues ++ fixedValues) ≡ true
-unfolding computing asker plain named labelled shutTable openTable columns rows cells namedCells alikeFor unlikeFor freeValues fixedValues asExpected
+unfolding computing asker undeclared plain named labelled shutTable openTable columns rows cells namedCells alikeFor unlikeFor freeValues fixedValues asExpected
 witnesses = refl
 
 -- ---- so it is with being alike itself

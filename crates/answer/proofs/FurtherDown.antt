@@ -8,7 +8,7 @@ use mathlib.Core.Option.{Option, some}
 use mathlib.Core.Path.{_∙_, _≡_, ap, refl}
 use native.Mathlib.Omega.{arith}
 use Rattle.document.proofs.OpenLaws.{rowWithheld-less}
-use Rattle.document.specs.Lookup.{purposeOf, schemeAt}
+use Rattle.document.specs.Lookup.{labellingAt, purposeOf}
 use Rattle.document.specs.Open.{labelOpen, rowWithheld}
 use Rattle.document.specs.Policy.{Doc, Row, treeOf}
 use Rattle.form.specs.Form.{Scheme}
@@ -101,7 +101,7 @@ seen-further : (d : Doc) (q : Query) (p : ℕ) → ((l : Option ℕ) → labelOp
     → Further (seenRows d q) (seenRows d (toPurpose p q))
 unfolding seenRows seenIn toPurpose
 seen-further d q p wider =
-    map-further _ _ (row-further (labelOpen (d .policy) (q .purpose)) (labelOpen (d .policy) p) wider (schemeAt (d .policy) (q .source .table)) (q .source .withholding) (q .source .named)) (rowsIn (q .source .table) (d .rows))
+    map-further _ _ (row-further (labelOpen (d .policy) (q .purpose)) (labelOpen (d .policy) p) wider (labellingAt (d .policy) (q .source .table)) (q .source .withholding) (q .source .named)) (rowsIn (q .source .table) (d .rows))
 
 -- ---- the theorem
 

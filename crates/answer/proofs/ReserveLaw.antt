@@ -11,7 +11,7 @@ use mathlib.Core.Path.{_∙_, _≡_, ap, refl, subst, sym}
 use native.Mathlib.Nat.{le-refl}
 use native.Mathlib.Omega.{arith}
 use Rattle.document.proofs.RowsFit.{Rows, accepted-rows, columns-count, countAt, rowsCost, valuesCost}
-use Rattle.document.specs.Lookup.{columnOf, columnsOf, schemeAt, tableOf}
+use Rattle.document.specs.Lookup.{columnOf, columnsOf, labellingAt, tableOf}
 use Rattle.document.specs.Open.{labelOpen}
 use Rattle.document.specs.Policy.{Column, Doc, Row}
 use Rattle.answer.proofs.RowLines.{AllBelow, Distinct, lines-cost}
@@ -155,7 +155,7 @@ answer-cost d q cs w u b h =
     (omega (
       arith,
       h .short,
-      lines-cost f (labelOpen (d .policy) (q .purpose)) (schemeAt (d .policy) (q .source .table)) (q .source .withholding) (q .source .named) cs (q .source .table) (d .policy .tables) (d .rows) u b (h .fit),
+      lines-cost f (labelOpen (d .policy) (q .purpose)) (labellingAt (d .policy) (q .source .table)) (q .source .withholding) (q .source .named) cs (q .source .table) (d .policy .tables) (d .rows) u b (h .fit),
       length-append (flatten (map (lineOf f cs) rs)) (endLine (countOf (isPassed f) rs) (countOf isWithheld rs) (countOf (isUnmatched f) rs)),
       endLine-length (countOf (isPassed f) rs) (countOf isWithheld rs) (countOf (isUnmatched f) rs)
           (omega (arith, h .short, n, m, keep-length (isPassed f) rs)) (omega (arith, h .short, n, m, keep-length isWithheld rs)) (omega (arith, h .short, n, m, keep-length (isUnmatched f) rs)),

@@ -1,6 +1,7 @@
--- The sample session of 01 and its cases marked *, as one theorem over a list of cases, by computation.
-use Prim.Native.Nat.{ℕ}
+-- The sample session of 01 and its cases marked *, and tables without labels (02, Q-2): theorems over lists of cases, by computation.
+use Prim.Native.Nat.{_+_, ℕ}
 use Prim.Native.String.{String}
+use lib.ListN.{length}
 use mathlib.Core.Bool.{Bool, false, true}
 use mathlib.Core.List.{List, [], _++_, _∷_, map}
 use mathlib.Core.Path.{_≡_, refl}
@@ -12,7 +13,7 @@ use Rattle.answer.specs.Computing.{computing}
 use Rattle.query.specs.Authority.{Clock}
 use Rattle.text.specs.Bytes.{ascii}
 use Rattle.lists.specs.Lists.{orZero}
-use Rattle.text.specs.Refusal.{Result, accepted, query, refused}
+use Rattle.text.specs.Refusal.{Result, accepted, document, query, refused}
 use Rattle.text.specs.Words.{Word, plainWord}
 use Rattle.answer.specs.Session as Session
 
@@ -129,6 +130,41 @@ cases =
 pub samples : map (λ c. answerOf (c .question)) cases ≡ map (λ c. c .expected) cases
 unfolding computing policy ida cy session session10 labelled clockAt openedIn answerOf answered refusedAt _⇒_ cases
 samples = refl
+
+-- ---- tables without labels (02, Q-2)
+
+-- a table without labels, with a row; the same declared public; a labelled one that is declared public
+unfoldable pub undeclared : List ℕ
+undeclared = policy ++ ascii "(table log none (day num))\n(row log 7)\n"
+
+unfoldable pub declared : List ℕ
+declared = undeclared ++ ascii "(public log)\n"
+
+unfoldable pub declaredShut : List ℕ
+declaredShut = policy ++ ascii "(table log table noads (day num))\n(public log)\n(row log 7)\n"
+
+-- a refusal that hands back a part of the document
+unfoldable pub brokenAt : ℕ → ℕ → ℕ → Found
+brokenAt n start len = outcome (refused (record { number = n; source = document; start = start; len = len }))
+
+unfoldable pub publicCases : List Case
+publicCases =
+    -- closed until declared public
+    asking undeclared (clockAt 2028 366 10) "(select ana desk post log (day))" 60021 ⇒ refusedAt 17 22 3
+    ∷ asking undeclared (clockAt 2028 366 10) "(count ana desk post log)" 60021 ⇒ refusedAt 17 21 3
+    ∷ asking declared (clockAt 2028 366 10) "(select ana desk post log (day))" 60021 ⇒ answered "(row 7)\n(end 1 0 0)\n" 1 0 0
+    -- on a labelled table the line does nothing
+    ∷ asking declaredShut (clockAt 2028 366 10) "(select ana desk post log (day))" 60021 ⇒ refusedAt 17 22 3
+    -- an unknown table is 5 and a second line 4, both at the table's name
+    ∷ asking (ascii "(public log)\n") (clockAt 2028 366 10) "(count ana desk post log)" 60021 ⇒ brokenAt 5 8 3
+    ∷ asking (declared ++ ascii "(public log)\n") (clockAt 2028 366 10) "(count ana desk post log)" 60021 ⇒ brokenAt 4 (length declared + 8) 3
+    ∷ asking (declaredShut ++ ascii "(public log)\n") (clockAt 2028 366 10) "(count ana desk post log)" 60021 ⇒ brokenAt 4 (length declaredShut + 8) 3
+    ∷ []
+
+-- in every case the definitions say what 02 expects
+pub public-samples : map (λ c. answerOf (c .question)) publicCases ≡ map (λ c. c .expected) publicCases
+unfolding computing policy undeclared declared declaredShut clockAt answerOf answered refusedAt brokenAt _⇒_ publicCases
+public-samples = refl
 
 -- ---- the asking program
 

@@ -7,7 +7,7 @@ use mathlib.Core.List.{List, [], _∷_, map}
 use mathlib.Core.Option.{Option, none, some}
 use mathlib.Core.Path.{_∙_, _≡_, ap, refl, sym}
 use Rattle.document.proofs.OpenLaws.{shown-open}
-use Rattle.document.specs.Lookup.{purposeOf, schemeAt, userOf}
+use Rattle.document.specs.Lookup.{labellingAt, purposeOf, userOf}
 use Rattle.document.specs.Open.{cellOpen, columnOpen, labelOpen, rowWithheld, tableOpen}
 use Rattle.document.specs.Policy.{Policy, Row}
 use Rattle.form.specs.Form.{Scheme}
@@ -71,17 +71,17 @@ mapped-same k f same-k same-f (rowAnd {r} {s} {rs} {ss} a as′) = go (k r) refl
 
 -- in a row that is not withheld, of the one table that the query reads and which is open, a value that is free to differ is not named
 free-unnamed : (d : Policy) (q : QueryForm) (x : Source) (r : Row) (p : ℕ) → purposeOf d (q .purpose) ≡ some p → sources d q ≡ x ∷ []
-    → x .withholding ≡ x .named → eqb (r .table) (x .table) ≡ true → tableOpen (labelOpen d p) (schemeAt d (x .table)) ≡ true
-    → ((k : ℕ) → member k (x .named) ≡ true → columnOpen (labelOpen d p) (schemeAt d (x .table)) k ≡ true)
-    → rowWithheld (labelOpen d p) (schemeAt d (x .table)) (x .withholding) (r .labels) ≡ false
+    → x .withholding ≡ x .named → eqb (r .table) (x .table) ≡ true → tableOpen (labelOpen d p) (labellingAt d (x .table)) ≡ true
+    → ((k : ℕ) → member k (x .named) ≡ true → columnOpen (labelOpen d p) (labellingAt d (x .table)) k ≡ true)
+    → rowWithheld (labelOpen d p) (labellingAt d (x .table)) (x .withholding) (r .labels) ≡ false
     → (c : ℕ) → free d (some q) r c ≡ true → member c (x .named) ≡ false
 unfolding free holdsOf anyOf sees
 free-unnamed d q x r p is-p is-x all-withhold here t k w c f = go (member c (x .named)) refl
   where
-    opened : member c (x .named) ≡ true → cellOpen (labelOpen d p) (schemeAt d (x .table)) (r .labels) c ≡ true
+    opened : member c (x .named) ≡ true → cellOpen (labelOpen d p) (labellingAt d (x .table)) (r .labels) c ≡ true
     opened m =
-        shown-open (labelOpen d p) (schemeAt d (x .table)) (x .named) (r .labels) t k
-        (ap (λ cs. rowWithheld (labelOpen d p) (schemeAt d (x .table)) cs (r .labels)) (sym all-withhold) ∙ w) c m
+        shown-open (labelOpen d p) (labellingAt d (x .table)) (x .named) (r .labels) t k
+        (ap (λ cs. rowWithheld (labelOpen d p) (labellingAt d (x .table)) cs (r .labels)) (sym all-withhold) ∙ w) c m
 
     seen : member c (x .named) ≡ true → free d (some q) r c ≡ false
     seen m = simp (is-p, is-x, here, w, m, opened m)
@@ -97,12 +97,12 @@ module _ (d : Policy) (q : QueryForm) (known-party : unknownParty d q ≡ none) 
 
   -- what is seen of one of its rows
   abbrev seen : Row → Seen
-  seen = seenRow (labelOpen d (resolved d q .purpose)) (schemeAt d (source .table)) (source .withholding) (source .named)
+  seen = seenRow (labelOpen d (resolved d q .purpose)) (labellingAt d (source .table)) (source .withholding) (source .named)
 
   -- a row of the queried table is seen alike
   row-seen : (x y : Row) → RowAlike d (some q) x y → eqb (x .table) (source .table) ≡ true → seen x ≡ seen y
   row-seen x y a e =
-      seenRow-same (labelOpen d (resolved d q .purpose)) (schemeAt d (source .table)) (source .withholding) (source .named) (free d (some q) x) x y (a .labels) (a .values)
+      seenRow-same (labelOpen d (resolved d q .purpose)) (labellingAt d (source .table)) (source .withholding) (source .named) (free d (some q) x) x y (a .labels) (a .values)
       (free-unnamed d q source x (resolved d q .purpose) (purpose-known d q known-party) (source-known d q known-columns) (all-withhold d q) e
       (table-open d q open-parts) (columns-open d q known-columns open-parts))
 

@@ -10,7 +10,7 @@ use Rattle.document.specs.Lookup.{schemeOf}
 use Rattle.document.specs.Meaning.{rowMeant}
 use Rattle.document.specs.NameFaults.{rowLabels}
 use Rattle.document.specs.Policy.{Policy}
-use Rattle.form.specs.Form.{Form, Item, attr, condRole, grant, label, purpose, role, row, table, user}
+use Rattle.form.specs.Form.{Form, Item, attr, condRole, grant, label, note, purpose, role, row, table, user}
 use Rattle.form.specs.FormReader.{formOf}
 use Rattle.form.specs.RowText.{keywordIn}
 use Rattle.answer.specs.Alike.{free, linesOf}
@@ -50,6 +50,7 @@ rowInForm (condRole c r x) = none
 rowInForm (grant p c) = none
 rowInForm (label l ps qs) = none
 rowInForm (table t s cs) = none
+rowInForm (note t n) = none
 rowInForm (row t is) = some (t, is)
 
 -- the bytes of the labels that a row of these items uses

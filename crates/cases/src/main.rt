@@ -1,4 +1,5 @@
-// The cases of the request that are not marked with a star: each is run and printed, and the output is held to the file stdout.
+// The cases of the request that are not marked with a star, and tables without labels (02, Q-2): each is run and printed, and the
+// output is held to the file stdout.
 use gate::asking::ask;
 use gate::documents::Checked;
 use gate::documents::check;
@@ -137,9 +138,41 @@ fn bounds() {
     );
 }
 
+fn tables_without_labels() {
+    let mut out = [0u8; 60];
+    show_ask(
+        b"table without labels",
+        b"(purpose ads)\n(role desk)\n(user ana desk)\n(cond-role any desk (gt day 0))\n(grant ads any)\n(table t none (a num))\n(row t 7)\n",
+        b"(select ana desk ads t (a))",
+        &mut out,
+    );
+    show_ask(
+        b"table declared public",
+        b"(purpose ads)\n(role desk)\n(user ana desk)\n(cond-role any desk (gt day 0))\n(grant ads any)\n(table t none (a num))\n(row t 7)\n(public t)\n",
+        b"(select ana desk ads t (a))",
+        &mut out,
+    );
+    show_ask(
+        b"closed table declared public",
+        b"(purpose ads)\n(role desk)\n(user ana desk)\n(cond-role any desk (gt day 0))\n(grant ads any)\n(label shut (allow) (deny))\n(table t table shut (a num))\n(public t)\n(row t 7)\n",
+        b"(select ana desk ads t (a))",
+        &mut out,
+    );
+    show_check(b"unknown table declared public", b"(public t)\n");
+    show_check(
+        b"table declared public twice",
+        b"(table t none (a num))\n(public t)\n(public t)\n",
+    );
+    show_check(
+        b"table declared public after another table",
+        b"(table t none (a num))\n(public t)\n(table u none (a num))\n(public u)\n",
+    );
+}
+
 fn main() {
     buffers();
     names_and_numbers();
     nesting();
     bounds();
+    tables_without_labels();
 }

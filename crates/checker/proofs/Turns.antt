@@ -19,6 +19,7 @@ use Rattle.document.specs.Policy.{Doc, emptyDoc, emptyPolicy}
 use Rattle.principals.proofs.IndexLaws.{attributes-start, conds-start, nodes-start, users-start}
 use Rattle.workspace.specs.Cells.{lineIn}
 use Rattle.workspace.specs.Tabulated.{tabulated}
+use Rattle.lists.specs.Lists.{allOf}
 use Rattle.purpose.specs.Members.{limit}
 use Rattle.stepping.specs.Stored.{LineAt}
 use Rattle.text.proofs.Lefts.{drop-here}
@@ -43,7 +44,7 @@ pub record Going (text ps rs bs us cs gs ls ms ts ws : List ℕ) (c : Counts) (a
 -- before any line
 pub begins : (text ps rs bs us cs gs ls ms ts ws : List ℕ)
     → Going text ps rs bs us cs gs ls ms ts ws (record { purposes = 0; roles = 0; attributes = 0; users = 0; conds = 0; grants = 0; labels = 0; tables = 0; rows = 0 }) 0 0
-unfolding tabulated emptyDoc emptyPolicy
+unfolding tabulated emptyDoc emptyPolicy allOf
 begins text ps rs bs us cs gs ls ms ts ws = record {
   doc = emptyDoc;
   held = record {
@@ -55,6 +56,7 @@ begins text ps rs bs us cs gs ls ms ts ws = record {
     grants = record { few = omega arith; are = refl };
     labels = record { few = omega arith; named = refl; allowed = λ i l e. absurd (Option·none-ne-some _ e); denied = λ i l e. absurd (Option·none-ne-some _ e) };
     tables = record { few = omega arith; narrow = below-none _; are = refl };
+    notes = record { known = refl; said = below-none _ };
     rows = record { few = omega arith; narrow = below-none _; marked = below-none _; are = refl };
   };
   unique = unique-empty;

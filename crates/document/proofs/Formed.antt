@@ -22,7 +22,7 @@ use Rattle.document.specs.Lookup.{purposeOf}
 use Rattle.document.specs.Meaning.{add, attributeComparison, define, nodeOf}
 use Rattle.document.specs.NameFaults.{unknown}
 use Rattle.document.specs.Policy.{CondRole, Doc, Node, Policy, emptyDoc, treeOf}
-use Rattle.form.specs.Form.{Form, attr, condRole, grant, label, purpose, role, row, table, user}
+use Rattle.form.specs.Form.{Form, attr, condRole, grant, label, note, purpose, role, row, table, user}
 use Rattle.lists.proofs.ListLaws.{all-here, findIndex-found, getElem?-grown, map-append, there-some}
 use Rattle.lists.proofs.Tests.{neither-right}
 use Rattle.lists.specs.Lists.{listed, orZero, there}
@@ -96,6 +96,7 @@ formed-form d (grant p c) m b k s = record { grown = m .grown; short = m .short;
 formed-form d (label l ps qs) m b k s = record { grown = m .grown; short = m .short; rooted = m .rooted }
 formed-form d (table n x cs) m b k s = record { grown = m .grown; short = m .short; rooted = m .rooted }
 formed-form d (row t is) m b k s = m
+formed-form d (note t x) m b k s = record { grown = m .grown; short = m .short; rooted = m .rooted }
 
 -- before any line
 pub formed-empty : Formed (emptyDoc .policy)

@@ -1,7 +1,7 @@
 -- What a policy knows it keeps, when lines are added. Assumes nothing.
 use Prim.Native.Nat.{_<_, ℕ}
 use lib.ListN.{getElem?, length}
-use mathlib.Core.Bool.{true}
+use mathlib.Core.Bool.{false, true}
 use mathlib.Core.List.{List, [], _∷_}
 use mathlib.Core.Option.{Option, Option·getD, Option·map, none, some}
 use mathlib.Core.Path.{_∙_, _≡_, ap, refl, subst, sym}
@@ -10,7 +10,7 @@ use Rattle.document.specs.Check.{Accepted, checkFrom, checkLine}
 use Rattle.document.specs.Lookup.{labelOf, schemeAt, schemeOf, tableOf}
 use Rattle.document.specs.Meaning.{add, define}
 use Rattle.document.specs.Policy.{Doc, Policy, Table}
-use Rattle.form.specs.Form.{Form, attr, condRole, grant, label, purpose, role, row, table, unlabelled, user}
+use Rattle.form.specs.Form.{Form, attr, condRole, grant, label, note, purpose, role, row, table, unlabelled, user}
 use Rattle.lists.proofs.ListLaws.{findIndex-found, findIndexFrom-append, getElem?-append, there-some}
 use Rattle.lists.proofs.Tests.{true-not-false}
 use Rattle.lists.specs.Lists.{findIndex, holdsOf, orZero, there}
@@ -47,6 +47,7 @@ kept-define d (table t s cs) = record {
   labels = λ w n h. h;
 }
 kept-define d (row t is) = kept-refl d
+kept-define d (note t x) = record { tables = λ w n h. h; table = λ n t h. h; labels = λ w n h. h }
 
 kept-line : (d : Doc) (line : List ℕ) (e : Doc) → checkLine d line ≡ accepted e → Kept (d .policy) (e .policy)
 kept-line d line e h =
@@ -81,7 +82,7 @@ kept-scheme d e k w h = go (getElem? (d .tables) (orZero (tableOf d w))) refl
     isThere = unfold tableOf in findIndex-found _ (d .tables) (orZero (tableOf d w)) (there-some (tableOf d w) h) .0
 
     go : (o : Option Table) → getElem? (d .tables) (orZero (tableOf d w)) ≡ o
-        → Option·getD (Option·map (λ (x : Table). x .scheme) (getElem? (e .tables) (orZero (tableOf e w)))) unlabelled
-        ≡ Option·getD (Option·map (λ (x : Table). x .scheme) (getElem? (d .tables) (orZero (tableOf d w)))) unlabelled
+        → Option·getD (Option·map (λ (x : Table). x .scheme) (getElem? (e .tables) (orZero (tableOf e w)))) (unlabelled false)
+        ≡ Option·getD (Option·map (λ (x : Table). x .scheme) (getElem? (d .tables) (orZero (tableOf d w)))) (unlabelled false)
     go none p = unfold holdsOf in true-not-false isThere (ap (holdsOf (λ (x : Table). isCalled w (x .name))) p)
     go (some t) p = rw (same, p, k .table _ t p)

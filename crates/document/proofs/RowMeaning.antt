@@ -13,7 +13,7 @@ use Rattle.document.specs.NameFaults.{bracketLabels, leadingName, rowLab
 use Rattle.document.specs.Policy.{Policy}
 use Rattle.document.specs.ValueFaults.{bracketValues, plainValues, rowValues, valuesBehindLabel}
 use Rattle.form.proofs.RowBack.{itemsOf, placelessItem, rowParts}
-use Rattle.form.specs.Form.{Form, Item, Scheme, attr, byCell, byColumn, byRow, byTable, condRole, grant, label, labelled, plain, purpose, role, row, table, unlabelled, user}
+use Rattle.form.specs.Form.{Form, Item, Scheme, attr, byCell, byColumn, byRow, byTable, condRole, grant, label, labelled, note, plain, purpose, role, row, table, unlabelled, user}
 use Rattle.form.specs.RowText.{labelCount}
 use Rattle.lists.proofs.ListLaws.{all-map, map-map}
 use Rattle.text.proofs.OffendingLaws.{leftmost-head, leftmost-tail, missing-none, unless-none}
@@ -58,7 +58,7 @@ behindLabel-placeless (labelled v l ∷ is) = refl
 
 pub rowValues-placeless : (s : Scheme ℕ) (is : List Item) → rowValues s (map placelessItem is) ≡ Option·map (map placeless) (rowValues s is)
 unfolding rowValues
-rowValues-placeless unlabelled is = plainValues-placeless is
+rowValues-placeless (unlabelled b) is = plainValues-placeless is
 rowValues-placeless (byTable l) is = plainValues-placeless is
 rowValues-placeless (byColumn ls) is = plainValues-placeless is
 rowValues-placeless byRow is = behindLabel-placeless is
@@ -82,7 +82,7 @@ bracketLabels-placeless (labelled v l ∷ is) = ap (λ ws. placeless l ∷ ws) (
 
 pub rowLabels-placeless : (s : Scheme ℕ) (is : List Item) → rowLabels s (map placelessItem is) ≡ map placeless (rowLabels s is)
 unfolding rowLabels
-rowLabels-placeless unlabelled is = refl
+rowLabels-placeless (unlabelled b) is = refl
 rowLabels-placeless (byTable l) is = refl
 rowLabels-placeless (byColumn ls) is = refl
 rowLabels-placeless byRow is = leadingName-placeless is
@@ -115,6 +115,7 @@ row-form (condRole c r x) t is e = absurd (Option·none-ne-some _ e)
 row-form (grant p c) t is e = absurd (Option·none-ne-some _ e)
 row-form (label l ps qs) t is e = absurd (Option·none-ne-some _ e)
 row-form (table u s cs) t is e = absurd (Option·none-ne-some _ e)
+row-form (note u n) t is e = absurd (Option·none-ne-some _ e)
 
 -- it defines nothing, and gives the row of its parts
 pub row-adds : (d : Policy) (f : Form) (t : Word) (is : List Item) → rowParts f ≡ some (t, is) → (define d f ≡ d) × (rowsGiven d f ≡ rowMeant d t is ∷ [])
@@ -178,7 +179,7 @@ empty-of (l ∷ ls) e = absurd (omega arith)
 
 pub values-back : (s : Scheme ℕ) (ls : List Name) (vs : List Value) → length ls ≡ labelCount s (length vs) → allOf isName ls ≡ true → rowValues s (itemsOf s ls vs) ≡ some (map plainWord vs)
 unfolding rowValues itemsOf labelCount
-values-back unlabelled ls vs e h = plain-back vs
+values-back (unlabelled b) ls vs e h = plain-back vs
 values-back (byTable l) ls vs e h = plain-back vs
 values-back (byColumn cs) ls vs e h = plain-back vs
 values-back byRow ls vs e h = behind-back ls vs e h
@@ -186,7 +187,7 @@ values-back byCell ls vs e h = bracket-back vs ls e
 
 pub labels-back : (s : Scheme ℕ) (ls : List Name) (vs : List Value) → length ls ≡ labelCount s (length vs) → allOf isName ls ≡ true → rowLabels s (itemsOf s ls vs) ≡ map plainWord ls
 unfolding rowLabels itemsOf labelCount
-labels-back unlabelled ls vs e h = empty-of ls e
+labels-back (unlabelled b) ls vs e h = empty-of ls e
 labels-back (byTable l) ls vs e h = empty-of ls e
 labels-back (byColumn cs) ls vs e h = empty-of ls e
 labels-back byRow ls vs e h = leading-back ls vs e h

@@ -19,7 +19,7 @@ use Rattle.document.specs.NameFaults.{unknown}
 use Rattle.document.specs.Policy.{Doc, Policy, Row, Table, emptyDoc, emptyPolicy}
 use Rattle.document.specs.ValueFaults.{bracketValues, misfit, plainValues, rowValues, valuesBehindLabel}
 use Rattle.form.proofs.RowLength.{row-line, valueCost}
-use Rattle.form.specs.Form.{Form, Item, Scheme, attr, byCell, byColumn, byRow, byTable, condRole, grant, label, labelled, plain, purpose, role, row, table, unlabelled, user}
+use Rattle.form.specs.Form.{Form, Item, Scheme, attr, byCell, byColumn, byRow, byTable, condRole, grant, label, labelled, note, plain, purpose, role, row, table, unlabelled, user}
 use Rattle.form.specs.FormReader.{formOf}
 use Rattle.lists.proofs.ListLaws.{getElem?-inside-append, map-inv}
 use Rattle.text.proofs.OffendingLaws.{leftmost-head, unless-none}
@@ -113,7 +113,7 @@ bracket-cost (labelled v l ∷ is) ws e =
 
 values-cost : (s : Scheme ℕ) (is : List Item) (ws : List Word) → rowValues s is ≡ some ws → listCost wordCost ws ≤ listCost valueCost is
 unfolding rowValues
-values-cost unlabelled is ws e = plain-cost is ws e
+values-cost (unlabelled b) is ws e = plain-cost is ws e
 values-cost (byTable l) is ws e = plain-cost is ws e
 values-cost (byColumn ls) is ws e = plain-cost is ws e
 values-cost byRow is ws e = behind-cost is ws e
@@ -190,6 +190,7 @@ form-added d k line (table t s cs) h e u m =
     let x = no-row d k (length line) _ (d .rows ++ []) refl (allFit-more (d .policy .tables) _ (d .rows) (h .fit)) (h .short) in
     record { short = x .0; fit = x .1 }
 form-added d k line (row t is) h e u m = row-added d k line t is h e u m
+form-added d k line (note t n) h e u m = let x = no-row d k (length line) (d .policy .tables) (d .rows ++ []) refl (h .fit) (h .short) in record { short = x .0; fit = x .1 }
 
 -- an accepted line
 line-added : (d : Doc) (k : ℕ) (line : List ℕ) (e : Doc) → Rows d k → checkLine d line ≡ accepted e → Rows e (k + length line + 1)

@@ -38,13 +38,13 @@ pub record Shaped (s : Scheme ℕ) (is : List Item) (ls : List Name) (vs : List 
 
 -- ---- the items by scheme
 
-plain-shaped : (is : List Item) (ws : List Word) → allOf isItem is ≡ true → plainValues is ≡ some ws → Shaped unlabelled is [] (bytesOf ws)
+plain-shaped : (is : List Item) (ws : List Word) → allOf isItem is ≡ true → plainValues is ≡ some ws → Shaped (unlabelled false) is [] (bytesOf ws)
 unfolding plainValues allOf isItem itemText itemTexts labelCount
-plain-shaped [] ws h e = subst (λ (v : List Word). Shaped unlabelled [] [] (bytesOf v)) (Option·some-injective _ _ e) (record { areLabels = refl; areValues = refl; enoughLabels = refl; texts = refl })
+plain-shaped [] ws h e = subst (λ (v : List Word). Shaped (unlabelled false) [] [] (bytesOf v)) (Option·some-injective _ _ e) (record { areLabels = refl; areValues = refl; enoughLabels = refl; texts = refl })
 plain-shaped (plain w ∷ is) ws h e =
     let i = map-inv _ (plainValues is) ws e in
     let x = plain-shaped is (i .0) (and-right (isValue (w .bytes)) _ h) (i .1) in
-    subst (λ (v : List Word). Shaped unlabelled (plain w ∷ is) [] (bytesOf v)) (sym (i .2)) (record {
+    subst (λ (v : List Word). Shaped (unlabelled false) (plain w ∷ is) [] (bytesOf v)) (sym (i .2)) (record {
       areLabels = refl;
       areValues = and-both (isValue (w .bytes)) _ (and-left (isValue (w .bytes)) _ h) (x .areValues);
       enoughLabels = refl;
@@ -81,7 +81,7 @@ bracket-shaped (labelled v l ∷ is) ws h e =
 
 items-shaped : (s : Scheme ℕ) (is : List Item) (ws : List Word) → allOf isItem is ≡ true → rowValues s is ≡ some ws → Shaped s is (bytesOf (rowLabels s is)) (bytesOf ws)
 unfolding rowValues rowLabels itemTexts labelCount
-items-shaped unlabelled is ws h e = plain-shaped is ws h e
+items-shaped (unlabelled b) is ws h e = let x = plain-shaped is ws h e in record { areLabels = x .areLabels; areValues = x .areValues; enoughLabels = x .enoughLabels; texts = x .texts }
 items-shaped (byTable l) is ws h e = let x = plain-shaped is ws h e in record { areLabels = x .areLabels; areValues = x .areValues; enoughLabels = x .enoughLabels; texts = x .texts }
 items-shaped (byColumn ls) is ws h e = let x = plain-shaped is ws h e in record { areLabels = x .areLabels; areValues = x .areValues; enoughLabels = x .enoughLabels; texts = x .texts }
 items-shaped byRow is ws h e = behind-shaped is ws h e

@@ -17,7 +17,7 @@ use Rattle.document.specs.Lookup.{attributeOf, condRoleOf, labelOf, purp
 use Rattle.document.specs.Meaning.{add, columnMeant, define, marksOf, nodeOf}
 use Rattle.document.specs.NameFaults.{taken, unknown}
 use Rattle.document.specs.Policy.{Doc, Given, Label, Policy, Table, User, clockAttributes, emptyDoc}
-use Rattle.form.specs.Form.{ColumnForm, Form, attr, condRole, grant, label, purpose, role, row, table, user}
+use Rattle.form.specs.Form.{ColumnForm, Form, attr, condRole, grant, label, note, purpose, role, row, table, user}
 use Rattle.lists.proofs.Distinct.{no-two-grown, no-two-images, no-two-nil, no-two-sources}
 use Rattle.lists.proofs.ListLaws.{all-here, all-parts, findIndex-none, getElem?-grown, there-some}
 use Rattle.lists.proofs.Tests.{and-both, and-left, and-right, never, true-not-false}
@@ -114,6 +114,7 @@ unique-form d (grant p c) u t k = record { purposes = u .purposes; roles = u .ro
 unique-form d (label l ps qs) u t k = record { purposes = u .purposes; roles = u .roles; attributes = u .attributes; users = u .users; condRoles = u .condRoles; labels = named-grown (λ x. x .name) l (d .labels) _ refl (u .labels) (leftmost-head _ _ t); tables = u .tables; columns = u .columns; sets = sets-grown (d .labels) _ (u .sets) (marks-differ d l ps qs t k) }
 unique-form d (table n s cs) u t k = record { purposes = u .purposes; roles = u .roles; attributes = u .attributes; users = u .users; condRoles = u .condRoles; labels = u .labels; tables = named-grown (λ x. x .name) n (d .tables) _ refl (u .tables) (leftmost-head _ _ t); columns = columns-grown (d .tables) _ (u .columns) (columns-differ cs (leftmost-head _ _ (leftmost-tail _ _ t))); sets = u .sets }
 unique-form d (row t is) u t′ k = u
+unique-form d (note n x) u t k = record { purposes = u .purposes; roles = u .roles; attributes = u .attributes; users = u .users; condRoles = u .condRoles; labels = u .labels; tables = u .tables; columns = u .columns; sets = u .sets }
 
 -- before any line
 pub unique-empty : UniqueNames (emptyDoc .policy)

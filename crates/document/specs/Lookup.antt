@@ -2,14 +2,14 @@
 use Prim.Native.Nat.{ℕ}
 use lib.Dec.{eqb}
 use lib.ListN.{getElem?}
-use mathlib.Core.Bool.{Bool, _&&_, not}
-use mathlib.Core.List.{List, []}
+use mathlib.Core.Bool.{Bool, _&&_, false, not, true}
+use mathlib.Core.List.{List, [], map}
 use mathlib.Core.Option.{Option, Option·getD, Option·map, bind}
 use Rattle.condition.specs.Kinds.{Kind, numbers}
-use Rattle.document.specs.Policy.{Attribute, Column, Policy, treeOf}
-use Rattle.form.specs.Form.{Scheme, unlabelled}
+use Rattle.document.specs.Policy.{Attribute, Column, Noted, Policy, treeOf}
+use Rattle.form.specs.Form.{Note, Scheme, byCell, byColumn, byRow, byTable, public, unlabelled}
 use Rattle.purpose.specs.Compliance.{descends}
-use Rattle.lists.specs.Lists.{findIndex, holdsOf, orZero, there}
+use Rattle.lists.specs.Lists.{anyOf, findIndex, holdsOf, keep, orZero, there}
 use Rattle.text.specs.Words.{Word, isCalled}
 
 -- the purpose of this name
@@ -56,9 +56,30 @@ attributeKind d w = Option·getD (Option·map (λ a. a .kind) (attributeNamed d 
 unfoldable pub columnKind : List Column → Word → Kind
 columnKind cs w = Option·getD (Option·map (λ c. c .kind) (bind (columnOf cs w) (getElem? cs))) numbers
 
--- the scheme of the table of this number
+-- the scheme of the table of this number, as its line gave it: rows are read by it
 unfoldable pub schemeAt : Policy → ℕ → Scheme ℕ
-schemeAt d t = Option·getD (Option·map (λ x. x .scheme) (getElem? (d .tables) t)) unlabelled
+schemeAt d t = Option·getD (Option·map (λ x. x .scheme) (getElem? (d .tables) t)) (unlabelled false)
+
+-- what the notes say of the table of this number, in order (02, Q-2)
+unfoldable pub notesOf : List Noted → ℕ → List (Note ℕ)
+notesOf ns t = map (λ n. n .note) (keep (λ n. eqb (n .table) t) ns)
+
+-- the note declares its table public (02, Q-2)
+unfoldable pub isPublic : Note ℕ → Bool
+isPublic public = true
+
+-- the scheme with what the notes say: a table without labels is public if one of them declares it so; on a labelled one that does
+-- nothing (02, Q-2)
+unfoldable pub settled : List (Note ℕ) → Scheme ℕ → Scheme ℕ
+settled ns (unlabelled b) = unlabelled (anyOf isPublic ns)
+settled ns (byTable l) = byTable l
+settled ns (byColumn ls) = byColumn ls
+settled ns byRow = byRow
+settled ns byCell = byCell
+
+-- where the labels of the table of this number stand, its notes included: what is open goes by it (02, Q-2)
+unfoldable pub labellingAt : Policy → ℕ → Scheme ℕ
+labellingAt d t = settled (notesOf (d .notes) t) (schemeAt d t)
 
 -- the columns of the table of this number
 unfoldable pub columnsAt : Policy → ℕ → List Column
@@ -67,6 +88,10 @@ columnsAt d t = Option·getD (Option·map (λ x. x .columns) (getElem? (d .table
 -- the scheme of the table of this name, which is known
 unfoldable pub schemeOf : Policy → Word → Scheme ℕ
 schemeOf d w = schemeAt d (orZero (tableOf d w))
+
+-- where the labels of the table of this name, which is known, stand, its notes included (02, Q-2)
+unfoldable pub labellingOf : Policy → Word → Scheme ℕ
+labellingOf d w = labellingAt d (orZero (tableOf d w))
 
 -- the columns of the table of this name, which is known
 unfoldable pub columnsOf : Policy → Word → List Column

@@ -1,4 +1,4 @@
--- Meaning: what a line adds to the document (01, "Document forms"); every name in the line is known.
+-- Meaning: what a line adds to the document (01, "Document forms"; 02, Q-2); every name in the line is known.
 use Prim.Native.Nat.{ℕ}
 use lib.ListN.{length}
 use mathlib.Core.List.{List, [], _++_, _∷_, map}
@@ -10,7 +10,7 @@ use Rattle.document.specs.Lookup.{attributeKind, attributeOf, condRoleOf
 use Rattle.document.specs.NameFaults.{rowLabels}
 use Rattle.document.specs.Policy.{Column, Doc, Given, Node, Policy, Row}
 use Rattle.document.specs.ValueFaults.{rowValues}
-use Rattle.form.specs.Form.{ColumnForm, Form, GivenForm, Item, attr, condRole, grant, label, mapScheme, purpose, role, row, table, user}
+use Rattle.form.specs.Form.{ColumnForm, Form, GivenForm, Item, attr, condRole, grant, label, mapNote, mapScheme, note, purpose, role, row, table, user}
 use Rattle.purpose.specs.Compliance.{Marks}
 use Rattle.lists.specs.Lists.{orZero}
 use Rattle.text.specs.Words.{Word}
@@ -55,6 +55,7 @@ define d (purpose n p) = record {
   grants = d .grants;
   labels = d .labels;
   tables = d .tables;
+  notes = d .notes;
 }
 define d (role n p) = record {
   purposes = d .purposes;
@@ -65,6 +66,7 @@ define d (role n p) = record {
   grants = d .grants;
   labels = d .labels;
   tables = d .tables;
+  notes = d .notes;
 }
 define d (attr r a k) = record {
   purposes = d .purposes;
@@ -75,6 +77,7 @@ define d (attr r a k) = record {
   grants = d .grants;
   labels = d .labels;
   tables = d .tables;
+  notes = d .notes;
 }
 define d (user u r gs) = record {
   purposes = d .purposes;
@@ -85,6 +88,7 @@ define d (user u r gs) = record {
   grants = d .grants;
   labels = d .labels;
   tables = d .tables;
+  notes = d .notes;
 }
 define d (condRole c r t) = record {
   purposes = d .purposes;
@@ -95,6 +99,7 @@ define d (condRole c r t) = record {
   grants = d .grants;
   labels = d .labels;
   tables = d .tables;
+  notes = d .notes;
 }
 define d (grant p c) = record {
   purposes = d .purposes;
@@ -105,6 +110,7 @@ define d (grant p c) = record {
   grants = d .grants ++ (record { purpose = orZero (purposeOf d p); condRole = orZero (condRoleOf d c) } ∷ []);
   labels = d .labels;
   tables = d .tables;
+  notes = d .notes;
 }
 define d (label l ps qs) = record {
   purposes = d .purposes;
@@ -115,6 +121,7 @@ define d (label l ps qs) = record {
   grants = d .grants;
   labels = d .labels ++ (record { name = l .bytes; marks = marksOf d ps qs } ∷ []);
   tables = d .tables;
+  notes = d .notes;
 }
 define d (table t s cs) = record {
   purposes = d .purposes;
@@ -125,8 +132,20 @@ define d (table t s cs) = record {
   grants = d .grants;
   labels = d .labels;
   tables = d .tables ++ (record { name = t .bytes; scheme = mapScheme (λ l. orZero (labelOf d l)) s; columns = map columnMeant cs } ∷ []);
+  notes = d .notes;
 }
 define d (row t is) = d
+define d (note t n) = record {
+  purposes = d .purposes;
+  roles = d .roles;
+  attributes = d .attributes;
+  users = d .users;
+  condRoles = d .condRoles;
+  grants = d .grants;
+  labels = d .labels;
+  tables = d .tables;
+  notes = d .notes ++ (record { table = orZero (tableOf d t); note = mapNote (λ l. orZero (labelOf d l)) n } ∷ []);
+}
 
 -- the row that the line gives, if it is a row line
 unfoldable pub rowsGiven : Policy → Form → List Row
@@ -139,6 +158,7 @@ rowsGiven d (grant p c) = []
 rowsGiven d (label l ps qs) = []
 rowsGiven d (table t s cs) = []
 rowsGiven d (row t is) = rowMeant d t is ∷ []
+rowsGiven d (note t n) = []
 
 -- the document with the line added
 unfoldable pub add : Doc → Form → Doc

@@ -1,16 +1,20 @@
--- Meaning: 4, name taken; 5, name unknown (01, "Checking a document").
+-- Meaning: 4, name taken; 5, name unknown (01, "Checking a document"; 02, Q-2).
 use Prim.Native.Nat.{ℕ}
 use mathlib.Core.Bool.{Bool, _||_, cond}
 use mathlib.Core.List.{List, [], _++_, _∷_, map}
 use mathlib.Core.Option.{Option, none}
 use Rattle.condition.specs.Cond.{comparisons}
-use Rattle.document.specs.Lookup.{attributeNamed, attributeOf, condRoleOf, hasAttribute, isClock, labelOf, purposeOf, roleOf, schemeOf, tableOf, userOf}
+use Rattle.document.specs.Lookup.{attributeNamed, attributeOf, condRoleOf, hasAttribute, isClock, isPublic, labelOf, notesOf, purposeOf, roleOf, schemeOf, tableOf, userOf}
 use Rattle.document.specs.Policy.{Policy}
-use Rattle.form.specs.Form.{Form, Item, Scheme, attr, byCell, byColumn, byRow, byTable, condRole, grant, label, labelled, plain, purpose, role, row, schemeLabels, table, unlabelled, user}
-use Rattle.lists.specs.Lists.{holdsOf, listed, orZero, there}
+use Rattle.form.specs.Form.{Form, Item, Note, Scheme, attr, byCell, byColumn, byRow, byTable, condRole, grant, label, labelled, note, noteLabels, plain, public, purpose, role, row, schemeLabels, table, unlabelled, user}
+use Rattle.lists.specs.Lists.{anyOf, holdsOf, listed, orZero, there}
 use Rattle.text.specs.Names.{isName}
 use Rattle.text.specs.Offending.{leftmost, missing, offendingIf, repeated, unless}
 use Rattle.text.specs.Words.{Word}
+
+-- the table's name, where the table is declared public a second time (02, Q-2)
+unfoldable pub takenNote : Policy → Word → Note Word → Option Word
+takenNote d t public = offendingIf (holdsOf (λ x. anyOf isPublic (notesOf (d .notes) x)) (tableOf d t)) t
 
 -- the leftmost name that is taken: the later of two equal names; of a user and role given before, the role
 unfoldable pub taken : Policy → Form → Option Word
@@ -23,6 +27,7 @@ taken d (grant p c) = none
 taken d (label l ps qs) = leftmost (offendingIf (there (labelOf d l)) l ∷ repeated ps ∷ repeated qs ∷ [])
 taken d (table t s cs) = leftmost (offendingIf (there (tableOf d t)) t ∷ repeated (map (λ c. c .name) cs) ∷ [])
 taken d (row t is) = none
+taken d (note t n) = takenNote d t n
 
 -- the word is an attribute that a condition over the role may use: the clock's, or one that the role has
 unfoldable pub usableFor : Policy → ℕ → Word → Bool
@@ -42,7 +47,7 @@ bracketLabels (labelled v l ∷ is) = l ∷ bracketLabels is
 
 -- the labels that a row uses: by row the first item if it is a name, by cell each bracket's
 unfoldable pub rowLabels : Scheme ℕ → List Item → List Word
-rowLabels unlabelled is = []
+rowLabels (unlabelled b) is = []
 rowLabels (byTable l) is = []
 rowLabels (byColumn ls) is = []
 rowLabels byRow is = leadingName is
@@ -62,3 +67,4 @@ unknown d (label l ps qs) = missing (λ w. there (purposeOf d w)) (ps ++ qs)
 unknown d (table t s cs) = missing (λ w. there (labelOf d w)) (schemeLabels s)
 unknown d (row t is) =
     leftmost (unless (there (tableOf d t)) t ∷ missing (λ w. there (labelOf d w)) (rowLabels (schemeOf d t) is) ∷ [])
+unknown d (note t n) = leftmost (unless (there (tableOf d t)) t ∷ missing (λ w. there (labelOf d w)) (noteLabels n) ∷ [])

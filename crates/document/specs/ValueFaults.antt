@@ -8,7 +8,7 @@ use mathlib.Core.List.{List, [], _∷_, map}
 use mathlib.Core.Option.{Option, Option·map, none, some}
 use Rattle.document.specs.Lookup.{attributeNamed, columnsOf, hasAttribute, roleOf, schemeOf}
 use Rattle.document.specs.Policy.{Attribute, Policy}
-use Rattle.form.specs.Form.{Form, Item, Scheme, attr, byCell, byColumn, byRow, byTable, condRole, grant, label, labelled, plain, purpose, role, row, table, unlabelled, user}
+use Rattle.form.specs.Form.{Form, Item, Scheme, attr, byCell, byColumn, byRow, byTable, condRole, grant, label, labelled, note, plain, purpose, role, row, table, unlabelled, user}
 use Rattle.lists.specs.Lists.{allOf, countOf, holdsOf, keep, orZero}
 use Rattle.text.specs.Names.{isName}
 use Rattle.text.specs.Words.{Word, isCalled}
@@ -46,7 +46,7 @@ bracketValues (labelled v l ∷ is) = Option·map (λ ws. v ∷ ws) (bracketValu
 
 -- the values of a row, if its items are shaped for the scheme
 unfoldable pub rowValues : Scheme ℕ → List Item → Option (List Word)
-rowValues unlabelled is = plainValues is
+rowValues (unlabelled b) is = plainValues is
 rowValues (byTable l) is = plainValues is
 rowValues (byColumn ls) is = plainValues is
 rowValues byRow is = valuesBehindLabel is
@@ -63,3 +63,4 @@ misfit d (grant p c) = false
 misfit d (label l ps qs) = false
 misfit d (table t s cs) = false
 misfit d (row t is) = not (holdsOf (λ ws. eqb (length ws) (length (columnsOf d t))) (rowValues (schemeOf d t) is))
+misfit d (note t n) = false

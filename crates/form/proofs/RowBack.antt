@@ -9,7 +9,7 @@ use mathlib.Core.List.{List, [], _++_, _∷_, append-assoc, flatten, map, zipWit
 use mathlib.Core.Option.{Option, none, some}
 use mathlib.Core.Path.{_∙_, _≡_, ap, refl}
 use native.Mathlib.Omega.{arith}
-use Rattle.form.specs.Form.{Form, Item, Scheme, attr, byCell, byColumn, byRow, byTable, condRole, grant, label, labelled, plain, purpose, role, row, table, unlabelled, user}
+use Rattle.form.specs.Form.{Form, Item, Scheme, attr, byCell, byColumn, byRow, byTable, condRole, grant, label, labelled, note, plain, purpose, role, row, table, unlabelled, user}
 use Rattle.form.specs.FormReader.{form, formOf, item, labelledItem, lineForms, plainItem, rowForm}
 use Rattle.form.specs.RowText.{bracketText, itemTexts, rowText, spaced}
 use Rattle.text.proofs.ByteLaws.{name-value, value-first}
@@ -42,6 +42,7 @@ rowParts (condRole c r t) = none
 rowParts (grant p c) = none
 rowParts (label l ps qs) = none
 rowParts (table t s cs) = none
+rowParts (note t n) = none
 rowParts (row t is) = some (placeless t, map placelessItem is)
 
 -- ---- items
@@ -144,6 +145,7 @@ row-among y e = rw (
   other "grant" refl,
   other "label" refl,
   other "table" refl,
+  other "public" refl,
   e,
 )
   where
@@ -212,7 +214,7 @@ map-bracket (v ∷ vs) (l ∷ ls) = ap (λ x. labelled (plainWord v) (plainWord 
 module _ {L : Type 0} where
   -- the items, without places, that a row line of this scheme gives
   unfoldable pub itemsOf : Scheme L → List Name → List Value → List Item
-  itemsOf unlabelled ls vs = map (λ v. plain (plainWord v)) vs
+  itemsOf (unlabelled b) ls vs = map (λ v. plain (plainWord v)) vs
   itemsOf (byTable l) ls vs = map (λ v. plain (plainWord v)) vs
   itemsOf (byColumn cs) ls vs = map (λ v. plain (plainWord v)) vs
   itemsOf byRow ls vs = map (λ v. plain (plainWord v)) (ls ++ vs)
@@ -220,7 +222,7 @@ module _ {L : Type 0} where
 
   items-texts : (s : Scheme L) (ls : List Name) (vs : List Value) → map itemText (itemsOf s ls vs) ≡ itemTexts s ls vs
   unfolding itemsOf itemTexts
-  items-texts unlabelled ls vs = plain-texts vs
+  items-texts (unlabelled b) ls vs = plain-texts vs
   items-texts (byTable l) ls vs = plain-texts vs
   items-texts (byColumn cs) ls vs = plain-texts vs
   items-texts byRow ls vs = plain-texts (ls ++ vs)
@@ -228,7 +230,7 @@ module _ {L : Type 0} where
 
   items-fit : (s : Scheme L) (ls : List Name) (vs : List Value) → allOf isName ls ≡ true → allOf isValue vs ≡ true → allOf isItem (itemsOf s ls vs) ≡ true
   unfolding itemsOf
-  items-fit unlabelled ls vs h k = plain-items vs k
+  items-fit (unlabelled b) ls vs h k = plain-items vs k
   items-fit (byTable l) ls vs h k = plain-items vs k
   items-fit (byColumn cs) ls vs h k = plain-items vs k
   items-fit byRow ls vs h k = plain-items (ls ++ vs) (all-append ls vs h k)
@@ -237,7 +239,7 @@ module _ {L : Type 0} where
   -- they have no places
   items-placeless : (s : Scheme L) (ls : List Name) (vs : List Value) → map placelessItem (itemsOf s ls vs) ≡ itemsOf s ls vs
   unfolding itemsOf
-  items-placeless unlabelled ls vs = map-plain vs
+  items-placeless (unlabelled b) ls vs = map-plain vs
   items-placeless (byTable l) ls vs = map-plain vs
   items-placeless (byColumn cs) ls vs = map-plain vs
   items-placeless byRow ls vs = map-plain (ls ++ vs)

@@ -7,8 +7,8 @@ use mathlib.Core.Option.{Option, Option·none-ne-some, Option·some-injective, n
 use mathlib.Core.Path.{_∙_, _≡_, ap, refl, subst}
 use native.Mathlib.Omega.{arith}
 use Rattle.condition.specs.CondForm.{conditionInForm}
-use Rattle.form.specs.Form.{Form, Item, Scheme, attr, byCell, byColumn, byRow, byTable, condRole, grant, label, labelled, plain, purpose, role, row, table, unlabelled, user}
-use Rattle.form.specs.FormReader.{attrForm, column, columnsUnderLabel, condRoleForm, form, formOf, givenForm, grantForm, item, kinds, labelForm, labelledColumn, labelledColumns, labelledItem, lineForms, node, plainColumns, plainItem, purposeSet, rowForm, schemes, tableForm, userForm}
+use Rattle.form.specs.Form.{Form, Item, Scheme, attr, byCell, byColumn, byRow, byTable, condRole, grant, label, labelled, note, plain, public, purpose, role, row, table, unlabelled, user}
+use Rattle.form.specs.FormReader.{attrForm, column, columnsUnderLabel, condRoleForm, form, formOf, givenForm, grantForm, item, kinds, labelForm, labelledColumn, labelledColumns, labelledItem, lineForms, node, plainColumns, plainItem, publicForm, purposeSet, rowForm, schemes, tableForm, userForm}
 use Rattle.text.proofs.NameLaws.{sameName-length}
 use Rattle.text.proofs.ReaderLaws.{Eats, eats-bind, eats-bracketed, eats-byte, eats-give, eats-ifNext, eats-less, eats-many, eats-next, eats-word, eats-wordThat, listCost, past-trans, then-some, whole-some}
 use Rattle.text.specs.Brackets.{Keywords, among, bracketed, keyword, many, next, optional}
@@ -33,6 +33,7 @@ rowCost (condRole c r t) = 0
 rowCost (grant p c) = 0
 rowCost (label l ps qs) = 0
 rowCost (table t s cs) = 0
+rowCost (note t n) = 0
 rowCost (row t is) = 1 + listCost valueCost is
 
 pub eats-item : Eats valueCost item
@@ -119,9 +120,13 @@ never-among (k ∷ ks) w h = never-cond (isCalled w (k .0)) (h .0) (never-among 
 pub never-table : Never tableForm
 unfolding tableForm next keyword schemes columnsUnderLabel
 never-table = never-bind (next name) (λ t. never-bind (byte 32) (λ b. never-bind word (λ w. never-among (schemes t) w (
-  never-columns t unlabelled,
+  never-columns t (unlabelled false),
   (never-bind (next name) (λ l. never-columns t (byTable l)), (never-labelled t, (never-columns t byRow, (never-columns t byCell, tt)))),
 ))))
+
+pub never-public : Never publicForm
+unfolding publicForm rowCost
+never-public = never-bind (next name) (λ t. never-give (note t public) refl)
 
 -- a row comes from a later keyword, if the first never leads to one
 among-skip : (k : Name × Reader Form) (ks : Keywords Form) (w : Word) (l : Left) (t : Word) (is : List Item) (rest : Left)
@@ -149,6 +154,7 @@ keyword-row : (w : Word) (l : Left) (t : Word) (is : List Item) (rest : Left) �
 unfolding lineForms rowCost
 keyword-row w l t is rest e =
     among-row w l (row t is) rest
+    (among-skip _ _ w l t is rest never-public
     (among-skip _ _ w l t is rest never-table
     (among-skip _ _ w l t is rest never-label
     (among-skip _ _ w l t is rest never-grant
@@ -156,7 +162,7 @@ keyword-row w l t is rest e =
     (among-skip _ _ w l t is rest never-user
     (among-skip _ _ w l t is rest never-attr
     (among-skip _ _ w l t is rest (never-node role (λ n p. refl))
-    (among-skip _ _ w l t is rest (never-node purpose (λ n p. refl)) e))))))))
+    (among-skip _ _ w l t is rest (never-node purpose (λ n p. refl)) e)))))))))
 
 -- a row line is at least six bytes longer than its values with their spaces
 pub row-line : (line : List ℕ) (t : Word) (is : List Item) → formOf line ≡ some (row t is) → 6 + listCost valueCost is ≤ length line

@@ -6,9 +6,9 @@ use mathlib.Core.List.{List, [], _++_, _∷_, append-assoc, append-nil, map}
 use mathlib.Core.Option.{some}
 use mathlib.Core.Path.{_∙_, _≡_, ap, refl, subst, subst₂, sym}
 use native.Mathlib.Omega.{arith}
-use Rattle.form.proofs.FormForward.{forward-attr, forward-condRole, forward-grant, forward-label, forward-node, forward-table, forward-user}
+use Rattle.form.proofs.FormForward.{forward-attr, forward-condRole, forward-grant, forward-label, forward-node, forward-public, forward-table, forward-user}
 use Rattle.form.proofs.RowBack.{isItem, itemText, row-bytes, rowText-bytes}
-use Rattle.form.proofs.RowLength.{Never, never-attr, never-condRole, never-grant, never-label, never-node, never-table, never-user, rowCost}
+use Rattle.form.proofs.RowLength.{Never, never-attr, never-condRole, never-grant, never-label, never-node, never-public, never-table, never-user, rowCost}
 use Rattle.form.specs.Form.{Form, Item, Scheme, labelled, plain, purpose, role, row}
 use Rattle.form.specs.FormReader.{form, formOf, item, labelledItem, lineForms, plainItem, rowForm}
 use Rattle.form.specs.RowText.{bracketText, keywordIn, rowText, spaced}
@@ -95,7 +95,10 @@ form-spelled = spells-bracketed RowSpelled (keyword lineForms) (spells-keyword _
               (λ k e. other never-label forward-label),
               (
                 (λ k e. other never-table forward-table),
-                (row-spelled, tt),
+                (
+                  (λ k e. other never-public forward-public),
+                  (row-spelled, tt),
+                ),
               ),
             ),
           ),

@@ -7,7 +7,7 @@ use mathlib.Core.Option.{Option, Option·map, none, some}
 use mathlib.Core.Path.{_≡_}
 use Rattle.condition.specs.Answers.{kindOf}
 use Rattle.condition.specs.CondForm.{conditionInForm}
-use Rattle.form.specs.Form.{Form, attr, condRole, grant, label, purpose, role, row, user}
+use Rattle.form.specs.Form.{Form, attr, condRole, grant, label, note, public, purpose, role, row, user}
 use Rattle.form.specs.FormReader.{formOf}
 use Rattle.form.specs.TableWords.{tableLine}
 use Rattle.form.specs.Walks.{givensAt, itemsAt, namesAt}
@@ -30,6 +30,7 @@ lineAt s (line.Grant p c) = some (grant (wordOf s p) (wordOf s c))
 lineAt s (line.Label l ps qs) = some (label (wordOf s l) (namesAt s ps) (namesAt s qs))
 lineAt s (line.Table t k l cs) = some (tableLine s t k l cs)
 lineAt s (line.Row t is) = some (row (wordOf s t) (itemsAt s is))
+lineAt s (line.Public t) = some (note (wordOf s t) public)
 
 -- the places of the answer lie in the line
 unfoldable pub Within : List ℕ → Line → Type 0
@@ -45,6 +46,7 @@ Within s (line.Grant p c) = (p ≤ length s) × (c ≤ length s)
 Within s (line.Label l ps qs) = (l ≤ length s) × (ps ≤ length s) × (qs ≤ length s)
 Within s (line.Table t k l cs) = (t ≤ length s) × (l ≤ length s) × (cs ≤ length s)
 Within s (line.Row t is) = (t ≤ length s) × (is ≤ length s)
+Within s (line.Public t) = t ≤ length s
 
 -- THE LINE: the code's answer r stands for the form that the line is, and its places lie in the line
 pub record Reads (s : List ℕ) (r : Line) : Type 0 where

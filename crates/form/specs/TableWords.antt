@@ -18,7 +18,7 @@ labelsColumns scheme.ByCell = false
 
 -- the scheme with the words of its labels: the table's stands at l, the columns begin at cs
 unfoldable pub schemeWords : List ℕ → coded.Scheme → ℕ → ℕ → Scheme Word
-schemeWords line scheme.Unlabelled l cs = unlabelled
+schemeWords line scheme.Unlabelled l cs = unlabelled false
 schemeWords line scheme.ByTable l cs = byTable (wordOf line l)
 schemeWords line scheme.ByColumn l cs = byColumn (columnLabelsAt line cs)
 schemeWords line scheme.ByRow l cs = byRow

@@ -19,7 +19,7 @@ ghost use mathlib.Core.Path.{_≡_};
 ghost use Rattle.text.specs.Brackets.{keyword, next};
 ghost use Rattle.text.specs.Reader.{from};
 ghost use Rattle.form.specs.Form.{purpose, role};
-ghost use Rattle.form.specs.FormReader.{attrForm, condRoleForm, grantForm, labelForm, lineForms, node, purposeSet, rowForm, tableForm, userForm};
+ghost use Rattle.form.specs.FormReader.{attrForm, condRoleForm, grantForm, labelForm, lineForms, node, publicForm, purposeSet, rowForm, tableForm, userForm};
 ghost use Rattle.form.specs.BodyPlaces.{ReadsBody, ReadsColumns, ReadsSet, underScheme};
 ghost use Rattle.form.specs.Places.{Reads};
 ghost use Rattle.form.specs.TableWords.{labelsColumns};
@@ -62,6 +62,7 @@ pub enum Line {
     Label(usize, usize, usize),
     Table(usize, Scheme, usize, usize),
     Row(usize, usize),
+    Public(usize),
 }
 
 // What stands behind a line's keyword, and where it ends.
@@ -297,6 +298,17 @@ fn table_body(s: &[u8], at: usize) -> Body
     Body::At(Line::Table(at + 1, k, l, f), g)
 }
 
+// `T` behind `public`.
+fn public_body(s: &[u8], at: usize) -> Body
+    ensures { λ r. ⌜ ReadsBody (now (s .entry)) (publicForm (from (now (s .entry)) at)) r ⌝ }
+{
+    let n = spaced_name_end(s, at);
+    let End::At(e) = n else {
+        return Body::Refused;
+    };
+    Body::At(Line::Public(at + 1), e)
+}
+
 // `T` and its items.
 fn row_body(s: &[u8], at: usize) -> Body
     ensures { λ r. ⌜ ReadsBody (now (s .entry)) (rowForm (from (now (s .entry)) at)) r ⌝ }
@@ -340,6 +352,9 @@ fn read_body(s: &[u8], at: usize) -> Body
     }
     if is_word(s, at, b"table") {
         return table_body(s, e);
+    }
+    if is_word(s, at, b"public") {
+        return public_body(s, e);
     }
     if is_word(s, at, b"row") {
         return row_body(s, e);

@@ -6,7 +6,7 @@ use mathlib.Core.List.{List, [], _++_, _∷_, append-assoc, flatten, map}
 use mathlib.Core.Option.{Option, Option·map, Option·some-injective, bind, none, some}
 use mathlib.Core.Path.{_∙_, _≡_, ap, refl, sym}
 use Rattle.form.proofs.RowBack.{itemsOf, placelessItem, row-back, row-read, rowParts, rowText-bytes}
-use Rattle.form.specs.Form.{Form, Item, attr, condRole, grant, label, labelled, plain, purpose, role, row, table, user}
+use Rattle.form.specs.Form.{Form, Item, attr, condRole, grant, label, labelled, note, plain, purpose, role, row, table, user}
 use Rattle.form.specs.RowText.{itemTexts, rowText, spaced}
 use Rattle.import.proofs.RowLaws.{lines-one, spaced-one, unfit-first}
 use Rattle.csv.proofs.FieldLaws.{not-name}
@@ -54,6 +54,7 @@ row-words (condRole c r x) t vs h = not-read _ h
 row-words (grant p c) t vs h = not-read _ h
 row-words (label l ps qs) t vs h = not-read _ h
 row-words (table x s cs) t vs h = not-read _ h
+row-words (note x n) t vs h = not-read _ h
 row-words (row x is) t vs h =
     let e : _≡_ {A = Word × List Item} (plainWord (x .bytes), map placelessItem is) (plainWord t, map (λ v. plain (plainWord v)) vs) = Option·some-injective _ _ h in
     let b : x .bytes ≡ t = ap (λ (p : Word × List Item). p .0 .bytes) e in

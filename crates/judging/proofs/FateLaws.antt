@@ -17,7 +17,8 @@ use Rattle.judging.specs.declared.fates.Fate.the-variants as fate
 use Rattle.judging.specs.declared.fates.Fate.{Fate}
 use Rattle.judging.specs.declared.sought.Sought.{Sought}
 use Rattle.judging.specs.declared.tally.Tally.{Tally}
-use Rattle.document.specs.Lookup.{schemeAt}
+use Rattle.document.proofs.OpenLaws.{settled-withheld}
+use Rattle.document.specs.Lookup.{labellingAt, notesOf, schemeAt}
 use Rattle.document.specs.Open.{labelOpen, rowWithheld}
 use Rattle.document.specs.Policy.{Doc, Policy, Row}
 use Rattle.workspace.proofs.TabulatedLaws.{tabulated-more}
@@ -52,10 +53,11 @@ module _ (text ws : List ℕ) (count : ℕ) (os : List Bool) (s : List ℕ) (g :
   withheld-here : (x : Bool)
       → ((e : Policy) (p l : ℕ) (ls : List ℕ) → Opened e p os → r < 1024 → labelCountIn ws r ≤ labelRoom → x ≡ rowWithheld (labelOpen e p) (schemeBy code l ls) (take (g .chosen + g .tests) cs) (labelsIn ws r))
       → x ≡ isWithheldRow d q (rowIn text ws r)
-  unfolding isWithheldRow rowIn
+  unfolding isWithheldRow rowIn labellingAt
   withheld-here x h =
       h (d .policy) (q .purpose) (jd .label) (jd .labels) (jd .opened) row-small (jd .rows .marked r l)
       ∙ (λ i. rowWithheld (labelOpen (d .policy) (q .purpose)) (jd .schemed i) (jd .withholding i) (labelsIn ws r))
+      ∙ sym (settled-withheld (labelOpen (d .policy) (q .purpose)) (notesOf (d .policy .notes) (q .source .table)) (schemeAt (d .policy) (q .source .table)) (q .source .withholding) (labelsIn ws r))
 
   -- what the code gives for each row
   module _ (x : ℕ) (is : r < 1024 → x ≡ rowTableIn ws r) where

@@ -6,7 +6,7 @@ use mathlib.Core.List.{List}
 use mathlib.Core.Option.{Option, bind, none, some}
 use mathlib.Core.Path.{_≡_}
 use Rattle.document.proofs.OpenLaws.{columnOpen-more, label-below, tableOpen-more}
-use Rattle.document.specs.Lookup.{columnOf, columnsOf, purposeOf, schemeOf}
+use Rattle.document.specs.Lookup.{columnOf, columnsOf, labellingOf, purposeOf}
 use Rattle.document.specs.Open.{labelOpen}
 use Rattle.document.specs.Policy.{Column, Grant, Policy, User, treeOf}
 use Rattle.form.specs.Form.{Scheme}
@@ -62,7 +62,7 @@ module _ (d : Policy) (q : QueryForm) (w : Word) (p : ℕ) (is-p : purposeOf d w
   pub parts-down : closedPart d q ≡ none → closedPart d (forPurpose w q) ≡ none
   unfolding closedPart openFor forPurpose namedWords namedRefs selectedRefs testedRefs selectedWords orZero
   parts-down h =
-      let s : Scheme ℕ = schemeOf d (q .table) in
+      let s : Scheme ℕ = labellingOf d (q .table) in
       let cs : List Column = columnsOf d (q .table) in
       let here : Option ℕ → Bool = labelOpen d (orZero (purposeOf d (q .purpose))) in
       rw is-p (leftmost-none _ _

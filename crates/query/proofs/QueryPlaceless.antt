@@ -10,7 +10,7 @@ use Rattle.condition.specs.Comparison.{Comparison}
 use Rattle.condition.specs.Cond.{Cond, comparisonsIn, mapCond}
 use Rattle.condition.specs.CondForm.{Compared, mistyped}
 use Rattle.condition.specs.Kinds.{Kind}
-use Rattle.document.specs.Lookup.{columnKind, columnOf, columnsOf, purposeOf, roleOf, schemeOf, tableOf}
+use Rattle.document.specs.Lookup.{columnKind, columnOf, columnsOf, labellingOf, purposeOf, roleOf, tableOf}
 use Rattle.document.specs.Open.{columnOpen, tableOpen}
 use Rattle.document.specs.Policy.{Column, Policy}
 use Rattle.query.specs.Query.{closedPart, columnComparison, columnsIn, mistypedQuery, openFor, resolved, select, sourceOf, unknownColumn, unknownParty, wantedOf}
@@ -99,10 +99,10 @@ module _ (d : Policy) (q : QueryForm) where
       ∙ leftmost-placeless (_ ∷ _ ∷ [])
 
   pub closed-placeless : closedPart d (placelessQuery q) ≡ Option·map placeless (closedPart d q)
-  unfolding closedPart openFor columnsOf schemeOf tableOf purposeOf isCalled placeless plainWord columnOf placelessQuery
+  unfolding closedPart openFor columnsOf labellingOf tableOf purposeOf isCalled placeless plainWord columnOf placelessQuery
   closed-placeless =
-      let f : Word → Bool = λ w. columnOpen (openFor d q) (schemeOf d (q .table)) (orZero (columnOf (columnsOf d (q .table)) w)) in
-      (λ i. leftmost (unless-placeless (tableOpen (openFor d q) (schemeOf d (q .table))) (q .table) i ∷ (ap (missing f) (named-placeless q) ∙ missing-placeless f (λ w. refl) (namedWords q)) i ∷ []))
+      let f : Word → Bool = λ w. columnOpen (openFor d q) (labellingOf d (q .table)) (orZero (columnOf (columnsOf d (q .table)) w)) in
+      (λ i. leftmost (unless-placeless (tableOpen (openFor d q) (labellingOf d (q .table))) (q .table) i ∷ (ap (missing f) (named-placeless q) ∙ missing-placeless f (λ w. refl) (namedWords q)) i ∷ []))
       ∙ leftmost-placeless (_ ∷ _ ∷ [])
 
   pub types-placeless : mistypedQuery d (placelessQuery q) ≡ Option·map placeless (mistypedQuery d q)

@@ -7,7 +7,7 @@ use mathlib.Core.Path.{_≡_}
 use Rattle.condition.specs.Comparison.{Comparison}
 use Rattle.condition.specs.Cond.{Cond, comparisonsIn, mapCond}
 use Rattle.condition.specs.CondForm.{Compared, mistyped}
-use Rattle.document.specs.Lookup.{columnKind, columnOf, columnsOf, purposeOf, roleOf, schemeOf, tableOf}
+use Rattle.document.specs.Lookup.{columnKind, columnOf, columnsOf, labellingOf, purposeOf, roleOf, tableOf}
 use Rattle.document.specs.Open.{columnOpen, labelOpen, tableOpen}
 use Rattle.document.specs.Policy.{Column, Policy}
 use Rattle.query.specs.QueryForm.{QueryForm, Ref, namedRefs, namedWords, withholdingRefs}
@@ -69,8 +69,8 @@ openFor d q = labelOpen d (orZero (purposeOf d (q .purpose)))
 -- 17: table or named column closed to the purpose
 unfoldable pub closedPart : Policy → QueryForm → Option Word
 closedPart d q = leftmost (
-    unless (tableOpen (openFor d q) (schemeOf d (q .table))) (q .table)
-    ∷ missing (λ w. columnOpen (openFor d q) (schemeOf d (q .table)) (orZero (columnOf (columnsOf d (q .table)) w))) (namedWords q)
+    unless (tableOpen (openFor d q) (labellingOf d (q .table))) (q .table)
+    ∷ missing (λ w. columnOpen (openFor d q) (labellingOf d (q .table)) (orZero (columnOf (columnsOf d (q .table)) w))) (namedWords q)
     ∷ [])
 
 -- the columns of the table t among these, by number; those that it does not have are left out

@@ -4,6 +4,7 @@ use Prim.Native.Nat.{_*_, _+_, _<_, _≤_, suc, zero, ℕ}
 use borrow.Author.Count.{below-more}
 use lib.ListN.{getD, getElem?, length, length-set, set}
 use lib.Seq.{getD-set-other, getD-set-same}
+use mathlib.Core.Bool.{false}
 use mathlib.Core.List.{List, [], _++_, _∷_}
 use mathlib.Core.Option.{Option·getD, Option·map, some}
 use mathlib.Core.Path.{_∙_, _≡_, ap, refl, subst, sym}
@@ -14,7 +15,9 @@ use Rattle.document.specs.Policy.{Column, Policy, Table}
 use Rattle.form.specs.Form.{Scheme, byCell, unlabelled}
 use Rattle.workspace.specs.Cells.{kindOfCell}
 use Rattle.workspace.specs.Found.{FoundBelow}
-use Rattle.relations.specs.Tables.{ColumnStored, Cut, Filling, Tables, columnCountIn, columnIn, columnKindIn, columnLabelIn, columnLabelsIn, schemeBy, schemeIn, schemeOfCell, tableIn, tableLabelIn}
+use Rattle.relations.proofs.NoteLaws.{notes-kept, notes-public, notes-table}
+use Rattle.relations.specs.Notes.{noteIn}
+use Rattle.relations.specs.Tables.{ColumnStored, Cut, Filling, PublicStored, TableAdded, Tables, columnCountIn, columnIn, columnKindIn, columnLabelIn, columnLabelsIn, schemeBy, schemeIn, schemeOfCell, tableIn, tableLabelIn}
 use Rattle.workspace.specs.Tabulated.{tabulated}
 use Rattle.workspace.specs.declared.found.Found.{Found}
 use Rattle.workspace.specs.declared.found.Found.the-variants as found
@@ -92,9 +95,21 @@ module _ (text ws ws′ : List ℕ) where
     are = tabulated-same (tableIn text ws′) (tableIn text ws) k (λ t l. table-same t (s t l) (h .narrow t l)) ∙ h .are;
   }
 
+-- a store behind all that stands for tables
+stored-behind : (text ws : List ℕ) (n v k : ℕ) (ts : List Table) → 416 ≤ n → Tables text ws k ts → Tables text (set ws n v) k ts
+stored-behind text ws n v k ts far h = tables-same text ws (set ws n v) k ts (λ t l. record {
+  name = getD-set-other ws n t v 0 (λ e. omega (arith, e, far, l, h .few));
+  scheme = getD-set-other ws n (8 + t) v 0 (λ e. omega (arith, e, far, l, h .few));
+  label = getD-set-other ws n (16 + t) v 0 (λ e. omega (arith, e, far, l, h .few));
+  width = getD-set-other ws n (24 + t) v 0 (λ e. omega (arith, e, far, l, h .few));
+  columnName = λ c b. getD-set-other ws n (32 + 16 * t + c) v 0 (λ e. omega (arith, e, far, l, b, h .few));
+  columnKind = λ c b. getD-set-other ws n (160 + 16 * t + c) v 0 (λ e. omega (arith, e, far, l, b, h .few));
+  columnLabel = λ c b. getD-set-other ws n (288 + 16 * t + c) v 0 (λ e. omega (arith, e, far, l, b, h .few));
+}) h
+
 -- ---- a column is stored
 
-module _ (ws : List ℕ) (t c pos kind label : ℕ) (long : length ws ≡ 416) (inside : t < 8) (s : c < 16) where
+module _ (ws : List ℕ) (t c pos kind label : ℕ) (long : length ws ≡ 424) (inside : t < 8) (s : c < 16) where
   abbrev w3 : List ℕ
   w3 = set (set (set ws (32 + 16 * t + c) pos) (160 + 16 * t + c) kind) (288 + 16 * t + c) label
 
@@ -117,6 +132,7 @@ module _ (ws : List ℕ) (t c pos kind label : ℕ) (long : length ws ≡ 416) (
   pub column-stored : (type : Kind) → kindOfCell kind ≡ type → ColumnStored ws w3 t c pos type label
   column-stored type is = record {
     kept = λ text k ts l h. tables-same text ws w3 k ts (λ q b. before-same q (omega (arith, b, l))) h;
+    noted = λ k ns h. notes-kept (λ q l. elsewhere (416 + q) (λ b m e. omega (arith, e, m, inside, s))) h;
     grown = λ text cs ls l m h. record {
       few = omega (arith, s);
       columns =
@@ -145,7 +161,7 @@ module _ (ws : List ℕ) (t c pos kind label : ℕ) (long : length ws ≡ 416) (
 
 -- outside the array nothing is stored
 pub no-column : (ws : List ℕ) (t c pos : ℕ) (kind : Kind) (label : ℕ) → (t < 8 → c < 16 → ⊥) → ColumnStored ws ws t c pos kind label
-no-column ws t c pos kind label out = record { kept = λ text k ts l h. h; grown = λ text cs ls l s h. absurd (out l s) }
+no-column ws t c pos kind label out = record { kept = λ text k ts l h. h; noted = λ k ns h. h; grown = λ text cs ls l s h. absurd (out l s) }
 
 -- ---- a table is added
 
@@ -173,7 +189,7 @@ table-counted text ws k pos number label c scheme ts cs ls l h f en es el ec is 
     columns : tabulated (columnIn text ws k) (getD ws (24 + k) 0) ≡ cs
     columns = ap (tabulated (columnIn text ws k)) ec ∙ f .columns
 
-module _ (ws : List ℕ) (k pos number label c : ℕ) (long : length ws ≡ 416) (inside : k < 8) where
+module _ (ws : List ℕ) (k pos number label c : ℕ) (long : length ws ≡ 424) (inside : k < 8) where
   abbrev w4 : List ℕ
   w4 = set (set (set (set ws k pos) (8 + k) number) (16 + k) label) (24 + k) c
 
@@ -207,7 +223,7 @@ module _ (ws : List ℕ) (k pos number label c : ℕ) (long : length ws ≡ 416)
     labels = tabulated-same (columnLabelIn w4 k) (columnLabelIn ws k) c (λ n l. besides (288 + 16 * k + n) (λ b m e. omega (arith, e, m, inside))) ∙ f .labels;
   }
 
-  pub table-added : (text : List ℕ) (scheme : Scheme ℕ) (ts : List Table) (cs : List Column) (ls : List ℕ) → schemeOfCell number label ls ≡ scheme → Tables text ws k ts → Filling text ws k c cs ls
+  table-added : (text : List ℕ) (scheme : Scheme ℕ) (ts : List Table) (cs : List Column) (ls : List ℕ) → schemeOfCell number label ls ≡ scheme → Tables text ws k ts → Filling text ws k c cs ls
       → Tables text w4 (k + 1) (ts ++ (record { name = wordAt text pos; scheme = scheme; columns = cs } ∷ []))
   table-added text scheme ts cs ls is h f =
       table-counted text w4 k pos number label c scheme ts cs ls inside (tables-same text ws w4 k ts others-same h) (filling-same text cs ls f)
@@ -231,6 +247,44 @@ module _ (ws : List ℕ) (k pos number label c : ℕ) (long : length ws ≡ 416)
 
       w3 : List ℕ
       w3 = set w2 (16 + k) label
+
+  abbrev w5 : List ℕ
+  w5 = set w4 (416 + k) 0
+
+  note-none : noteIn w5 k ≡ 0
+  note-none = getD-set-same w4 (416 + k) 0 0 (omega (arith, long, inside, long-kept))
+    where
+      long-kept : length w4 ≡ length ws
+      long-kept =
+          length-set (set (set (set ws k pos) (8 + k) number) (16 + k) label) (24 + k) c
+          ∙ length-set (set (set ws k pos) (8 + k) number) (16 + k) label
+          ∙ length-set (set ws k pos) (8 + k) number
+          ∙ length-set ws k pos
+
+  notes-before : (q : ℕ) → q < k → noteIn w5 q ≡ noteIn ws q
+  notes-before q l = getD-set-other w4 (416 + k) (416 + q) 0 0 (λ e. omega (arith, e, l)) ∙ besides (416 + q) (λ b m e. omega (arith, e, m, inside))
+
+  pub added : (scheme : coded.Scheme) → ((ls : List ℕ) → schemeOfCell number label ls ≡ schemeBy scheme label ls) → TableAdded ws w5 k pos scheme label c
+  added scheme is = record {
+    grown = λ text ts cs ls h l f. stored-behind text w4 (416 + k) 0 (k + 1) _ (omega arith) (table-added text (schemeBy scheme label ls) ts cs ls (is ls) h f);
+    noted = λ ns l h. notes-table notes-before note-none h;
+  }
+
+-- outside the array no table is added
+pub not-added : (ws : List ℕ) (k pos : ℕ) (scheme : coded.Scheme) (label c : ℕ) → (k < 8 → ⊥) → TableAdded ws ws k pos scheme label c
+not-added ws k pos scheme label c out = record { grown = λ text ts cs ls h l f. absurd (out l); noted = λ ns l h. absurd (out l) }
+
+-- ---- a table is declared public
+
+pub public-stored : (ws : List ℕ) (t : ℕ) → length ws ≡ 424 → PublicStored ws (set ws (416 + t) 1) t
+public-stored ws t long = record {
+  kept = λ text k ts h. stored-behind text ws (416 + t) 1 k ts (omega arith) h;
+  noted = λ k ns l few h. notes-public ws t k ns long l few h;
+}
+
+-- outside the array nothing is declared
+pub not-public : (ws : List ℕ) (t : ℕ) → (t < 8 → ⊥) → PublicStored ws ws t
+not-public ws t out = record { kept = λ text k ts h. h; noted = λ k ns l few h. absurd (out (omega (arith, l, few))) }
 
 -- before any table
 pub no-tables : (text ws : List ℕ) → Tables text ws 0 []
@@ -273,7 +327,7 @@ table-at text ws k ts h t l = ap (λ xs. getElem? xs t) (sym (h .are)) ∙ tabul
 module _ (text ws : List ℕ) (k t : ℕ) (d : Policy) (h : Tables text ws k (d .tables)) (l : t < k) where
   pub scheme-at : schemeAt d t ≡ schemeIn ws t
   unfolding schemeAt tableIn
-  scheme-at = ap (λ o. Option·getD (Option·map (λ x. x .scheme) o) unlabelled) (table-at text ws k (d .tables) h t l)
+  scheme-at = ap (λ o. Option·getD (Option·map (λ x. x .scheme) o) (unlabelled false)) (table-at text ws k (d .tables) h t l)
 
   pub columns-at : columnsAt d t ≡ tabulated (columnIn text ws t) (getD ws (24 + t) 0)
   unfolding columnsAt tableIn

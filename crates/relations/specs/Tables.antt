@@ -1,12 +1,14 @@
 -- Contract: how the workspace holds tables: names from 0, schemes from 8, the tables' labels from 16, the numbers of columns from
--- 24; 16 places for each table: the columns' names from 32, types from 160, labels from 288.
+-- 24; 16 places for each table: the columns' names from 32, types from 160, labels from 288. Behind them stand the notes.
 use Prim.Native.Nat.{_*_, _+_, _<_, _≤_, suc, zero, ℕ}
 use lib.ListN.{getD}
+use mathlib.Core.Bool.{false}
 use mathlib.Core.List.{List, [], _++_, _∷_}
 use mathlib.Core.Path.{_≡_}
 use Rattle.condition.specs.Kinds.{Kind}
-use Rattle.document.specs.Policy.{Column, Table}
-use Rattle.form.specs.Form.{Scheme, byCell, byColumn, byRow, byTable, unlabelled}
+use Rattle.document.specs.Policy.{Column, Noted, Table}
+use Rattle.form.specs.Form.{Scheme, byCell, byColumn, byRow, byTable, public, unlabelled}
+use Rattle.relations.specs.Notes.{Notes}
 use Rattle.workspace.specs.Tabulated.{tabulated}
 use Rattle.text.specs.Words.{wordAt}
 use Rattle.form.specs.declared.lines.Scheme as coded
@@ -39,7 +41,7 @@ columnLabelsIn ws t = tabulated (columnLabelIn ws t) (columnCountIn ws t)
 
 -- the scheme by its number, the label of the table, and those of the columns
 unfoldable pub schemeOfCell : ℕ → ℕ → List ℕ → Scheme ℕ
-schemeOfCell zero l ls = unlabelled
+schemeOfCell zero l ls = unlabelled false
 schemeOfCell (suc zero) l ls = byTable l
 schemeOfCell (suc (suc zero)) l ls = byColumn ls
 schemeOfCell (suc (suc (suc zero))) l ls = byRow
@@ -47,7 +49,7 @@ schemeOfCell (suc (suc (suc (suc n)))) l ls = byCell
 
 -- the scheme by the code's name for it, with the same labels
 unfoldable pub schemeBy : coded.Scheme → ℕ → List ℕ → Scheme ℕ
-schemeBy scheme.Unlabelled l ls = unlabelled
+schemeBy scheme.Unlabelled l ls = unlabelled false
 schemeBy scheme.ByTable l ls = byTable l
 schemeBy scheme.ByColumn l ls = byColumn ls
 schemeBy scheme.ByRow l ls = byRow
@@ -74,11 +76,23 @@ pub record Filling (text ws : List ℕ) (t c : ℕ) (cs : List Column) (ls : Lis
   pub columns : tabulated (columnIn text ws t) c ≡ cs
   pub labels : tabulated (columnLabelIn ws t) c ≡ ls
 
--- column c of table t is stored: the tables before it stay, and the table has one column more
+-- column c of table t is stored: the tables before it and all notes stay, and the table has one column more
 pub record ColumnStored (before after : List ℕ) (t c pos : ℕ) (kind : Kind) (label : ℕ) : Type 0 where
   pub kept : (text : List ℕ) (k : ℕ) (ts : List Table) → k ≤ t → Tables text before k ts → Tables text after k ts
+  pub noted : (k : ℕ) (ns : List Noted) → Notes before k ns → Notes after k ns
   pub grown : (text : List ℕ) (cs : List Column) (ls : List ℕ) → t < 8 → c < 16 → Filling text before t c cs ls →
       Filling text after t (c + 1) (cs ++ (record { name = wordAt text pos; kind = kind } ∷ [])) (ls ++ (label ∷ []))
+
+-- table k, of so many columns, is added: it stands behind the tables before it, and no note is of it
+pub record TableAdded (before after : List ℕ) (k pos : ℕ) (scheme : coded.Scheme) (label width : ℕ) : Type 0 where
+  pub grown : (text : List ℕ) (ts : List Table) (cs : List Column) (ls : List ℕ) → Tables text before k ts → k < 8 → Filling text before k width cs ls →
+      Tables text after (k + 1) (ts ++ (record { name = wordAt text pos; scheme = schemeBy scheme label ls; columns = cs } ∷ []))
+  pub noted : (ns : List Noted) → k < 8 → Notes before k ns → Notes after (k + 1) ns
+
+-- table t is declared public: the tables stay, and there is one note more
+pub record PublicStored (before after : List ℕ) (t : ℕ) : Type 0 where
+  pub kept : (text : List ℕ) (k : ℕ) (ts : List Table) → Tables text before k ts → Tables text after k ts
+  pub noted : (k : ℕ) (ns : List Noted) → t < k → k ≤ 8 → Notes before k ns → Notes after k (ns ++ (record { table = t; note = public } ∷ []))
 
 -- a number of places, as the code reads it: at most so many, and what is stored where that is no more
 pub record Cut (most i room stored r : ℕ) : Type 0 where

@@ -12,6 +12,7 @@ use workspace::layout::COLUMN_NAMES;
 use workspace::layout::COLUMNS;
 use workspace::layout::TABLE_CELLS;
 use workspace::layout::TABLE_LABELS;
+use workspace::layout::TABLE_NOTES;
 use workspace::layout::TABLE_SCHEMES;
 use workspace::layout::TABLE_WIDTHS;
 use workspace::layout::TABLES;
@@ -19,13 +20,13 @@ use workspace::store::kind_by;
 use workspace::store::kind_cell;
 ghost use Prim.Native.Nat.{_+_, _<_, ℕ};
 ghost use lib.ListN.{length};
-ghost use mathlib.Core.List.{List, _++_, _∷_, []};
+ghost use mathlib.Core.List.{List};
 ghost use mathlib.Core.Path.{_≡_};
 ghost use Rattle.condition.specs.Answers.{kindOf};
 ghost use Rattle.document.specs.Lookup.{columnOf};
-ghost use Rattle.document.specs.Policy.{Column, Table};
+ghost use Rattle.document.specs.Policy.{Table};
 ghost use Rattle.workspace.specs.Found.{FoundBelow, foundAs};
-ghost use Rattle.relations.specs.Tables.{ColumnStored, Cut, Filling, Tables, columnCountIn, columnKindIn, columnLabelIn, columnLabelsIn, columnsIn, schemeBy, schemeIn, schemeOfCell, tableLabelIn};
+ghost use Rattle.relations.specs.Tables.{ColumnStored, Cut, TableAdded, Tables, columnCountIn, columnKindIn, columnLabelIn, columnLabelsIn, columnsIn, schemeBy, schemeIn, schemeOfCell, tableLabelIn};
 ghost use Rattle.lists.specs.Lists.{findIndex};
 ghost use Rattle.text.specs.Words.{isCalled, wordAt, wordOf};
 
@@ -64,7 +65,7 @@ pub fn set_column(
     }
 }
 
-// Adds table k, of which so many columns are stored.
+// Adds table k, of which so many columns are stored; no line says more of it yet.
 pub fn add_table(
     ws: &mut [usize; TABLE_CELLS],
     k: usize,
@@ -73,7 +74,7 @@ pub fn add_table(
     label: usize,
     width: usize,
 )
-    ensures { λ _. ⌜ ((text : List ℕ) (ts : List Table) (cs : List Column) (ls : List ℕ) → Tables text (now (ws .entry)) k ts → k < 8 → Filling text (now (ws .entry)) k width cs ls → Tables text (now (ws .exit)) (k + 1) (ts ++ (record { name = wordAt text pos; scheme = schemeBy scheme label ls; columns = cs } ∷ []))) ⌝ }
+    ensures { λ _. ⌜ TableAdded (now (ws .entry)) (now (ws .exit)) k pos scheme label width ⌝ }
 {
     if k < TABLES {
         let code = scheme_cell(scheme);
@@ -82,6 +83,7 @@ pub fn add_table(
         cells[TABLE_SCHEMES + k] = code;
         cells[TABLE_LABELS + k] = label;
         cells[TABLE_WIDTHS + k] = width;
+        cells[TABLE_NOTES + k] = 0;
     }
 }
 

@@ -6,7 +6,8 @@ use mathlib.Core.List.{List, [], _∷_, map}
 use mathlib.Core.Option.{bind, none, some}
 use mathlib.Core.Path.{_∙_, _≡_, ap, refl, sym}
 use native.Mathlib.Omega.{arith}
-use Rattle.document.specs.Lookup.{columnOf, columnsAt, schemeAt}
+use Rattle.document.proofs.OpenLaws.{settled-column}
+use Rattle.document.specs.Lookup.{columnOf, columnsAt, labellingAt, notesOf, schemeAt, settled}
 use Rattle.document.specs.Open.{columnOpen, labelOpen, tableOpen}
 use Rattle.document.specs.Policy.{Policy}
 use Rattle.workspace.proofs.TabulatedLaws.{length-tabulated}
@@ -58,13 +59,20 @@ module _ (text ws : List ℕ) (k t : ℕ) (d : Policy) (p : ℕ) (h : Tables tex
     scheme-is : schemeAt d t ≡ schemeBy scheme (tableLabelIn ws t) (labelsIn ws t d)
     scheme-is = scheme-read text ws k t d h l s is ∙ ap (λ z. schemeBy z (tableLabelIn ws t) (labelsIn ws t d)) e
 
-    pub table-by : tableOpen (labelOpen d p) (schemeAt d t) ≡ tableOpen (labelOpen d p) (schemeBy scheme (tableLabelIn ws t) (labelsIn ws t d))
-    table-by = ap (tableOpen (labelOpen d p)) scheme-is
+    -- with the notes
+    labelling-is : labellingAt d t ≡ settled (notesOf (d .notes) t) (schemeBy scheme (tableLabelIn ws t) (labelsIn ws t d))
+    unfolding labellingAt
+    labelling-is = ap (settled (notesOf (d .notes) t)) scheme-is
+
+    pub table-by : tableOpen (labelOpen d p) (labellingAt d t) ≡ tableOpen (labelOpen d p) (settled (notesOf (d .notes) t) (schemeBy scheme (tableLabelIn ws t) (labelsIn ws t d)))
+    table-by = ap (tableOpen (labelOpen d p)) labelling-is
 
     pub columns-by : (words : List Word)
-        → missing (λ w. columnOpen (labelOpen d p) (schemeAt d t) (orZero (columnOf (columnsAt d t) w))) words
+        → missing (λ w. columnOpen (labelOpen d p) (labellingAt d t) (orZero (columnOf (columnsAt d t) w))) words
         ≡ missing (λ w. columnOpen (labelOpen d p) (schemeBy scheme (tableLabelIn ws t) (labelsIn ws t d)) (orZero (columnOf (columnsAt d t) w))) words
-    columns-by words = ap (λ z. missing (λ w. columnOpen (labelOpen d p) z (orZero (columnOf (columnsAt d t) w))) words) scheme-is
+    columns-by words =
+        ap (λ z. missing (λ w. columnOpen (labelOpen d p) z (orZero (columnOf (columnsAt d t) w))) words) labelling-is
+        ∙ (λ i. missing (λ w. settled-column (labelOpen d p) (notesOf (d .notes) t) (schemeBy scheme (tableLabelIn ws t) (labelsIn ws t d)) (orZero (columnOf (columnsAt d t) w)) i) words)
 
 -- ---- the first closed column
 

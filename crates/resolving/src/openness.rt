@@ -2,6 +2,7 @@
 use crate::columns::NAMED;
 use form::lines::Scheme;
 use relations::labels::opened_at;
+use relations::notes::is_public;
 use relations::tables::column_label;
 use relations::tables::table_label;
 use relations::tables::table_scheme;
@@ -13,21 +14,22 @@ ghost use Prim.Native.Nat.{_<_, ℕ};
 ghost use lib.ListN.{getElem?, length};
 ghost use mathlib.Core.List.{List};
 ghost use mathlib.Core.Path.{_≡_};
-ghost use Rattle.document.specs.Lookup.{columnsAt, schemeAt};
+ghost use Rattle.document.specs.Lookup.{columnsAt, labellingAt};
 ghost use Rattle.document.specs.Open.{labelOpen, tableOpen};
 ghost use Rattle.document.specs.Policy.{Policy};
 ghost use Rattle.relations.specs.Labels.{Opened};
+ghost use Rattle.relations.specs.Notes.{Notes};
 ghost use Rattle.relations.specs.Tables.{Tables, columnLabelIn};
 ghost use Rattle.workspace.specs.Tabulated.{tabulated};
 ghost use Rattle.resolving.specs.Promises.{ClosedColumnPromise, ClosedPartPromise, FirstClosedPromise};
 
-// Whether the table is open, as a whole.
+// Whether the table is open, as a whole: without labels it is where it is declared public.
 fn table_open(tables: &[usize; TABLE_CELLS], t: usize, opened: &[bool]) -> bool
-    ensures { λ r. ⌜ ((d : Policy) (text : List ℕ) (k p : ℕ) → Tables text (now (tables .entry)) k (d .tables) → t < k → Opened d p (now (opened .entry)) → r ≡ tableOpen (labelOpen d p) (schemeAt d t)) ⌝ }
+    ensures { λ r. ⌜ ((d : Policy) (text : List ℕ) (k p : ℕ) → Tables text (now (tables .entry)) k (d .tables) → Notes (now (tables .entry)) k (d .notes) → t < k → Opened d p (now (opened .entry)) → r ≡ tableOpen (labelOpen d p) (labellingAt d t)) ⌝ }
 {
     let scheme = table_scheme(tables, t);
     match scheme {
-        Scheme::Unlabelled => true,
+        Scheme::Unlabelled => is_public(tables, t),
         Scheme::ByTable => opened_at(opened, table_label(tables, t)),
         Scheme::ByColumn => true,
         Scheme::ByRow => true,

@@ -41,7 +41,7 @@ module _ {text ps rs bs us cs gs ms ts ws : List ℕ} {c : Counts} {d : Doc} (h 
   -- so much as the answer needs
   pub granted : {os : List Bool} {s : List ℕ} {q : Question} {p : ℕ} → IsQuery s q → purposeOf (d .policy) (formAt s q .purpose) ≡ some p → Opened (d .policy) p os → Granted text ts ws c os s q d
   unfolding orZero
-  granted {os} i e o = record { small = h .small; tables = h .indexed .tables; rows = h .indexed .rows; opened = subst (λ n. Opened (d .policy) n os) (sym (ap orZero e)) o; query = i }
+  granted {os} i e o = record { small = h .small; tables = h .indexed .tables; notes = h .indexed .notes; rows = h .indexed .rows; opened = subst (λ n. Opened (d .policy) n os) (sym (ap orZero e)) o; query = i }
 
 -- the number of a purpose that was found lies in the tree
 pub in-tree : {text ws : List ℕ} {k p : ℕ} {ns : List Node} → Nodes limit text ws k ns → p < k → inTree (treeOf ns) p ≡ true

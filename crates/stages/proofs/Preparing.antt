@@ -9,7 +9,7 @@ use mathlib.Core.Path.{_∙_, _≡_, ap, subst, sym}
 use native.Mathlib.Omega.{arith}
 use Rattle.condition.specs.Cond.{comparisonsIn, mapCond}
 use Rattle.condition.specs.CondForm.{Compared, mistyped}
-use Rattle.document.specs.Lookup.{columnKind, columnOf, columnsAt, columnsOf, purposeOf, schemeAt, schemeOf, tableOf}
+use Rattle.document.specs.Lookup.{columnKind, columnOf, columnsAt, columnsOf, labellingAt, labellingOf, purposeOf, tableOf}
 use Rattle.document.specs.Open.{columnOpen, labelOpen, tableOpen}
 use Rattle.document.specs.Policy.{Column, Doc, Policy}
 use Rattle.form.specs.Form.{Scheme}
@@ -80,9 +80,9 @@ module _ {d : Policy} {q : QueryForm} {t k : ℕ} (table : InTable d q t k) wher
   unfolding columnsOf
   columns-are = ap (columnsAt d) number-is
 
-  scheme-is : schemeOf d (q .table) ≡ schemeAt d t
-  unfolding schemeOf
-  scheme-is = ap (schemeAt d) number-is
+  labelling-is : labellingOf d (q .table) ≡ labellingAt d t
+  unfolding labellingOf
+  labelling-is = ap (labellingAt d) number-is
 
   -- 15, where the table is there
   column-unknown : unknownColumn d q ≡ missing (λ w. there (columnOf (columnsAt d t) w)) (namedWords q)
@@ -105,23 +105,23 @@ module _ {d : Policy} {s : List ℕ} (q : Question) {t k n : ℕ} {places ops nu
     allThere = missing-none (λ w. there (columnOf (columnsAt d t) w)) (namedWords (formAt s q)) (sym (no-word s e resolves-unknown ∙ column-unknown table));
   }
 
-  -- what is closed to purpose p, where y is the table's scheme and ys are its columns
+  -- what is closed to purpose p, where y is the table's scheme with its notes and ys are its columns
   abbrev closed : ℕ → Scheme ℕ → List Column → List Word → Option Word
   closed p y ys ws = leftmost (unless (tableOpen (labelOpen d p) y) (wordOf s (q .head .table)) ∷ missing (λ w. columnOpen (labelOpen d p) y (orZero (columnOf ys w))) ws ∷ [])
 
   abbrev purpose-of : ℕ
   purpose-of = orZero (purposeOf d (formAt s q .purpose))
 
-  parts-are : closed purpose-of (schemeAt d t) (columnsAt d t) (wordsAt s n places) ≡ closedPart d (formAt s q)
+  parts-are : closed purpose-of (labellingAt d t) (columnsAt d t) (wordsAt s n places) ≡ closedPart d (formAt s q)
   unfolding closedPart openFor formAt
   parts-are =
-      ap (closed purpose-of (schemeAt d t) (columnsAt d t)) (placed .words)
-      ∙ ap (λ ys. closed purpose-of (schemeAt d t) ys (namedWords (formAt s q))) (sym (columns-are table))
-      ∙ ap (λ y. closed purpose-of y (columnsOf d (wordOf s (q .head .table))) (namedWords (formAt s q))) (sym (scheme-is table))
+      ap (closed purpose-of (labellingAt d t) (columnsAt d t)) (placed .words)
+      ∙ ap (λ ys. closed purpose-of (labellingAt d t) ys (namedWords (formAt s q))) (sym (columns-are table))
+      ∙ ap (λ y. closed purpose-of y (columnsOf d (wordOf s (q .head .table))) (namedWords (formAt s q))) (sym (labelling-is table))
 
   -- 17: what is closed is what the definition says
   pub parts-judged : x ≡ offending.Nothing → (y : Offending) {os : List Bool} → Opened d purpose-of os
-      → (n ≤ 80 → Opened d purpose-of os → take n numbers ≡ map (λ w. orZero (columnOf (columnsAt d t) w)) (wordsAt s n places) → offendingOf s y ≡ closed purpose-of (schemeAt d t) (columnsAt d t) (wordsAt s n places))
+      → (n ≤ 80 → Opened d purpose-of os → take n numbers ≡ map (λ w. orZero (columnOf (columnsAt d t) w)) (wordsAt s n places) → offendingOf s y ≡ closed purpose-of (labellingAt d t) (columnsAt d t) (wordsAt s n places))
       → offendingOf s y ≡ closedPart d (formAt s q)
   parts-judged e y o f = f (placed .small) o (r .numbered e) ∙ parts-are
 

@@ -9,6 +9,7 @@ use Rattle.document.specs.Invariants.{Formed}
 use Rattle.document.specs.Lookup.{columnOf, columnsAt, purposeOf, tableOf}
 use Rattle.document.specs.Policy.{Doc, Policy}
 use Rattle.relations.specs.Labels.{Opened}
+use Rattle.relations.specs.Notes.{Notes}
 use Rattle.relations.specs.Rows.{Rows}
 use Rattle.relations.specs.Tables.{Tables}
 use Rattle.index.specs.Workspace.{Indexed}
@@ -26,11 +27,12 @@ pub record Standing (text ps rs bs us cs gs ms ts ws : List ℕ) (c : Counts) (d
   pub formed : Formed (d .policy)
   pub small : length text ≤ 60000
 
--- so much of it as the answer needs: the tables ts, the rows ws, and which labels are open to the query's purpose; the question q is
--- the query that the text s is
+-- so much of it as the answer needs: the tables ts with what is said of them, the rows ws, and which labels are open to the query's
+-- purpose; the question q is the query that the text s is
 pub record Granted (text ts ws : List ℕ) (c : Counts) (os : List Bool) (s : List ℕ) (q : Question) (d : Doc) : Type 0 where
   pub small : length text ≤ 60000
   pub tables : Tables text ts (c .tables) (d .policy .tables)
+  pub notes : Notes ts (c .tables) (d .policy .notes)
   pub rows : Rows text ws (c .rows) (d .rows)
   pub opened : Opened (d .policy) (orZero (purposeOf (d .policy) (formAt s q .purpose))) os
   pub query : IsQuery s q

@@ -7,11 +7,12 @@ use native.Mathlib.Omega.{arith}
 use Rattle.condition.specs.Kinds.{Kind}
 use Rattle.document.specs.Lookup.{labelOf}
 use Rattle.document.specs.Meaning.{columnMeant}
-use Rattle.document.specs.Policy.{Column, Policy, Table}
+use Rattle.document.specs.Policy.{Column, Noted, Policy, Table}
 use Rattle.form.proofs.WalkSteps.{column-labels-more, columns-more, labelled-columns-more}
 use Rattle.form.specs.Walks.{columnAt, columnFormsAt, columnLabelAt, columnLabelsAt, firstIn, kindAt, labelledColumnsAt, pairEndAt, secondIn, thirdIn, tripleEndAt}
 use Rattle.workspace.proofs.TabulatedLaws.{length-tabulated}
 use Rattle.relations.proofs.TableLaws.{table-empty}
+use Rattle.relations.specs.Notes.{Notes}
 use Rattle.relations.specs.Tables.{ColumnStored, Filling, Tables, columnIn}
 use Rattle.lists.specs.Lists.{orZero}
 use Rattle.stepping.proofs.PlaceLaws.{word-placed}
@@ -23,6 +24,7 @@ use Rattle.text.specs.Words.{wordAt, wordOf}
 -- of all the columns and labels some were stored, and the others are left
 pub record Columned (text before after : List ℕ) (k c : ℕ) (all left : List Column) (labels behind : List ℕ) : Type 0 where
   pub kept : (ts : List Table) → Tables text before k ts → Tables text after k ts
+  pub noted : (ns : List Noted) → Notes before k ns → Notes after k ns
   pub passed : List Column
   pub marked : List ℕ
   pub filling : Filling text after k c passed marked
@@ -32,6 +34,7 @@ pub record Columned (text before after : List ℕ) (k c : ℕ) (all left : List 
 pub columned-none : (text ws : List ℕ) (k : ℕ) (all : List Column) (labels : List ℕ) → Columned text ws ws k 0 all all labels labels
 columned-none text ws k all labels = record {
   kept = λ ts h. h;
+  noted = λ ns h. h;
   passed = [];
   marked = [];
   filling = table-empty text ws k;
@@ -47,6 +50,7 @@ columned-more {text} {before} {ws} {after} {k} {c} {pos} {label} {kind} {all} {l
     let inside : c < 16 = omega (arith, ap length (g .columns), length-append (g .passed) (x ∷ left), long, few) in
     record {
       kept = λ ts h. s .kept text k ts (omega arith) (g .kept ts h);
+      noted = λ ns h. s .noted k ns (g .noted ns h);
       passed = g .passed ++ (x ∷ []);
       marked = g .marked ++ (y ∷ []);
       filling = subst (λ (z : Column × ℕ). Filling text after k (c + 1) (g .passed ++ (z .0 ∷ [])) (g .marked ++ (z .1 ∷ [])))
@@ -58,6 +62,7 @@ columned-more {text} {before} {ws} {after} {k} {c} {pos} {label} {kind} {all} {l
 pub columned-all : {text before after : List ℕ} {k c : ℕ} {all left : List Column} {labels behind : List ℕ} → Columned text before after k c all left labels behind → left ≡ [] → behind ≡ [] → ColumnsFilled text before after k c all labels
 columned-all {text} {before} {after} {k} {c} g e f = record {
   kept = g .kept;
+  noted = g .noted;
   filling = subst (λ (z : List Column × List ℕ). Filling text after k c (z .0) (z .1))
       (λ j. (sym (g .columns ∙ ap (λ x. g .passed ++ x) e ∙ append-nil (g .passed)) j, sym (g .labelled ∙ ap (λ x. g .marked ++ x) f ∙ append-nil (g .marked)) j)) (g .filling);
 }

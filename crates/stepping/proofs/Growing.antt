@@ -17,7 +17,7 @@ use Rattle.document.specs.Check.{checkForm}
 use Rattle.document.specs.Lookup.{roleOf}
 use Rattle.document.specs.Meaning.{add, define, rowsGiven}
 use Rattle.document.specs.Policy.{Doc, Grant, Policy, Row, User}
-use Rattle.form.specs.Form.{ColumnForm, Form, GivenForm, Item, Scheme, attr, condRole, grant, label, purpose, role, row, table, user}
+use Rattle.form.specs.Form.{ColumnForm, Form, GivenForm, Item, Note, Scheme, attr, condRole, grant, label, note, purpose, role, row, table, user}
 use Rattle.principals.proofs.IndexLaws.{conds-grown, conds-same, users-length, users-none, users-same}
 use Rattle.workspace.proofs.TabulatedLaws.{length-tabulated}
 use Rattle.principals.specs.Attributes.{Attributes}
@@ -25,6 +25,7 @@ use Rattle.principals.specs.CondRoles.{CondRoles}
 use Rattle.principals.specs.Grants.{Grants, grantIn}
 use Rattle.relations.specs.Labels.{Labels}
 use Rattle.principals.specs.Nodes.{Nodes}
+use Rattle.relations.specs.Notes.{Notes}
 use Rattle.relations.specs.Rows.{Rows, rowIn}
 use Rattle.relations.specs.Tables.{Tables}
 use Rattle.principals.specs.Users.{Users}
@@ -68,6 +69,7 @@ module _ {text ps rs bs us cs gs ls ms ts ws : List ℕ} {c : Counts} {d : Doc} 
     grants = I .grants;
     labels = I .labels;
     tables = I .tables;
+    notes = I .notes;
     rows = no-row;
   }
 
@@ -83,6 +85,7 @@ module _ {text ps rs bs us cs gs ls ms ts ws : List ℕ} {c : Counts} {d : Doc} 
     grants = I .grants;
     labels = I .labels;
     tables = I .tables;
+    notes = I .notes;
     rows = no-row;
   }
 
@@ -101,6 +104,7 @@ module _ {text ps rs bs us cs gs ls ms ts ws : List ℕ} {c : Counts} {d : Doc} 
         grants = I .grants;
         labels = I .labels;
         tables = I .tables;
+        notes = I .notes;
         rows = no-row;
       }
 
@@ -116,6 +120,7 @@ module _ {text ps rs bs us cs gs ls ms ts ws : List ℕ} {c : Counts} {d : Doc} 
     grants = I .grants;
     labels = I .labels;
     tables = I .tables;
+    notes = I .notes;
     rows = no-row;
   }
 
@@ -131,6 +136,7 @@ module _ {text ps rs bs us cs gs ls ms ts ws : List ℕ} {c : Counts} {d : Doc} 
     grants = I .grants;
     labels = I .labels;
     tables = I .tables;
+    notes = I .notes;
     rows = no-row;
   }
 
@@ -146,6 +152,7 @@ module _ {text ps rs bs us cs gs ls ms ts ws : List ℕ} {c : Counts} {d : Doc} 
     grants = h;
     labels = I .labels;
     tables = I .tables;
+    notes = I .notes;
     rows = no-row;
   }
 
@@ -161,13 +168,14 @@ module _ {text ps rs bs us cs gs ls ms ts ws : List ℕ} {c : Counts} {d : Doc} 
     grants = I .grants;
     labels = h;
     tables = I .tables;
+    notes = I .notes;
     rows = no-row;
   }
 
-  pub grow-table : (t : Word) (s : Scheme Word) (xs : List ColumnForm) (ts′ : List ℕ) → Tables text ts′ (c .tables + 1) (add d (table t s xs) .policy .tables)
+  pub grow-table : (t : Word) (s : Scheme Word) (xs : List ColumnForm) (ts′ : List ℕ) → Tables text ts′ (c .tables + 1) (add d (table t s xs) .policy .tables) → Notes ts′ (c .tables + 1) (d .policy .notes)
       → Indexed text ps rs bs us cs gs ls ms ts′ ws (record { purposes = c .purposes; roles = c .roles; attributes = c .attributes; users = c .users; conds = c .conds; grants = c .grants; labels = c .labels; tables = c .tables + 1; rows = c .rows }) (add d (table t s xs))
   unfolding add define rowsGiven
-  grow-table t s xs ts′ h = record {
+  grow-table t s xs ts′ h noted = record {
     purposes = I .purposes;
     roles = I .roles;
     attributes = I .attributes;
@@ -176,6 +184,7 @@ module _ {text ps rs bs us cs gs ls ms ts ws : List ℕ} {c : Counts} {d : Doc} 
     grants = I .grants;
     labels = I .labels;
     tables = h;
+    notes = noted;
     rows = no-row;
   }
 
@@ -191,7 +200,25 @@ module _ {text ps rs bs us cs gs ls ms ts ws : List ℕ} {c : Counts} {d : Doc} 
     grants = I .grants;
     labels = I .labels;
     tables = I .tables;
+    notes = I .notes;
     rows = h;
+  }
+
+  -- what a line says of a table: there are as many of each kind as before
+  pub grow-note : (t : Word) (n : Note Word) (ts′ : List ℕ) → Tables text ts′ (c .tables) (d .policy .tables) → Notes ts′ (c .tables) (add d (note t n) .policy .notes)
+      → Indexed text ps rs bs us cs gs ls ms ts′ ws c (add d (note t n))
+  unfolding add define rowsGiven
+  grow-note t n ts′ h noted = record {
+    purposes = I .purposes;
+    roles = I .roles;
+    attributes = I .attributes;
+    users = users-same (d .policy) (define (d .policy) (note t n)) refl (I .users);
+    conds = conds-same (d .policy) (define (d .policy) (note t n)) refl (I .conds);
+    grants = I .grants;
+    labels = I .labels;
+    tables = h;
+    notes = noted;
+    rows = no-row;
   }
 
   -- other places hold the same rows
@@ -205,6 +232,7 @@ module _ {text ps rs bs us cs gs ls ms ts ws : List ℕ} {c : Counts} {d : Doc} 
     grants = I .grants;
     labels = I .labels;
     tables = I .tables;
+    notes = I .notes;
     rows = h;
   }
 
@@ -218,6 +246,7 @@ module _ {text ps rs bs us cs gs ls ms ts ws : List ℕ} {c : Counts} {d : Doc} 
     grants = I .grants;
     labels = I .labels;
     tables = I .tables;
+    notes = I .notes;
     rows = I .rows;
   }
 

@@ -5,8 +5,9 @@ use mathlib.Core.List.{List, [], _++_}
 use mathlib.Core.Path.{_≡_}
 use Rattle.document.specs.Check.{checkForm}
 use Rattle.document.specs.Meaning.{add}
-use Rattle.document.specs.Policy.{Column, Doc, Row, Table}
+use Rattle.document.specs.Policy.{Column, Doc, Noted, Row, Table}
 use Rattle.form.specs.Form.{Form}
+use Rattle.relations.specs.Notes.{Notes}
 use Rattle.relations.specs.Rows.{FillingRow, Rows}
 use Rattle.relations.specs.Tables.{Filling, Tables}
 use Rattle.text.specs.Numbers.{Value}
@@ -26,9 +27,10 @@ Passes d line f = checkForm d line f ≡ accepted (add d f)
 
 -- ---- for the functions that are not called from outside
 
--- the columns of table k stand in the workspace, r of them with these labels, and the tables before it stay
+-- the columns of table k stand in the workspace, r of them with these labels, and the tables before it and all notes stay
 pub record ColumnsFilled (text before after : List ℕ) (k r : ℕ) (cs : List Column) (ls : List ℕ) : Type 0 where
   pub kept : (ts : List Table) → Tables text before k ts → Tables text after k ts
+  pub noted : (ns : List Noted) → Notes before k ns → Notes after k ns
   pub filling : Filling text after k r cs ls
 
 -- the values and labels of row k stand in the workspace, c and m of them, and the rows before it stay

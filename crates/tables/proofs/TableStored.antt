@@ -9,11 +9,12 @@ use mathlib.Core.Path.{_≡_, ap, refl, subst, sym}
 use Rattle.document.specs.Bounds.{overBound}
 use Rattle.document.specs.Lookup.{labelOf}
 use Rattle.document.specs.Meaning.{add, columnMeant, define}
-use Rattle.document.specs.Policy.{Column, Doc, Table}
+use Rattle.document.specs.Policy.{Doc, Noted, Table}
 use Rattle.form.specs.Form.{ColumnForm, byTable, mapScheme}
 use Rattle.form.specs.Walks.{columnFormsAt, columnLabelsAt, labelledColumnsAt}
 use Rattle.relations.proofs.TableLaws.{tables-counted}
-use Rattle.relations.specs.Tables.{Filling, Tables, schemeBy}
+use Rattle.relations.specs.Notes.{Notes}
+use Rattle.relations.specs.Tables.{TableAdded, Tables, schemeBy}
 use Rattle.form.specs.TableWords.{columnWords, labelsColumns, schemeWords, tableLine}
 use Rattle.form.specs.declared.lines.Scheme as coded
 use Rattle.form.specs.declared.lines.Scheme.the-variants as code
@@ -22,7 +23,7 @@ use Rattle.lists.specs.Lists.{orZero}
 use Rattle.stepping.proofs.PassLaws.{Passed, passed}
 use Rattle.stepping.proofs.PlaceLaws.{word-placed}
 use Rattle.stepping.specs.Stored.{ColumnsFilled, LineAt, Passes}
-use Rattle.text.specs.Words.{Word, wordAt, wordOf}
+use Rattle.text.specs.Words.{Word, wordOf}
 
 -- what the line gives, by whether labels stand at the columns
 module _ (f : Word → ℕ) (line : List ℕ) (l cs : ℕ) where
@@ -62,14 +63,16 @@ module _ {text : List ℕ} {at : ℕ} {line : List ℕ} (p : LineAt text at line
   pub table-stored : {before mid after : List ℕ} {k width : ℕ} (label : ℕ) (fs : List ColumnForm) (ls : List ℕ) → Tables text before k (d .policy .tables) → Passes d line (tableLine line t s l cs)
       → columnWords line s cs ≡ fs → schemeBy s label ls ≡ mapScheme (λ w. orZero (labelOf (d .policy) w)) (schemeWords line s l cs)
       → (k < 8 → length fs ≤ 16 → ColumnsFilled text before mid k width (map columnMeant fs) ls)
-      → ((ts : List Table) (xs : List Column) (ys : List ℕ) → Tables text mid k ts → k < 8 → Filling text mid k width xs ys → Tables text after (k + 1) (ts ++ (record { name = wordAt text pos; scheme = schemeBy s label ys; columns = xs } ∷ [])))
-      → Tables text after (k + 1) (add d (tableLine line t s l cs) .policy .tables)
+      → TableAdded mid after k pos s label width
+      → Tables text after (k + 1) (add d (tableLine line t s l cs) .policy .tables) × ((ns : List Noted) → Notes before k ns → Notes after (k + 1) ns)
   unfolding add define overBound
   table-stored {before} {mid} {after} {k} {width} label fs ls N ok is scheme filled more =
       let q : Passed d (tableLine line t s l cs) = passed d line (tableLine line t s l cs) ok in
       let small : k < 8 = subst (λ n. n < 8) (tables-counted text before k (d .policy .tables) N) (leb-false 8 _ (neither-left _ _ (q .room))) in
       let few : length fs ≤ 16 = subst (λ xs. length xs ≤ 16) is (ltb-false 16 (length (columnWords line s cs)) (neither-right (leb 8 (length (d .policy .tables))) _ (q .room))) in
-      let done : ColumnsFilled text before mid k width (map columnMeant fs) ls = filled small few in
-      subst (λ (x : Table). Tables text after (k + 1) (d .policy .tables ++ (x ∷ [])))
-      (λ j. record { name = word-placed p t pos h e j; scheme = scheme j; columns = map columnMeant (sym is j) })
-      (more (d .policy .tables) (map columnMeant fs) ls (done .kept (d .policy .tables) N) small (done .filling))
+      let done : ColumnsFilled text before mid k width (map columnMeant fs) ls = filled small few in (
+        subst (λ (x : Table). Tables text after (k + 1) (d .policy .tables ++ (x ∷ [])))
+            (λ j. record { name = word-placed p t pos h e j; scheme = scheme j; columns = map columnMeant (sym is j) })
+            (more .grown text (d .policy .tables) (map columnMeant fs) ls (done .kept (d .policy .tables) N) small (done .filling)),
+        λ ns n. more .noted ns small (done .noted ns n),
+      )

@@ -5,7 +5,7 @@ use mathlib.Core.List.{List, map}
 use Rattle.document.specs.Check.{checkForm}
 use Rattle.document.specs.Lookup.{labelOf}
 use Rattle.document.specs.Meaning.{add, columnMeant}
-use Rattle.document.specs.Policy.{Doc, Policy}
+use Rattle.document.specs.Policy.{Doc, Noted, Policy}
 use Rattle.form.specs.Form.{label}
 use Rattle.form.specs.TableWords.{tableLine}
 use Rattle.form.specs.Walks.{columnLabelsAt, labelledColumnsAt, namesAt}
@@ -14,6 +14,7 @@ use Rattle.lists.specs.Lists.{orZero}
 use Rattle.principals.specs.Nodes.{Nodes}
 use Rattle.purpose.specs.Members.{limit}
 use Rattle.relations.specs.Labels.{Labels}
+use Rattle.relations.specs.Notes.{Notes}
 use Rattle.relations.specs.Tables.{Tables}
 use Rattle.stepping.specs.Follows.{Follows}
 use Rattle.stepping.specs.Judged.{Judges}
@@ -57,9 +58,9 @@ StoreLabelledColumnsPromise text labels labelsCount tables tables′ k at line c
     length (labelledColumnsAt line cs) ≤ 16 →
     ColumnsFilled text tables tables′ k r (map columnMeant (labelledColumnsAt line cs)) (map (λ w. orZero (labelOf d w)) (columnLabelsAt line cs))
 
--- table_storing::store_table: stores the table of the name at t of the line, behind k of them
+-- table_storing::store_table: stores the table of the name at t of the line, behind k of them, of which no note is
 abbrev pub StoreTablePromise : (text labels : List ℕ) (labelsCount : ℕ) (tables tables′ : List ℕ) (k at : ℕ) (line : List ℕ) (t : ℕ) (scheme : coded.Scheme) (l cs : ℕ) → Type 0
 StoreTablePromise text labels labelsCount tables tables′ k at line t scheme l cs =
     (d : Doc) (sets : List ℕ) → LineAt text at line → Labels text labels sets labelsCount (d .policy .labels) →
     Tables text tables k (d .policy .tables) → Passes d line (tableLine line t scheme l cs) → t ≤ length line →
-    Tables text tables′ (k + 1) (add d (tableLine line t scheme l cs) .policy .tables)
+    Tables text tables′ (k + 1) (add d (tableLine line t scheme l cs) .policy .tables) × ((ns : List Noted) → Notes tables k ns → Notes tables′ (k + 1) ns)

@@ -57,7 +57,7 @@ module _ (line : List ℕ) (e : ℕ) (h : closesAt line e ≡ true) where
 row-keyword : (line : List ℕ) → sameName (wordAt line 1) (ascii "row") ≡ true → keyword lineForms (from line 1) ≡ rowForm (from line 4)
 unfolding lineForms among isCalled sameName sameByte lower
 row-keyword line h =
-    rw (keyword-at lineForms line 1 4 (ap (λ n. 1 + n) (sym (sameName-length (wordAt line 1) (ascii "row") h))), other (ascii "purpose") refl, other (ascii "role") refl, other (ascii "attr") refl, other (ascii "user") refl, other (ascii "cond-role") refl, other (ascii "grant") refl, other (ascii "label") refl, other (ascii "table") refl, h)
+    rw (keyword-at lineForms line 1 4 (ap (λ n. 1 + n) (sym (sameName-length (wordAt line 1) (ascii "row") h))), other (ascii "purpose") refl, other (ascii "role") refl, other (ascii "attr") refl, other (ascii "user") refl, other (ascii "cond-role") refl, other (ascii "grant") refl, other (ascii "label") refl, other (ascii "table") refl, other (ascii "public") refl, h)
   where
     other : (n : Name) → sameName (ascii "row") n ≡ false → sameName (wordAt line 1) n ≡ false
     other n k = same-other (wordAt line 1) (ascii "row") n h k

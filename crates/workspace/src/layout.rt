@@ -37,7 +37,8 @@ pub const LABELS: usize = 64;
 
 pub const SET_WORDS: usize = 2 * LABELS * WORDS;
 
-// Tables: their names from 0, then their schemes, labels and numbers of columns, and `COLUMNS` places of each kind for a table.
+// Tables: their names from 0, then their schemes, labels and numbers of columns, `COLUMNS` places of each kind for a table, and what
+// later lines say of them.
 pub const TABLES: usize = 8;
 
 pub const COLUMNS: usize = 16;
@@ -54,7 +55,9 @@ pub const COLUMN_KINDS: usize = COLUMN_NAMES + COLUMNS * TABLES;
 
 pub const COLUMN_LABELS: usize = COLUMN_KINDS + COLUMNS * TABLES;
 
-pub const TABLE_CELLS: usize = COLUMN_LABELS + COLUMNS * TABLES;
+pub const TABLE_NOTES: usize = COLUMN_LABELS + COLUMNS * TABLES;
+
+pub const TABLE_CELLS: usize = TABLE_NOTES + TABLES;
 
 // Rows: their tables from 0, then their numbers of values and of labels, and for each row `COLUMNS` places for values and
 // `LABEL_ROOM` for labels.

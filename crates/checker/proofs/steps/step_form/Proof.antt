@@ -78,6 +78,12 @@ enum-known-form-11 c = search needs
 step-row-requires : tie.Need-step-row-requires
 step-row-requires c κs = tt
 
+enum-known-form-12 : tie.Need-enum-known-form-12
+enum-known-form-12 c = search needs
+
+step-public-requires : tie.Need-step-public-requires
+step-public-requires c κs = tt
+
 returns : tie.Need-returns
 unfolding lineAt
 returns c =
@@ -128,6 +134,10 @@ returns-12 : tie.Need-returns-12
 unfolding lineAt Within
 returns-12 c = λ d a I U. follows-as (sym (line-form d (c .before .before .before .before .before .before .before .before .before .before .args .line .now) _ (c .before .before .before .before .before .before .before .read-line .ensures .is ∙ ap (lineAt (c .before .before .before .before .before .before .before .before .before .before .args .line .now)) (c .before .before .before .before .before .form11 .given .1)))) (c .step-row .ensures d _ _ _ _ _ _ _ a (subst (Within (c .before .before .before .before .before .before .before .before .before .before .args .line .now)) (c .before .before .before .before .before .form11 .given .1) (c .before .before .before .before .before .before .before .read-line .ensures .within)) I)
 
+returns-13 : tie.Need-returns-13
+unfolding lineAt Within
+returns-13 c = λ d a I U. follows-as (sym (line-form d (c .before .before .before .before .before .before .before .before .args .line .now) _ (c .before .before .before .before .before .read-line .ensures .is ∙ ap (lineAt (c .before .before .before .before .before .before .before .before .args .line .now)) (c .before .before .before .form12 .given .1)))) (c .step-public .ensures d _ _ _ _ _ _ _ _ _ (subst (Within (c .before .before .before .before .before .before .before .before .args .line .now)) (c .before .before .before .form12 .given .1) (c .before .before .before .before .before .read-line .ensures .within)) I)
+
 pub step-form-spec : {M : Type 1} → statement M
 step-form-spec =
     tie.close
@@ -156,6 +166,8 @@ step-form-spec =
     step-table-requires
     enum-known-form-11
     step-row-requires
+    enum-known-form-12
+    step-public-requires
     returns
     returns-2
     returns-3
@@ -167,4 +179,5 @@ step-form-spec =
     returns-9
     returns-10
     returns-11
-    returns-12)
+    returns-12
+    returns-13)

@@ -61,11 +61,17 @@ is-table c = sym (c .before .is-word8 .ensures) ∙ c .if8 .taken
 not-table : (c : tie.Else8) → sameName (wordAt (c .before .before .before .before .before .before .before .before .before .before .before .before .before .before .before .before .before .before .before .before .before .before .before .before .before .before .args .s .now) (c .before .before .before .before .before .before .before .before .before .before .before .before .before .before .before .before .before .before .before .before .before .before .before .before .before .before .args .at)) (ascii "table") ≡ false
 not-table c = sym (c .before .is-word8 .ensures) ∙ c .if8 .left
 
-is-row : (c : tie.Then9) → sameName (wordAt (c .before .before .before .before .before .before .before .before .before .before .before .before .before .before .before .before .before .before .before .before .before .before .before .before .before .before .before .before .before .args .s .now) (c .before .before .before .before .before .before .before .before .before .before .before .before .before .before .before .before .before .before .before .before .before .before .before .before .before .before .before .before .before .args .at)) (ascii "row") ≡ true
-is-row c = sym (c .before .is-word9 .ensures) ∙ c .if9 .taken
+is-public : (c : tie.Then9) → sameName (wordAt (c .before .before .before .before .before .before .before .before .before .before .before .before .before .before .before .before .before .before .before .before .before .before .before .before .before .before .before .before .before .args .s .now) (c .before .before .before .before .before .before .before .before .before .before .before .before .before .before .before .before .before .before .before .before .before .before .before .before .before .before .before .before .before .args .at)) (ascii "public") ≡ true
+is-public c = sym (c .before .is-word9 .ensures) ∙ c .if9 .taken
 
-not-row : (c : tie.Else9) → sameName (wordAt (c .before .before .before .before .before .before .before .before .before .before .before .before .before .before .before .before .before .before .before .before .before .before .before .before .before .before .before .before .before .args .s .now) (c .before .before .before .before .before .before .before .before .before .before .before .before .before .before .before .before .before .before .before .before .before .before .before .before .before .before .before .before .before .args .at)) (ascii "row") ≡ false
-not-row c = sym (c .before .is-word9 .ensures) ∙ c .if9 .left
+not-public : (c : tie.Else9) → sameName (wordAt (c .before .before .before .before .before .before .before .before .before .before .before .before .before .before .before .before .before .before .before .before .before .before .before .before .before .before .before .before .before .args .s .now) (c .before .before .before .before .before .before .before .before .before .before .before .before .before .before .before .before .before .before .before .before .before .before .before .before .before .before .before .before .before .args .at)) (ascii "public") ≡ false
+not-public c = sym (c .before .is-word9 .ensures) ∙ c .if9 .left
+
+is-row : (c : tie.Then10) → sameName (wordAt (c .before .before .before .before .before .before .before .before .before .before .before .before .before .before .before .before .before .before .before .before .before .before .before .before .before .before .before .before .before .before .before .before .args .s .now) (c .before .before .before .before .before .before .before .before .before .before .before .before .before .before .before .before .before .before .before .before .before .before .before .before .before .before .before .before .before .before .before .before .args .at)) (ascii "row") ≡ true
+is-row c = sym (c .before .is-word10 .ensures) ∙ c .if10 .taken
+
+not-row : (c : tie.Else10) → sameName (wordAt (c .before .before .before .before .before .before .before .before .before .before .before .before .before .before .before .before .before .before .before .before .before .before .before .before .before .before .before .before .before .before .before .before .args .s .now) (c .before .before .before .before .before .before .before .before .before .before .before .before .before .before .before .before .before .before .before .before .before .before .before .before .before .before .before .before .before .before .before .before .args .at)) (ascii "row") ≡ false
+not-row c = sym (c .before .is-word10 .ensures) ∙ c .if10 .left
 
 word-end-requires : tie.Need-word-end-requires
 word-end-requires c κs = search needs
@@ -180,16 +186,29 @@ slice-aggregate-is-word-9 c = search needs
 is-word-requires-9 : tie.Need-is-word-requires-9
 is-word-requires-9 c κs = search needs
 
-row-body-requires : tie.Need-row-body-requires
-row-body-requires c κs = search needs
+public-body-requires : tie.Need-public-body-requires
+public-body-requires c κs = search needs
 
 returns-9 : tie.Need-returns-9
 unfolding lineForms among isCalled
-returns-9 c = record { is = rw (keyword-at lineForms (c .before .before .before .before .before .before .before .before .before .before .before .before .before .before .before .before .before .before .before .before .before .before .before .before .before .before .before .before .before .before .args .s .now) (c .before .before .before .before .before .before .before .before .before .before .before .before .before .before .before .before .before .before .before .before .before .before .before .before .before .before .before .before .before .before .args .at) (c .before .before .before .before .before .before .before .before .before .before .before .before .before .before .before .before .before .before .before .before .before .before .before .before .before .before .before .before .word-end .result) (c .before .before .before .before .before .before .before .before .before .before .before .before .before .before .before .before .before .before .before .before .before .before .before .before .before .before .before .before .word-end .ensures), not-purpose (c .before .before .before .before .before .before .before .before .before .before .before .before .before .before .before .before .before .before .before .before .before .before .before .before .before), not-role (c .before .before .before .before .before .before .before .before .before .before .before .before .before .before .before .before .before .before .before .before .before .before), not-attr (c .before .before .before .before .before .before .before .before .before .before .before .before .before .before .before .before .before .before .before), not-user (c .before .before .before .before .before .before .before .before .before .before .before .before .before .before .before .before), not-cond-role (c .before .before .before .before .before .before .before .before .before .before .before .before .before), not-grant (c .before .before .before .before .before .before .before .before .before .before), not-label (c .before .before .before .before .before .before .before), not-table (c .before .before .before .before), is-row (c .before)) (c .row-body .ensures .is); within = c .row-body .ensures .within }
+returns-9 c = record { is = rw (keyword-at lineForms (c .before .before .before .before .before .before .before .before .before .before .before .before .before .before .before .before .before .before .before .before .before .before .before .before .before .before .before .before .before .before .args .s .now) (c .before .before .before .before .before .before .before .before .before .before .before .before .before .before .before .before .before .before .before .before .before .before .before .before .before .before .before .before .before .before .args .at) (c .before .before .before .before .before .before .before .before .before .before .before .before .before .before .before .before .before .before .before .before .before .before .before .before .before .before .before .before .word-end .result) (c .before .before .before .before .before .before .before .before .before .before .before .before .before .before .before .before .before .before .before .before .before .before .before .before .before .before .before .before .word-end .ensures), not-purpose (c .before .before .before .before .before .before .before .before .before .before .before .before .before .before .before .before .before .before .before .before .before .before .before .before .before), not-role (c .before .before .before .before .before .before .before .before .before .before .before .before .before .before .before .before .before .before .before .before .before .before), not-attr (c .before .before .before .before .before .before .before .before .before .before .before .before .before .before .before .before .before .before .before), not-user (c .before .before .before .before .before .before .before .before .before .before .before .before .before .before .before .before), not-cond-role (c .before .before .before .before .before .before .before .before .before .before .before .before .before), not-grant (c .before .before .before .before .before .before .before .before .before .before), not-label (c .before .before .before .before .before .before .before), not-table (c .before .before .before .before), is-public (c .before)) (c .public-body .ensures .is); within = c .public-body .ensures .within }
+
+slice-aggregate-is-word-10 : tie.Need-slice-aggregate-is-word-10
+slice-aggregate-is-word-10 c = search needs
+
+is-word-requires-10 : tie.Need-is-word-requires-10
+is-word-requires-10 c κs = search needs
+
+row-body-requires : tie.Need-row-body-requires
+row-body-requires c κs = search needs
 
 returns-10 : tie.Need-returns-10
+unfolding lineForms among isCalled
+returns-10 c = record { is = rw (keyword-at lineForms (c .before .before .before .before .before .before .before .before .before .before .before .before .before .before .before .before .before .before .before .before .before .before .before .before .before .before .before .before .before .before .before .before .before .args .s .now) (c .before .before .before .before .before .before .before .before .before .before .before .before .before .before .before .before .before .before .before .before .before .before .before .before .before .before .before .before .before .before .before .before .before .args .at) (c .before .before .before .before .before .before .before .before .before .before .before .before .before .before .before .before .before .before .before .before .before .before .before .before .before .before .before .before .before .before .before .word-end .result) (c .before .before .before .before .before .before .before .before .before .before .before .before .before .before .before .before .before .before .before .before .before .before .before .before .before .before .before .before .before .before .before .word-end .ensures), not-purpose (c .before .before .before .before .before .before .before .before .before .before .before .before .before .before .before .before .before .before .before .before .before .before .before .before .before .before .before .before), not-role (c .before .before .before .before .before .before .before .before .before .before .before .before .before .before .before .before .before .before .before .before .before .before .before .before .before), not-attr (c .before .before .before .before .before .before .before .before .before .before .before .before .before .before .before .before .before .before .before .before .before .before), not-user (c .before .before .before .before .before .before .before .before .before .before .before .before .before .before .before .before .before .before .before), not-cond-role (c .before .before .before .before .before .before .before .before .before .before .before .before .before .before .before .before), not-grant (c .before .before .before .before .before .before .before .before .before .before .before .before .before), not-label (c .before .before .before .before .before .before .before .before .before .before), not-table (c .before .before .before .before .before .before .before), not-public (c .before .before .before .before), is-row (c .before)) (c .row-body .ensures .is); within = c .row-body .ensures .within }
+
+returns-11 : tie.Need-returns-11
 unfolding lineForms among isCalled bodyAt BodyWithin
-returns-10 c = record { is = rw (keyword-at lineForms (c .before .before .before .before .before .before .before .before .before .before .before .before .before .before .before .before .before .before .before .before .before .before .before .before .before .before .before .before .before .args .s .now) (c .before .before .before .before .before .before .before .before .before .before .before .before .before .before .before .before .before .before .before .before .before .before .before .before .before .before .before .before .before .args .at) (c .before .before .before .before .before .before .before .before .before .before .before .before .before .before .before .before .before .before .before .before .before .before .before .before .before .before .before .word-end .result) (c .before .before .before .before .before .before .before .before .before .before .before .before .before .before .before .before .before .before .before .before .before .before .before .before .before .before .before .word-end .ensures), not-purpose (c .before .before .before .before .before .before .before .before .before .before .before .before .before .before .before .before .before .before .before .before .before .before .before .before), not-role (c .before .before .before .before .before .before .before .before .before .before .before .before .before .before .before .before .before .before .before .before .before), not-attr (c .before .before .before .before .before .before .before .before .before .before .before .before .before .before .before .before .before .before), not-user (c .before .before .before .before .before .before .before .before .before .before .before .before .before .before .before), not-cond-role (c .before .before .before .before .before .before .before .before .before .before .before .before), not-grant (c .before .before .before .before .before .before .before .before .before), not-label (c .before .before .before .before .before .before), not-table (c .before .before .before), not-row c); within = tt }
+returns-11 c = record { is = rw (keyword-at lineForms (c .before .before .before .before .before .before .before .before .before .before .before .before .before .before .before .before .before .before .before .before .before .before .before .before .before .before .before .before .before .before .before .before .args .s .now) (c .before .before .before .before .before .before .before .before .before .before .before .before .before .before .before .before .before .before .before .before .before .before .before .before .before .before .before .before .before .before .before .before .args .at) (c .before .before .before .before .before .before .before .before .before .before .before .before .before .before .before .before .before .before .before .before .before .before .before .before .before .before .before .before .before .before .word-end .result) (c .before .before .before .before .before .before .before .before .before .before .before .before .before .before .before .before .before .before .before .before .before .before .before .before .before .before .before .before .before .before .word-end .ensures), not-purpose (c .before .before .before .before .before .before .before .before .before .before .before .before .before .before .before .before .before .before .before .before .before .before .before .before .before .before .before), not-role (c .before .before .before .before .before .before .before .before .before .before .before .before .before .before .before .before .before .before .before .before .before .before .before .before), not-attr (c .before .before .before .before .before .before .before .before .before .before .before .before .before .before .before .before .before .before .before .before .before), not-user (c .before .before .before .before .before .before .before .before .before .before .before .before .before .before .before .before .before .before), not-cond-role (c .before .before .before .before .before .before .before .before .before .before .before .before .before .before .before), not-grant (c .before .before .before .before .before .before .before .before .before .before .before .before), not-label (c .before .before .before .before .before .before .before .before .before), not-table (c .before .before .before .before .before .before), not-public (c .before .before .before), not-row c); within = tt }
 
 pub read-body-spec : {M : Type 1} → statement M
 read-body-spec =
@@ -230,6 +249,10 @@ read-body-spec =
     returns-8
     slice-aggregate-is-word-9
     is-word-requires-9
-    row-body-requires
+    public-body-requires
     returns-9
-    returns-10)
+    slice-aggregate-is-word-10
+    is-word-requires-10
+    row-body-requires
+    returns-10
+    returns-11)

@@ -4,8 +4,7 @@ use lib.Seq.{lt-length-set}
 use mathlib.Core.Path.{_≡_}
 use lib.ListN.{length, set}
 use native.Mathlib.Omega.{arith}
-use Rattle.relations.specs.Tables.{schemeBy}
-use Rattle.relations.proofs.TableLaws.{table-added}
+use Rattle.relations.proofs.TableLaws.{added, not-added}
 use borrow.Author.Needs.{needs}
 use Rattle.relations.proofs.tables.add_table.Statement.{statement}
 use Rattle.relations.proofs.tables.add_table.Tie as tie
@@ -28,7 +27,7 @@ mul-cells-2 c = search needs
 slice-write-cells-2 : tie.Need-slice-write-cells-2
 slice-write-cells-2 c =
     let a = c .before .before .before .args in
-    let l : length (c .before .before .before .args .ws .now) ≡ 416 = search needs in
+    let l : length (c .before .before .before .args .ws .now) ≡ 424 = search needs in
     lt-length-set (a .ws .now) (a .k) (a .pos) (omega arith)
 
 add-cells-2 : tie.Need-add-cells-2
@@ -40,7 +39,7 @@ mul-cells-3 c = search needs
 slice-write-cells-3 : tie.Need-slice-write-cells-3
 slice-write-cells-3 c =
     let a = c .before .before .before .args in
-    let l : length (c .before .before .before .args .ws .now) ≡ 416 = search needs in
+    let l : length (c .before .before .before .args .ws .now) ≡ 424 = search needs in
     lt-length-set (set (a .ws .now) (a .k) (a .pos)) (8 + a .k) (c .before .scheme-cell .result) (lt-length-set (a .ws .now) (a .k) (a .pos) (omega arith))
 
 add-cells-3 : tie.Need-add-cells-3
@@ -52,18 +51,34 @@ mul-cells-4 c = search needs
 slice-write-cells-4 : tie.Need-slice-write-cells-4
 slice-write-cells-4 c =
     let a = c .before .before .before .args in
-    let l : length (c .before .before .before .args .ws .now) ≡ 416 = search needs in
+    let l : length (c .before .before .before .args .ws .now) ≡ 424 = search needs in
     let w = set (a .ws .now) (a .k) (a .pos) in
     lt-length-set (set w (8 + a .k) (c .before .scheme-cell .result)) (16 + a .k) (a .label) (lt-length-set w (8 + a .k) (c .before .scheme-cell .result) (lt-length-set (a .ws .now) (a .k) (a .pos) (omega arith)))
 
-returns : tie.Need-returns
-returns c text ts cs ls h b f =
+add-cells-4 : tie.Need-add-cells-4
+add-cells-4 c = search needs
+
+mul-cells-5 : tie.Need-mul-cells-5
+mul-cells-5 c = search needs
+
+slice-write-cells-5 : tie.Need-slice-write-cells-5
+slice-write-cells-5 c =
     let a = c .before .before .before .args in
-    let l : length (c .before .before .before .args .ws .now) ≡ 416 = search needs in
-    table-added (a .ws .now) (a .k) (a .pos) (c .before .scheme-cell .result) (a .label) (a .width) l b text (schemeBy (a .scheme) (a .label) ls) ts cs ls (c .before .scheme-cell .ensures (a .label) ls) h f
+    let l : length (c .before .before .before .args .ws .now) ≡ 424 = search needs in
+    let w = set (a .ws .now) (a .k) (a .pos) in
+    let v = set w (8 + a .k) (c .before .scheme-cell .result) in
+    lt-length-set (set v (16 + a .k) (a .label)) (24 + a .k) (a .width) (lt-length-set v (16 + a .k) (a .label) (lt-length-set w (8 + a .k) (c .before .scheme-cell .result) (lt-length-set (a .ws .now) (a .k) (a .pos) (omega arith))))
+
+returns : tie.Need-returns
+returns c =
+    let a = c .before .before .before .args in
+    let l : length (c .before .before .before .args .ws .now) ≡ 424 = search needs in
+    added (a .ws .now) (a .k) (a .pos) (c .before .scheme-cell .result) (a .label) (a .width) l (c .before .before .if1 .taken) (a .scheme) (c .before .scheme-cell .ensures (a .label))
 
 returns-2 : tie.Need-returns-2
-returns-2 c text ts cs ls h b f = absurd (omega (arith, b, c .if1 .left))
+returns-2 c =
+    let a = c .before .args in
+    not-added (a .ws .now) (a .k) (a .pos) (a .scheme) (a .label) (a .width) (λ l. omega (arith, l, c .if1 .left))
 
 pub add-table-spec : {M : Type 1} → statement M
 add-table-spec =
@@ -81,5 +96,8 @@ add-table-spec =
     add-cells-3
     mul-cells-4
     slice-write-cells-4
+    add-cells-4
+    mul-cells-5
+    slice-write-cells-5
     returns
     returns-2)

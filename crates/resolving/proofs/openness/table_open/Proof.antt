@@ -1,6 +1,7 @@
 -- `resolving::openness::table_open` meets its contract. Assumes nothing.
 use mathlib.Core.Option.{some}
 use mathlib.Core.Path.{_∙_, ap, sym}
+use Rattle.document.specs.Lookup.{settled}
 use Rattle.document.specs.Open.{labelOpen, tableOpen}
 use Rattle.relations.proofs.TableLaws.{table-inside}
 use Rattle.relations.specs.Tables.{schemeBy}
@@ -15,6 +16,9 @@ table-scheme-requires c κs = search needs
 
 enum-told : tie.Need-enum-told
 enum-told c = search needs
+
+is-public-requires : tie.Need-is-public-requires
+is-public-requires c κs = search needs
 
 enum-told-2 : tie.Need-enum-told-2
 enum-told-2 c = search needs
@@ -35,24 +39,24 @@ enum-told-5 : tie.Need-enum-told-5
 enum-told-5 c = search needs
 
 returns : tie.Need-returns
-unfolding tableOpen schemeBy
-returns c d text k p h l o = sym (table-by text (c .before .before .before .before .args .tables .now) k (c .before .before .before .before .args .t) d p h l (c .before .before .table-scheme .result) code.Unlabelled (c .before .before .table-scheme .ensures) (c .enum-told .given .1))
+unfolding tableOpen schemeBy settled
+returns c d text k p h m l o = c .is-public .ensures (table-inside text (c .before .before .before .before .before .args .tables .now) k (c .before .before .before .before .before .args .t) d h l) ∙ m .said (c .before .before .before .before .before .args .t) l ∙ sym (table-by text (c .before .before .before .before .before .args .tables .now) k (c .before .before .before .before .before .args .t) d p h l (c .before .before .before .table-scheme .result) code.Unlabelled (c .before .before .before .table-scheme .ensures) (c .before .enum-told .given .1))
 
 returns-2 : tie.Need-returns-2
-unfolding tableOpen schemeBy
-returns-2 c d text k p h l o = c .opened-at .ensures ∙ o .is (c .before .table-label .result) ∙ ap (λ x. labelOpen d p (some x)) (c .before .table-label .ensures (table-inside text (c .before .before .before .before .before .before .args .tables .now) k (c .before .before .before .before .before .before .args .t) d h l)) ∙ sym (table-by text (c .before .before .before .before .before .before .args .tables .now) k (c .before .before .before .before .before .before .args .t) d p h l (c .before .before .before .before .table-scheme .result) code.ByTable (c .before .before .before .before .table-scheme .ensures) (c .before .before .enum-told2 .given .1))
+unfolding tableOpen schemeBy settled
+returns-2 c d text k p h m l o = c .opened-at .ensures ∙ o .is (c .before .table-label .result) ∙ ap (λ x. labelOpen d p (some x)) (c .before .table-label .ensures (table-inside text (c .before .before .before .before .before .before .args .tables .now) k (c .before .before .before .before .before .before .args .t) d h l)) ∙ sym (table-by text (c .before .before .before .before .before .before .args .tables .now) k (c .before .before .before .before .before .before .args .t) d p h l (c .before .before .before .before .table-scheme .result) code.ByTable (c .before .before .before .before .table-scheme .ensures) (c .before .before .enum-told2 .given .1))
 
 returns-3 : tie.Need-returns-3
-unfolding tableOpen schemeBy
-returns-3 c d text k p h l o = sym (table-by text (c .before .before .before .before .args .tables .now) k (c .before .before .before .before .args .t) d p h l (c .before .before .table-scheme .result) code.ByColumn (c .before .before .table-scheme .ensures) (c .enum-told3 .given .1))
+unfolding tableOpen schemeBy settled
+returns-3 c d text k p h m l o = sym (table-by text (c .before .before .before .before .args .tables .now) k (c .before .before .before .before .args .t) d p h l (c .before .before .table-scheme .result) code.ByColumn (c .before .before .table-scheme .ensures) (c .enum-told3 .given .1))
 
 returns-4 : tie.Need-returns-4
-unfolding tableOpen schemeBy
-returns-4 c d text k p h l o = sym (table-by text (c .before .before .before .before .args .tables .now) k (c .before .before .before .before .args .t) d p h l (c .before .before .table-scheme .result) code.ByRow (c .before .before .table-scheme .ensures) (c .enum-told4 .given .1))
+unfolding tableOpen schemeBy settled
+returns-4 c d text k p h m l o = sym (table-by text (c .before .before .before .before .args .tables .now) k (c .before .before .before .before .args .t) d p h l (c .before .before .table-scheme .result) code.ByRow (c .before .before .table-scheme .ensures) (c .enum-told4 .given .1))
 
 returns-5 : tie.Need-returns-5
-unfolding tableOpen schemeBy
-returns-5 c d text k p h l o = sym (table-by text (c .before .before .before .before .args .tables .now) k (c .before .before .before .before .args .t) d p h l (c .before .before .table-scheme .result) code.ByCell (c .before .before .table-scheme .ensures) (c .enum-told5 .given .1))
+unfolding tableOpen schemeBy settled
+returns-5 c d text k p h m l o = sym (table-by text (c .before .before .before .before .args .tables .now) k (c .before .before .before .before .args .t) d p h l (c .before .before .table-scheme .result) code.ByCell (c .before .before .table-scheme .ensures) (c .enum-told5 .given .1))
 
 pub table-open-spec : {M : Type 1} → statement M
 table-open-spec =
@@ -60,6 +64,7 @@ table-open-spec =
     (tie.spec
     table-scheme-requires
     enum-told
+    is-public-requires
     enum-told-2
     table-label-requires
     opened-at-requires

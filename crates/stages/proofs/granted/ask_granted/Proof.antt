@@ -100,7 +100,7 @@ returns-4 c d held =
     let columns = resolves-known (a .q) table placed resolves (c .before .before .before .before .before .before .before .before .before .before .before .before .before .before .before .before .enum-told2 .given .1) in
     let read = c .before .before .before .before .before .before .before .before .before .before .before .read-tests .ensures (a .text .now) (d .policy) (comparable (a .q) (held .query) table columns (placed .tests) (c .before .before .before .before .before .before .before .before .before .before .before .before .before .before .before .sought-in .ensures) (held .tables)) in
     let types = types-judged (a .q) (held .query) table columns (placed .tests) (c .before .before .before .before .before .before .before .before .before .mistyped-test .result) (c .before .before .before .before .before .before .before .before .before .before .before .before .before .before .before .sought-in .ensures) read (c .before .before .before .before .before .before .before .before .before .mistyped-test .ensures (a .query .now)) in
-    let closed = parts-judged (a .q) table placed resolves (c .before .before .before .before .before .before .before .before .before .before .before .before .before .before .before .before .enum-told2 .given .1) (c .before .before .before .before .closed-part .result) (held .opened) (c .before .before .before .before .closed-part .ensures (d .policy) (a .text .now) _ _ (held .tables) (table .inside)) in
+    let closed = parts-judged (a .q) table placed resolves (c .before .before .before .before .before .before .before .before .before .before .before .before .before .before .before .before .enum-told2 .given .1) (c .before .before .before .before .closed-part .result) (held .opened) (c .before .before .before .before .closed-part .ensures (d .policy) (a .text .now) _ _ (held .tables) (held .notes) (table .inside)) in
     gives-refused (known-passes d _ _ (a .query .now) (c .before .before .before .before .before .before .before .before .before .before .before .before .before .before .before .before .enum-told2 .given .1) (resolves-unknown (a .q) table placed resolves) ∙ typed-passes d _ _ (a .query .now) (c .before .before .before .before .before .before .before .enum-told3 .given .1) types ∙ open-refused d _ _ (a .query .now) (c .before .before .closed .given .1) closed) (c .refused-at4 .ensures)
 
 enum-told-4 : tie.Need-enum-told-4
@@ -122,7 +122,7 @@ returns-5 c d held =
     let columns = resolves-known (a .q) table placed resolves (c .before .before .before .before .before .before .before .before .before .before .before .before .before .before .before .before .before .before .before .before .enum-told2 .given .1) in
     let read = c .before .before .before .before .before .before .before .before .before .before .before .before .before .before .before .read-tests .ensures (a .text .now) (d .policy) (comparable (a .q) (held .query) table columns (placed .tests) (c .before .before .before .before .before .before .before .before .before .before .before .before .before .before .before .before .before .before .before .sought-in .ensures) (held .tables)) in
     let types = types-judged (a .q) (held .query) table columns (placed .tests) (c .before .before .before .before .before .before .before .before .before .before .before .before .before .mistyped-test .result) (c .before .before .before .before .before .before .before .before .before .before .before .before .before .before .before .before .before .before .before .sought-in .ensures) read (c .before .before .before .before .before .before .before .before .before .before .before .before .before .mistyped-test .ensures (a .query .now)) in
-    let closed = parts-judged (a .q) table placed resolves (c .before .before .before .before .before .before .before .before .before .before .before .before .before .before .before .before .before .before .before .before .enum-told2 .given .1) (c .before .before .before .before .before .before .before .before .closed-part .result) (held .opened) (c .before .before .before .before .before .before .before .before .closed-part .ensures (d .policy) (a .text .now) _ _ (held .tables) (table .inside)) in
+    let closed = parts-judged (a .q) table placed resolves (c .before .before .before .before .before .before .before .before .before .before .before .before .before .before .before .before .before .before .before .before .enum-told2 .given .1) (c .before .before .before .before .before .before .before .before .closed-part .result) (held .opened) (c .before .before .before .before .before .before .before .before .closed-part .ensures (d .policy) (a .text .now) _ _ (held .tables) (held .notes) (table .inside)) in
     gives-same (known-passes d _ _ (a .query .now) (c .before .before .before .before .before .before .before .before .before .before .before .before .before .before .before .before .before .before .before .before .enum-told2 .given .1) (resolves-unknown (a .q) table placed resolves) ∙ typed-passes d _ _ (a .query .now) (c .before .before .before .before .before .before .before .before .before .before .before .enum-told3 .given .1) types ∙ open-passes d _ _ (a .query .now) (c .before .before .before .before .before .before .enum-told4 .given .1) closed)
     (c .before .before .ask-rows .ensures d (formAt (a .query .now) (a .q)) (prepared (a .q) held table columns (placed .tests) (c .before .before .before .before .before .before .before .before .before .before .before .before .before .before .before .before .before .before .before .sought-in .ensures) read))
 

@@ -27,7 +27,8 @@ add-next c = omega (arith, has-room (c .before .before .before .before .table-fa
 returns-2 : tie.Need-returns-2
 returns-2 c = λ d ps′ rs′ bs′ us′ cs′ gs′ ms′ ws′ a w I.
     let p = passes (c .before .before .before .before .table-fault .ensures .judges) (c .before .before .enum-told .given .1) d ((ms′, I .labels), I .tables) in
-    follows-goes (record { doc = _; is = p; held = grow-table I _ _ _ _ (c .store-table .ensures d ms′ a (I .labels) (I .tables) p (w .0)) })
+    let stored = c .store-table .ensures d ms′ a (I .labels) (I .tables) p (w .0) in
+    follows-goes (record { doc = _; is = p; held = grow-table I _ _ _ _ (stored .0) (stored .1 _ (I .notes)) })
 
 pub step-table-spec : {M : Type 1} → statement M
 step-table-spec =

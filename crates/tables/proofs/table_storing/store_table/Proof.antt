@@ -33,7 +33,7 @@ returns c d sets l L N ok h =
     (labelled-columns (λ w. orZero (labelOf (d .policy) w)) (a .line .now) (a .l) (a .cs) (a .scheme) (sym (c .before .before .before .before .before .labels-columns .ensures) ∙ c .before .before .before .before .if1 .taken))
     (labelled-scheme (λ w. orZero (labelOf (d .policy) w)) (a .line .now) (a .l) (a .cs) (a .scheme) _ (sym (c .before .before .before .before .before .labels-columns .ensures) ∙ c .before .before .before .before .if1 .taken))
     (λ small few. c .before .before .store-labelled-columns .ensures (d .policy) sets l L small few)
-    (c .add-table .ensures (a .text .now))
+    (c .add-table .ensures)
 
 store-columns-requires : tie.Need-store-columns-requires
 store-columns-requires c κs = search needs
@@ -49,7 +49,7 @@ returns-2 c d sets l L N ok h =
     (plain-columns (λ w. orZero (labelOf (d .policy) w)) (a .line .now) (a .l) (a .cs) (a .scheme) (sym (c .before .before .before .before .before .labels-columns .ensures) ∙ c .before .before .before .before .if1 .left))
     (plain-scheme (λ w. orZero (labelOf (d .policy) w)) (a .line .now) (a .l) (a .cs) (a .scheme) _ _ (c .before .before .before .before .before .before .before .number .ensures ∙ ap orZero (c .before .before .before .before .before .before .before .before .find-label .ensures .0 sets _ L)) (sym (c .before .before .before .before .before .labels-columns .ensures) ∙ c .before .before .before .before .if1 .left))
     (λ small few. c .before .before .store-columns .ensures l small few)
-    (c .add-table2 .ensures (a .text .now))
+    (c .add-table2 .ensures)
 
 pub store-table-spec : {M : Type 1} → statement M
 store-table-spec =

@@ -1,0 +1,3 @@
+-- Laws of these lines. Assumes nothing.
+pub mod NoteFaults
+pub mod NoteStored
