@@ -118,9 +118,11 @@ fn unknown_columns(policy: &Policy, table: usize, named: &[Word]) -> Vec<Span> {
     named.iter().filter(|word| column_place(policy, table, word.text).is_none()).map(|word| word.span).collect()
 }
 
-/// 01: "table label closed, or a named column's label closed, refuses the query".
+/// 01: "table label closed, or a named column's label closed, refuses the query"; 02, Q-2: "`none` is closed to every purpose,
+/// and its queries are refused with 17 at the table name", unless the table is public.
 fn closed_parts(policy: &Policy, query: &Query, table: usize, named: &[Word], purpose: usize) -> Vec<Span> {
     match policy.tables[table].labelling {
+        Labelling::None if !policy.tables[table].public => vec![query.table.span],
         Labelling::Table(label) if !label_open(policy, label, purpose) => vec![query.table.span],
         Labelling::Column => named
             .iter()

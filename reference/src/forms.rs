@@ -1,4 +1,4 @@
-//! 01, "Document forms": items to one of the nine forms, by shape alone.
+//! 01, "Document forms": items to one of the nine forms, or the `public` line of 02, Q-2, by shape alone.
 
 use crate::condition::{read_condition, Condition};
 use crate::text::{read_form, Item, Kind, Name, Span};
@@ -78,6 +78,7 @@ pub enum Form<'a> {
     Label { name: Word<'a>, allow: Vec<Word<'a>>, deny: Vec<Word<'a>> },
     Table { name: Word<'a>, scheme: Scheme<'a>, columns: Vec<ColumnForm<'a>> },
     Row { table: Word<'a>, items: Vec<RowItem<'a>> },
+    Public { table: Word<'a> },
 }
 
 /// A name item.
@@ -139,6 +140,7 @@ pub fn read_line(line: &[u8], base: usize) -> Option<Form<'_>> {
         b"label" => label(rest),
         b"table" => table(rest),
         b"row" => row(rest),
+        b"public" => public(rest),
         _ => None,
     }
 }
@@ -237,6 +239,12 @@ fn row<'a>(items: &[Item<'a>]) -> Option<Form<'a>> {
     let (table, rest) = items.split_first()?;
     let items = rest.iter().map(row_item).collect::<Option<Vec<_>>>()?;
     Some(Form::Row { table: word(table)?, items })
+}
+
+/// 02, Q-2: "A line `(public T)`".
+fn public<'a>(items: &[Item<'a>]) -> Option<Form<'a>> {
+    let [table] = items else { return None };
+    Some(Form::Public { table: word(table)? })
 }
 
 /// A value, or `(v L)`.

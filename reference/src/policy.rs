@@ -63,6 +63,8 @@ pub struct Column<'a> {
 pub struct Table<'a> {
     pub name: Name<'a>,
     pub labelling: Labelling,
+    /// 02, Q-2: whether a `public` line names it, on a labelled table too, "where it does nothing".
+    pub public: bool,
     pub columns: Vec<Column<'a>>,
 }
 
@@ -219,7 +221,7 @@ impl<'a> Policy<'a> {
                     };
                     kept.push(Column { name: column.name.text, kind: column.kind, label });
                 }
-                self.tables.push(Table { name: name.text, labelling, columns: kept });
+                self.tables.push(Table { name: name.text, labelling, public: false, columns: kept });
             }
             Form::Row { table, items } => {
                 let table = self.table(table.text)?;
@@ -238,6 +240,10 @@ impl<'a> Policy<'a> {
                     });
                 }
                 self.rows.push(Row { table, label, cells });
+            }
+            Form::Public { table } => {
+                let table = self.table(table.text)?;
+                self.tables[table].public = true;
             }
         }
         Some(())

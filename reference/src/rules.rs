@@ -28,6 +28,8 @@ pub fn bound_exceeded(policy: &Policy, form: &Form) -> bool {
         Form::Label { .. } => policy.labels.len() >= MOST_LABELS,
         Form::Table { columns, .. } => policy.tables.len() >= MOST_TABLES || columns.len() > MOST_COLUMNS,
         Form::Row { .. } => policy.rows.len() >= MOST_ROWS,
+        // One for each table is all that 4 lets stand.
+        Form::Public { .. } => false,
     }
 }
 
@@ -79,6 +81,10 @@ pub fn names_taken(policy: &Policy, form: &Form) -> Vec<Span> {
             taken
         }
         Form::Row { .. } => Vec::new(),
+        // 02, Q-2: "a second such line is 4", whatever the table's scheme.
+        Form::Public { table } => {
+            taken_if(policy.table(table.text).is_some_and(|place| policy.tables[place].public), table)
+        }
     }
 }
 
@@ -162,6 +168,8 @@ pub fn names_unknown(policy: &Policy, form: &Form) -> Vec<Span> {
                 _ => {}
             }
         }
+        // 02, Q-2: "T unknown is 5".
+        Form::Public { table } => uses(table, policy.table(table.text).is_some()),
     }
     unknown
 }

@@ -73,7 +73,7 @@ fn number_11_bounds() {
     // 64 comparisons "(eq NAME NAME)" with names of 24 bytes are 54 bytes each, so a full query stays below 4,096;
     // the nots around each of them make it longer: "(not " and ")" are 6 bytes.
     let name = "n".repeat(24);
-    let doc = format!("{BASE}(table t none ({name} name))\n(row t {name})\n");
+    let doc = format!("{BASE}(table t none ({name} name))\n(public t)\n(row t {name})\n");
     let long = |nots: usize, plain: usize| {
         let eq = format!("(eq {name} {name})");
         let mut parts = vec![format!("{}{}{}", "(not ".repeat(2), eq, "))"); nots];
@@ -100,7 +100,7 @@ fn number_11_exactly_4096_bytes() {
     parts.extend(vec![nested("100"); 20]);
     let query = format!("(count u r root t (and {}))", parts.join(" "));
     assert_eq!(query.len(), 4096);
-    let doc = format!("{BASE}(table t none (k num))\n(row t 2)\n");
+    let doc = format!("{BASE}(table t none (k num))\n(public t)\n(row t 2)\n");
     // Nine nots turn the comparison round: 2 is neither 1 nor 100, so all hold.
     assert_eq!(answer_text(&doc, &query, CLOCK), "(end 1 0 0)\n");
     let longer = query.replacen("(eq k 1)", "(eq k 10)", 1);
@@ -134,6 +134,7 @@ const ROLES: &str = "\
 (cond-role lows low (gt level 0))
 (grant all five)
 (table t none (k num))
+(public t)
 (row t 1)
 ";
 
@@ -184,6 +185,7 @@ fn the_first_authorising_grant() {
 (grant mid yes)
 (grant leaf yes)
 (table t none (k num))
+(public t)
 ";
     assert_eq!(answer(doc, "(count u r leaf t)", CLOCK).1.grant, 3);
     assert_eq!(answer(doc, "(count u r mid t)", CLOCK).1.grant, 3);
@@ -193,7 +195,7 @@ fn the_first_authorising_grant() {
 
 #[test]
 fn the_clock_in_conditions() {
-    let doc = |condition: &str| BASE.replace("(gt year 0)", condition) + "(table t none (k num))\n";
+    let doc = |condition: &str| BASE.replace("(gt year 0)", condition) + "(table t none (k num))\n(public t)\n";
     for holds in ["(eq year 2028)", "(eq day 366)", "(eq hour 10)", "(not (ne hour 10))", "(or (eq hour 1) (eq hour 10))", "(and (ge day 366) (le day 366))"] {
         assert_eq!(answer_text(&doc(holds), "(count u r root t)", CLOCK), "(end 0 0 0)\n", "{holds}");
     }
@@ -216,6 +218,7 @@ fn values_belong_to_the_role_acted_in() {
 (cond-role c top (eq level 9))
 (grant p c)
 (table t none (k num))
+(public t)
 ";
     assert_eq!(query_refused(doc, b"(count u r p t)", CLOCK), (14, 11, 1));
     assert_eq!(answer_text(doc, "(count u s p t)", CLOCK), "(end 0 0 0)\n");
@@ -357,8 +360,8 @@ fn a_chain_of_256_purposes() {
 }
 
 #[test]
-fn scheme_none_is_open_to_every_purpose() {
-    let doc = format!("{BASE}(table t none (k num) (w name))\n(table s none (k num))\n(row t 1 a)\n(row s 7)\n(row t -9223372036854775808 b)\n");
+fn a_public_table_is_open_to_every_purpose() {
+    let doc = format!("{BASE}(table t none (k num) (w name))\n(public t)\n(table s none (k num))\n(row t 1 a)\n(row s 7)\n(row t -9223372036854775808 b)\n(public s)\n");
     // Only the table's own rows, in document order.
     for purpose in ["root", "mid", "leaf", "side"] {
         let query = format!("(select u r {purpose} t (w k))");
@@ -369,7 +372,7 @@ fn scheme_none_is_open_to_every_purpose() {
 
 #[test]
 fn the_six_operators_on_numbers() {
-    let doc = format!("{BASE}(table t none (k num))\n(row t 1)\n(row t 2)\n(row t 3)\n");
+    let doc = format!("{BASE}(table t none (k num))\n(public t)\n(row t 1)\n(row t 2)\n(row t 3)\n");
     for (operator, passed) in [("eq", 1), ("ne", 2), ("lt", 1), ("le", 2), ("gt", 1), ("ge", 2)] {
         let query = format!("(count u r root t ({operator} k 2))");
         assert_eq!(answer_text(&doc, &query, CLOCK), format!("(end {passed} 0 {})\n", 3 - passed), "{operator}");
@@ -379,6 +382,6 @@ fn the_six_operators_on_numbers() {
 #[test]
 fn a_clock_name_may_be_a_column() {
     // The column's value counts, not the clock's 2028.
-    let doc = format!("{BASE}(table t none (year num))\n(row t 7)\n");
+    let doc = format!("{BASE}(table t none (year num))\n(public t)\n(row t 7)\n");
     assert_eq!(answer_text(&doc, "(select u r root t (year) (eq year 7))", CLOCK), "(row 7)\n(end 1 0 0)\n");
 }

@@ -8,7 +8,7 @@ fn accepted_texts() {
     assert_eq!(lines(""), 0);
     assert_eq!(lines(BASE), 11);
     // Keywords are known by position.
-    assert_eq!(lines("(purpose purpose)\n(role role)\n(attr role role num)\n(cond-role eq role (eq role 1))\n(grant purpose eq)\n(label allow (allow purpose) (deny purpose))\n(table none none (none name))\n(row none none)\n"), 8);
+    assert_eq!(lines("(purpose purpose)\n(role role)\n(attr role role num)\n(cond-role eq role (eq role 1))\n(grant purpose eq)\n(label allow (allow purpose) (deny purpose))\n(table none none (none name))\n(row none none)\n(table public none (public name))\n(public public)\n(row public public)\n"), 11);
     // Several role roots; one name in several kinds.
     assert_eq!(lines("(role a)\n(role b)\n(role c)\n(purpose a)\n(purpose b a)\n(label a (allow) (deny))\n"), 6);
     // Columns may have clock names, and the same name in two tables.
@@ -47,6 +47,7 @@ fn number_2_wrong_form() {
         "(label l)", "(label l (allow))", "(label l (deny) (allow))", "(label l (allow 1) (deny))", "(label l () (deny))", "(label l (allow) (deny) (deny))",
         "(table t)", "(table t none)", "(table t table)", "(table t table l)", "(table t some (a num))", "(table t none (a))", "(table t none (a num l))", "(table t column (a num))", "(table t none (a number))", "(table t none (1 num))", "(table t none a)",
         "(row)", "(row 1 2)", "(row t ())", "(row t (1))", "(row t (1 2))", "(row t (1 a b))", "(row t ((1) a))",
+        "(public)", "(public 1)", "(public t t)", "(public (t))", "(publics t)", "(public t (k))", "(publi t)",
         "(purpose a-b.c)", "(purpose -a)", "(purpose _a)", "(purpose 9a)", "(row t 01)", "(row t -0)", "(row t +1)", "(row t -)", "(row t 1.5)",
     ] {
         assert_eq!(refused(&format!("{line}\n")), (2, 0, line.len()), "{line}");

@@ -21,7 +21,7 @@ fn definitions_and_uses() {
 fn keywords() {
     assert_eq!(lines(&capitals()), 15);
     assert_eq!(lines("(Purpose p)\n(ROLE r)\n(aTTr r a NUM)\n(attr r b Name)\n(USER u r (a 1) (b x))\n(Cond-Role c r (AND (Not (OR (EQ a 1) (Ne b y))) (lT a 1) (Le a 1) (GT a 1) (Ge a 1)))\n(GRANT p c)\n(Label l (ALLOW p) (Deny p))\n"), 8);
-    assert_eq!(lines("(label l (allow) (deny))\n(TABLE a NONE (k num))\n(table b Table l (k NUM))\n(table c COLUMN (k num l))\n(table d Row (k num))\n(table e CELL (k num))\n(ROW a 1)\n"), 7);
+    assert_eq!(lines("(label l (allow) (deny))\n(TABLE a NONE (k num))\n(table b Table l (k NUM))\n(table c COLUMN (k num l))\n(table d Row (k num))\n(table e CELL (k num))\n(ROW a 1)\n(PUBLIC A)\n"), 8);
     // A keyword is known by position still: `ROW` names a role here, `Num` a column.
     assert_eq!(lines("(role ROW)\n(user none row)\n(table Row none (Num num))\n(row ROW 1)\n"), 4);
 }
@@ -36,6 +36,7 @@ fn a_second_definition_is_4() {
     assert_eq!(refused("(role r)\n(cond-role c r (gt year 0))\n(cond-role C r (gt year 0))\n"), (4, 48, 1));
     assert_eq!(refused("(label l (allow) (deny))\n(label L (allow) (deny))\n"), (4, 32, 1));
     assert_eq!(refused("(table t none (k num))\n(table T none (k num))\n"), (4, 30, 1));
+    assert_eq!(refused("(table t none (k num))\n(public t)\n(PUBLIC T)\n"), (4, 42, 1));
     // Columns within their table, purposes within a set; the later of two.
     assert_eq!(refused("(table t none (k num) (j num) (K num))\n"), (4, 31, 1));
     assert_eq!(refused("(purpose p)\n(label l (allow p P) (deny))\n"), (4, 30, 1));
@@ -56,7 +57,7 @@ fn values_of_users() {
     }
     assert_eq!(lines(&format!("{head}(user u R (A 1))\n")), 3);
     // Attributes and clock names in conditions, and name values, without case.
-    let doc = "(purpose p)\n(role r)\n(attr r Team name)\n(user u r (TEAM Red))\n(cond-role c r (and (eq team rED) (eq Hour 10)))\n(grant p c)\n(table t none (k num))\n";
+    let doc = "(purpose p)\n(role r)\n(attr r Team name)\n(user u r (TEAM Red))\n(cond-role c r (and (eq team rED) (eq Hour 10)))\n(grant p c)\n(table t none (k num))\n(public t)\n";
     assert_eq!(answer_text(doc, "(count u r p t)", CLOCK), "(end 0 0 0)\n");
     assert_eq!(query_refused(&doc.replace("rED", "Reds"), b"(count u r p t)", CLOCK), (14, 11, 1));
 }
@@ -81,7 +82,7 @@ fn values_of_cells() {
     // `eq` on a cell in another case passes and prints as written; repeated, each time.
     assert_eq!(answer_text(SAMPLE, "(select ana desk post sub (who WHO) (eq who iDA))", CLOCK), "(row Ida Ida)\n(end 1 0 2)\n");
     assert_eq!(answer_text(SAMPLE, "(count ana desk post sub (ne who BO))", CLOCK), "(end 2 0 1)\n");
-    let doc = format!("{BASE}(table t none (k name))\n(row t ada)\n(row t Ada)\n(row t ADA)\n(row t ad)\n(row t ada-)\n(row t ada_)\n(row t ada0)\n");
+    let doc = format!("{BASE}(table t none (k name))\n(Public T)\n(row t ada)\n(row t Ada)\n(row t ADA)\n(row t ad)\n(row t ada-)\n(row t ada_)\n(row t ada0)\n");
     assert_eq!(answer_text(&doc, "(select u r root t (k) (eq k aDa))", CLOCK), "(row ada)\n(row Ada)\n(row ADA)\n(end 3 0 4)\n");
     assert_eq!(answer_text(&doc, "(select u r root t (k) (eq k ADA-))", CLOCK), "(row ada-)\n(end 1 0 6)\n");
 }

@@ -6,7 +6,10 @@ use reference::{ask, Answer, Refusal};
 
 const TABLES: &str = "\
 (table n none (a num) (b name))
+(public n)
 (row n 1 x)
+(table m none (a num) (b name))
+(row m 1 x)
 (table t table nomid (a num))
 (row t 2)
 (table c column (a num open) (b num nomid))
@@ -50,6 +53,8 @@ fn exempt_cells_make_no_difference() {
         ("(row n 1 x)", "(row n 1 X)", &["(select u r leaf n (a))", "(count U R leaf N)", "(select u r leaf e (a b))"][..]),
         ("(row e (8 nomid) (y open))", "(row e (8 nomid) (Y open))", &["(select u r leaf e (A b))", "(count u r leaf E (or (eq b y) (eq A 8)))"][..]),
         ("(row e (9 open) (z shut))", "(row e (9 open) (Z shut))", &["(select u r leaf e (b))", "(select u r leaf e (a))", "(count u r side E (ne B z))"][..]),
+        // 02, Q-2: an undeclared table, its columns named, in whatever way: 17, 16 and 15 alike.
+        ("(row m 1 x)", "(row m 11 Xx)", &["(select u r leaf m (a b))", "(select u r root m (a) (eq b x))", "(count u r side m)", "(count u r leaf m (gt a 5))", "(count u r leaf m (eq a x))", "(count u r leaf m (eq d 1))"][..]),
         // Texts that are no query, and purposes unknown.
         ("(row n 1 x)", "(row n 10 y)", &["(select", "", "(count u r nosuch n)"][..]),
     ] {
@@ -67,6 +72,12 @@ fn open_cells_do_make_a_difference() {
     let doc = format!("{BASE}{TABLES}");
     let changed = doc.replace("(row r nomid 6)", "(row r nomid 66)");
     assert_ne!(outcome(&doc, "(select u r side r (a))"), outcome(&changed, "(select u r side r (a))"));
+    // 02, Q-2: a public table's cells, named, are open to every purpose.
+    let changed = doc.replace("(row n 1 x)", "(row n 1 y)");
+    for purpose in ["root", "mid", "leaf", "side"] {
+        let query = format!("(select u r {purpose} n (b))");
+        assert_ne!(outcome(&doc, &query), outcome(&changed, &query), "{purpose}");
+    }
     // 02, Q-8: another case of an open value "may be printed".
     let changed = doc.replace("(row e (8 nomid) (y open))", "(row e (8 nomid) (Y open))");
     assert_ne!(outcome(&doc, "(select u r side e (B))"), outcome(&changed, "(select u r side e (B))"));

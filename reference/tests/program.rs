@@ -63,7 +63,7 @@ fn long_lines() {
 fn an_answer_over_60021_bytes() {
     // 16 times a name of 24 bytes: "(row" and 16 * 25 and ")\n" are 406 bytes; 147 rows are 59,682 and 148 are 60,088.
     let name = "n".repeat(24);
-    let doc = |rows: usize| format!("{BASE}(table t none (k name))\n{}", format!("(row t {name})\n").repeat(rows));
+    let doc = |rows: usize| format!("{BASE}(table t none (k name))\n(public t)\n{}", format!("(row t {name})\n").repeat(rows));
     let query = format!("(select u r root t ({}))", ["k"; 16].join(" "));
     let input = format!("(clock 2028 366 10)\n{query}\n");
     assert!(run(&doc(147), input.as_bytes()).ends_with("(end 147 0 0)\n"));
