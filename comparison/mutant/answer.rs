@@ -1,4 +1,4 @@
-//! A copy of the reference's `answer`, with blunders 1, 3, 6, 7, 8, 30 and 31.
+//! A copy of the reference's `answer`, with blunders 1, 3, 6, 7, 8, 30, 31 and 36.
 
 use std::cell::RefCell;
 
@@ -63,7 +63,7 @@ fn open_downwards(tree: &Tree, label: &Label, p: usize) -> bool {
 /// 01: "A row not withheld is passed if the condition holds or is absent, else unmatched."
 fn fate<'p>(policy: &Policy<'p>, request: &Request<'_, 'p>, row: &Row<'p>) -> Fate {
     let table = &policy.tables[request.table];
-    let mut closed = withheld(policy, request, table.labelling, row);
+    let mut closed = withheld(policy, request, table.labelling, row) && !(on(36) && table.public);
     if on(6) && table.labelling == Labelling::Cell {
         closed = reached_closed(policy, request, table, row);
     }

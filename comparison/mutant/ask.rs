@@ -1,4 +1,4 @@
-//! A copy of the reference's `ask`, with blunders 2, 4, 5, 8, 9, 10, 16, 29, 33 and 34.
+//! A copy of the reference's `ask`, with blunders 2, 4, 5, 8, 9, 10, 16, 29, 33 to 36 and 40.
 
 use crate::answer::{label_open, write, Answer, Request};
 use crate::check::read_document;
@@ -50,6 +50,10 @@ pub fn ask(doc: &[u8], query: &[u8], clock: Clock, out: &mut [u8]) -> Result<Ans
 
     // "15 table or named column unknown".
     let Some(table) = policy.table(parsed.table.text) else { return Err(of_query(15, parsed.table.span)) };
+    let undeclared = policy.tables[table].labelling == Labelling::None && !policy.tables[table].public;
+    if on(40) && undeclared {
+        return Err(of_query(17, parsed.table.span));
+    }
     let named = parsed.named_columns();
     if let Some(part) = leftmost(&unknown_columns(&policy, table, &named)) {
         return Err(of_query(15, part));
@@ -140,7 +144,8 @@ fn unknown_columns(policy: &Policy, table: usize, named: &[Word]) -> Vec<Span> {
 /// and its queries are refused with 17 at the table name", unless the table is public.
 fn closed_parts(policy: &Policy, query: &Query, table: usize, named: &[Word], purpose: usize) -> Vec<Span> {
     match policy.tables[table].labelling {
-        Labelling::None if !policy.tables[table].public => vec![query.table.span],
+        _ if on(36) && policy.tables[table].public => Vec::new(),
+        Labelling::None if !policy.tables[table].public && !on(35) => vec![query.table.span],
         Labelling::Table(label) if !label_open(policy, label, purpose) => vec![query.table.span],
         Labelling::Column => named
             .iter()

@@ -1,8 +1,8 @@
-//! A copy of the reference's `check`, with blunders 11 to 15 and 32.
+//! A copy of the reference's `check`, with blunders 11 to 15, 32 and 37 to 39.
 
 use crate::forms::{read_line, Form};
 use crate::on;
-use crate::policy::Policy;
+use crate::policy::{Labelling, Policy};
 use crate::refusal::{leftmost, of_document, Refusal};
 use crate::rules;
 use crate::text::{Name, Span};
@@ -44,6 +44,11 @@ pub fn read_document(doc: &[u8]) -> Result<(Policy<'_>, usize), Refusal> {
         if let Some((number, part)) = fault(&policy, &form, whole) {
             return Err(of_document(number, part));
         }
+        if on(39) && behind_a_row(&policy, &form) {
+            lines += 1;
+            start += line.len() + 1;
+            continue;
+        }
         if policy.record(form).is_none() {
             // Not reached: the rules found every name known, and the tree not full.
             return Err(of_document(5, whole));
@@ -69,7 +74,8 @@ fn fault(policy: &Policy, form: &Form, whole: Span) -> Option<(u32, Span)> {
             return Some((5, part));
         }
     }
-    let second = if on(32) { taken_by_bytes(policy, form) } else { rules::names_taken(policy, form) };
+    let again = taken_again(policy, form);
+    let second = if again { Vec::new() } else if on(32) { taken_by_bytes(policy, form) } else { rules::names_taken(policy, form) };
     if let Some(part) = leftmost(&second) {
         return Some((4, part));
     }
@@ -100,6 +106,20 @@ fn fault(policy: &Policy, form: &Form, whole: Span) -> Option<(u32, Span)> {
         return Some((9, whole));
     }
     None
+}
+
+/// Blunders 37 and 38: a second `public` line that isn't 4.
+fn taken_again(policy: &Policy, form: &Form) -> bool {
+    let Form::Public { table } = form else { return false };
+    let Some(place) = policy.table(table.text) else { return false };
+    on(37) || on(38) && policy.tables[place].labelling != Labelling::None
+}
+
+/// Blunder 39: a `public` line whose table has a row already.
+fn behind_a_row(policy: &Policy, form: &Form) -> bool {
+    let Form::Public { table } = form else { return false };
+    let Some(place) = policy.table(table.text) else { return false };
+    policy.rows.iter().any(|row| row.table == place)
 }
 
 /// Blunder 32: a purpose, role or table whose name is taken in another case alone is not taken.

@@ -35,7 +35,7 @@ pub use import::{import, measure_import};
 pub use refusal::{Refusal, Source};
 
 /// What each mutant does wrong, counted from 1.
-pub const BLUNDERS: [&str; 34] = [
+pub const BLUNDERS: [&str; 40] = [
     "a denied purpose closes downwards only",
     "labels tested for selected columns only",
     "withheld counted only where the condition holds",
@@ -70,6 +70,12 @@ pub const BLUNDERS: [&str; 34] = [
     "a second definition in another case taken",
     "a query's keyword known by its bytes",
     "a column named in another case not counted as named",
+    "an undeclared table open to every purpose",
+    "a `public` line opens a labelled table",
+    "a second `public` line taken",
+    "a second `public` line of a labelled table taken",
+    "a `public` line behind a row of its table does nothing",
+    "an undeclared table refused before its columns and types are looked at",
 ];
 
 /// These blunders are of importing.

@@ -8,9 +8,10 @@ use crate::random::Random;
 use crate::recase::{self, listed, same};
 
 /// What a cell may be to a query. A run has to see each of them, most as the one reason for which the cell may differ.
-const SITUATIONS: [&str; 24] = [
+const SITUATIONS: [&str; 27] = [
     "no query",
-    "unknown purpose, table without labels",
+    "unknown purpose, public table",
+    "unknown purpose, undeclared table",
     "unknown purpose, labelled table",
     "unknown table, column that the first table has",
     "unknown table, other column",
@@ -18,12 +19,13 @@ const SITUATIONS: [&str; 24] = [
     "other table, other column",
     "column not named",
     "column not named, another one unknown",
+    "closed, undeclared table",
     "closed by the table's label",
     "closed by the column's label",
     "closed by the row's label",
     "closed by its own label",
     "open, in a row withheld for another cell",
-    "bound, table without labels",
+    "bound, public table",
     "bound, open by the table's label",
     "bound, open by the column's label",
     "bound, open by the row's label",
@@ -31,6 +33,7 @@ const SITUATIONS: [&str; 24] = [
     "bound, named by the condition alone",
     "bound, another column being unknown",
     "several reasons at once",
+    "closed by a label in spite of a public line",
     "bound, in other cases",
     "closed or withheld, in other cases",
 ];
@@ -51,12 +54,19 @@ fn small(random: &mut Random) -> Model {
     }
     for _ in 0..builder.random.between(1, 3) {
         let label = builder.random.below(builder.model.labels.len());
-        let scheme = *builder.random.pick(&[Scheme::None, Scheme::Table(label), Scheme::Column, Scheme::Row, Scheme::Cell]);
+        let scheme = *builder.random.pick(&[Scheme::None, Scheme::None, Scheme::Table(label), Scheme::Column, Scheme::Row, Scheme::Cell]);
         let columns = builder.random.between(1, 3);
         builder.table_of(scheme, columns);
     }
+    // `public` lines before, between and behind the rows (02, Q-2).
     for _ in 0..builder.random.between(2, 6) {
+        if builder.random.chance(1, 6) {
+            builder.public();
+        }
         builder.row();
+    }
+    if builder.random.chance(1, 6) {
+        builder.public();
     }
     builder.model
 }
@@ -82,10 +92,10 @@ fn query(random: &mut Random, model: &Model) -> Query {
         query.condition = Some(condition(random, &subjects, 2, 3));
     }
     match random.below(20) {
-        0 | 1 => query.purpose = "nobody".to_string(),
-        2 | 3 => query.table = "nobody".to_string(),
-        4 | 5 => query.columns.iter_mut().for_each(|columns| columns.insert(0, "nobody".to_string())),
-        6 => queries::fault(random, model, &mut query),
+        0..=2 => query.purpose = "nobody".to_string(),
+        3 | 4 => query.table = "nobody".to_string(),
+        5 | 6 => query.columns.iter_mut().for_each(|columns| columns.insert(0, "nobody".to_string())),
+        7 => queries::fault(random, model, &mut query),
         _ => {}
     }
     query
@@ -150,8 +160,10 @@ fn of_unknown_purpose(model: &Model, query: &Query, row: &Row, column: usize) ->
     let table = &model.tables[row.table];
     if !same(&table.name, &query.table) || !is_named(model, query, row, column) {
         "several reasons at once"
+    } else if table.scheme == Scheme::None && table.public {
+        "unknown purpose, public table"
     } else if table.scheme == Scheme::None {
-        "unknown purpose, table without labels"
+        "unknown purpose, undeclared table"
     } else {
         "unknown purpose, labelled table"
     }
@@ -167,7 +179,9 @@ fn reason(model: &Model, query: &Query, row: &Row, column: usize, purpose: usize
         (true, true, true, false) => return None,
         (true, true, true, true) => "open, in a row withheld for another cell",
         (true, true, false, _) => match table.scheme {
-            Scheme::None | Scheme::Table(_) => "closed by the table's label",
+            Scheme::None => "closed, undeclared table",
+            _ if table.public => "closed by a label in spite of a public line",
+            Scheme::Table(_) => "closed by the table's label",
             Scheme::Column => "closed by the column's label",
             Scheme::Row => "closed by the row's label",
             Scheme::Cell => "closed by its own label",
@@ -182,7 +196,7 @@ fn reason(model: &Model, query: &Query, row: &Row, column: usize, purpose: usize
 fn bound(model: &Model, query: &Query, row: &Row, column: usize) -> Vec<&'static str> {
     let table = &model.tables[row.table];
     let mut seen = vec![match table.scheme {
-        Scheme::None => "bound, table without labels",
+        Scheme::None => "bound, public table",
         Scheme::Table(_) => "bound, open by the table's label",
         Scheme::Column => "bound, open by the column's label",
         Scheme::Row => "bound, open by the row's label",

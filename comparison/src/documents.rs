@@ -6,9 +6,9 @@ use crate::recase::{self, listed, same};
 
 /// Names for every kind: few, so that kinds share them; keywords, some in several cases, and names that differ in length or last
 /// byte alone.
-const NAMES: [&str; 33] = [
+const NAMES: [&str; 34] = [
     "all", "bill", "ads", "post", "care", "desk", "boss", "a", "b", "C", "x-1", "y_2", "row", "table", "cell", "none", "num",
-    "name", "allow", "deny", "select", "count", "eq", "and", "not", "purpose", "Ads", "aDs", "abcdefgh", "abcdefghi",
+    "name", "allow", "deny", "select", "count", "eq", "and", "not", "purpose", "public", "Ads", "aDs", "abcdefgh", "abcdefghi",
     "abcdefghijklmnop", "abcdefghijklmnopqrstuvwx", "abcdefghijklmnopqrstuvwy",
 ];
 const USERS: [&str; 8] = ["ana", "bob", "eve", "row", "user", "A", "an", "abcdefghijklmnopqrstuvwx"];
@@ -337,7 +337,7 @@ impl<'r> Builder<'r> {
             let label = self.random.below(self.model.labels.len());
             list.push(Column { name, kind, label });
         }
-        self.model.tables.push(Table { name, scheme, columns: list });
+        self.model.tables.push(Table { name, scheme, public: false, columns: list });
         self.model.lines.push(Line::Table(self.model.tables.len() - 1));
     }
 
@@ -350,6 +350,24 @@ impl<'r> Builder<'r> {
         let kinds: Vec<Type> = self.model.tables[table].columns.iter().map(|column| column.kind).collect();
         let cells = kinds.into_iter().map(|kind| (value(self.random, kind), self.random.below(self.model.labels.len()))).collect();
         self.row_of(Row { table, label, cells });
+    }
+
+    /// A `public` line (02, Q-2) for a table that has none: mostly one without labels, if there is such; else nothing.
+    pub fn public(&mut self) {
+        let undeclared = |model: &Model| (0..model.tables.len()).filter(|&place| !model.tables[place].public).collect::<Vec<usize>>();
+        let mut tables = undeclared(&self.model);
+        if self.random.chance(3, 4) && tables.iter().any(|&place| self.model.tables[place].scheme == Scheme::None) {
+            tables.retain(|&place| self.model.tables[place].scheme == Scheme::None);
+        }
+        if !tables.is_empty() {
+            let table = *self.random.pick(&tables);
+            self.public_of(table);
+        }
+    }
+
+    pub fn public_of(&mut self, table: usize) {
+        self.model.tables[table].public = true;
+        self.model.lines.push(Line::Public(table));
     }
 
     pub fn row_of(&mut self, row: Row) {
@@ -417,7 +435,7 @@ impl<'r> Builder<'r> {
                 model.tables[last].columns.push(twice);
             }
             Line::Table(last) => model.tables[last].name = model.tables[self.random.below(last)].name.clone(),
-            Line::Attr(_) | Line::Grant(_) | Line::Row(_) => {}
+            Line::Attr(_) | Line::Grant(_) | Line::Row(_) | Line::Public(_) => {}
         }
     }
 
@@ -472,7 +490,7 @@ impl<'r> Builder<'r> {
     /// Lines of all kinds, mixed.
     pub fn mix(&mut self, steps: usize) {
         for _ in 0..steps {
-            match self.random.below(40) {
+            match self.random.below(44) {
                 0..=4 if self.model.purposes.len() < 60 => self.purpose(),
                 5..=7 if self.model.roles.len() < 60 => self.role(),
                 8..=10 if self.model.attributes.len() < 30 => self.attr(),
@@ -481,7 +499,8 @@ impl<'r> Builder<'r> {
                 18..=21 if self.model.grants.len() < 120 => self.grant(),
                 22..=25 if self.model.labels.len() < 60 => self.label(),
                 26..=28 if self.model.tables.len() < 7 => self.table(),
-                29.. if self.model.rows.len() < 1000 => self.row(),
+                29..=32 => self.public(),
+                33.. if self.model.rows.len() < 1000 => self.row(),
                 _ => {}
             }
         }
@@ -540,7 +559,7 @@ pub fn faulty_line(random: &mut Random, model: &Model) -> Vec<u8> {
     let full = full_kind(&builder.model);
     let kind = match full {
         Some(kind) if builder.random.chance(1, 2) => kind,
-        _ => builder.random.below(24),
+        _ => builder.random.below(27),
     };
     match kind {
         // 6, or 4 where the name is taken.
@@ -566,6 +585,17 @@ pub fn faulty_line(random: &mut Random, model: &Model) -> Vec<u8> {
         9 => builder.table(),
         10 => builder.grant(),
         13 | 14 => builder.user(),
+        // 4 where the table is public already, whatever its labels; 5 where there is no such table (02, Q-2).
+        24.. => {
+            let declared: Vec<usize> = (0..model.tables.len()).filter(|&place| model.tables[place].public).collect();
+            let name = match builder.random.below(4) {
+                0 => fresh(builder.random, &NAMES, |_| false),
+                1 | 2 if !declared.is_empty() => model.tables[*builder.random.pick(&declared)].name.clone(),
+                _ if !model.tables.is_empty() => builder.random.pick(&model.tables).name.clone(),
+                _ => builder.random.pick(&NAMES).to_string(),
+            };
+            return recase::any(random, format!("(public {name})\n").into_bytes()).0;
+        }
         15.. => {
             if kind < 20 {
                 builder.retyped();
@@ -624,7 +654,7 @@ pub fn at_bound(random: &mut Random) -> (Model, bool) {
         while builder.model.lines.len() < before + 1 {
             builder.mix(1);
         }
-        let named = !matches!(builder.model.lines[before], Line::Grant(_) | Line::Row(_));
+        let named = !matches!(builder.model.lines[before], Line::Grant(_) | Line::Row(_) | Line::Public(_));
         builder.names = None;
         builder.mix(10);
         return (builder.model, over == 0 || !named);
@@ -659,6 +689,9 @@ pub fn at_bound(random: &mut Random) -> (Model, bool) {
                 _ => Scheme::Cell,
             };
             builder.table_of(scheme, count(16));
+            if builder.random.chance(2, 3) {
+                builder.public();
+            }
             while_fewer(&mut builder, 8, |m| m.rows.len(), Builder::row);
         }
         10 => {
@@ -707,6 +740,9 @@ fn fill(builder: &mut Builder, length: usize) {
     let columns = builder.random.between(3, 16);
     builder.table_of(scheme, columns);
     let table = builder.model.tables.len() - 1;
+    if builder.random.chance(7, 8) {
+        builder.public_of(table);
+    }
     for column in &mut builder.model.tables[table].columns {
         column.kind = Type::Name;
     }

@@ -127,6 +127,10 @@ fn compare_all(options: &Options) -> ExitCode {
         println!("FAILED: too little was recased");
         return ExitCode::FAILURE;
     }
+    if options.pairs > 0 && (pairs.undeclared == 0 || pairs.told_apart_public == 0) {
+        println!("FAILED: too few pairs over tables without labels");
+        return ExitCode::FAILURE;
+    }
     println!("no difference");
     ExitCode::SUCCESS
 }
@@ -144,6 +148,7 @@ fn summary(options: &Options, tally: &Tally, pairs: &PairTally) {
     let recased = &tally.recased;
     println!("recased:           {} texts, accepted {}; {} queries, answered {}; {} pairs alike", recased.texts, recased.accepted, recased.queries, recased.answered, pairs.recased);
     println!("in case alone:     {} pairs alike; {} not alike, told apart {}", pairs.case_alone, pairs.unlike_case, pairs.told_apart_case);
+    println!("without labels:    {} pairs alike that differ in an undeclared table; {} told apart in a public one", pairs.undeclared, pairs.told_apart_public);
 }
 
 /// Every file: random ones, all short ones, and one document in ten files to which a list's lines are added.

@@ -163,6 +163,8 @@ pub struct Column {
 pub struct Table {
     pub name: String,
     pub scheme: Scheme,
+    /// Whether a `public` line names it (02, Q-2).
+    pub public: bool,
     pub columns: Vec<Column>,
 }
 
@@ -187,6 +189,8 @@ pub enum Line {
     Label(usize),
     Table(usize),
     Row(usize),
+    /// A table's place.
+    Public(usize),
 }
 
 #[derive(Clone, Debug, Default)]
@@ -287,6 +291,7 @@ impl Model {
                 }
                 line + ")"
             }
+            Line::Public(table) => format!("(public {})", self.tables[table].name),
         }
     }
 
@@ -319,8 +324,12 @@ impl Model {
     }
 
     /// 01: "A cell's label is its table's, column's, row's or its own, by scheme; the cell is closed when that label is."
+    /// 02, Q-2: "Cells of an undeclared table count as closed".
     pub fn cell_open(&self, row: &Row, column: usize, p: usize) -> bool {
-        self.cell_label(row, column).is_none_or(|label| self.open(label, p))
+        match self.cell_label(row, column) {
+            Some(label) => self.open(label, p),
+            None => self.tables[row.table].public,
+        }
     }
 
     /// 01: "Scheme row withholds a row whose label is closed, even if no column is named. Scheme cell withholds a row with a closed named cell."

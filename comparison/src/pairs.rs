@@ -23,6 +23,9 @@ pub struct PairTally {
     pub case_alone: u64,
     pub unlike_case: u64,
     pub told_apart_case: u64,
+    /// Pairs alike that differ in an undeclared table, the query naming it; pairs not alike told apart in a public one (02, Q-2).
+    pub undeclared: u64,
+    pub told_apart_public: u64,
 }
 
 /// What is said of a pair that is not alike, where another case of values changes more than letters: no break of the claim.
@@ -56,6 +59,12 @@ pub fn may_differ(model: &Model, query: Option<&Query>, row: &Row, column: usize
         || !same(&table.name, &query.table)
         || !listed(&named, &table.columns[column].name)
         || model.row_withheld(row, &named, purpose)
+}
+
+/// The place of a table without labels that the query names; none where it names no such table.
+fn unlabelled(model: &Model, query: Option<&Query>) -> Option<usize> {
+    let query = query?;
+    model.tables.iter().position(|table| same(&table.name, &query.table) && table.scheme == Scheme::None)
 }
 
 /// How values are changed: for others, or in their case alone (02, Q-8: "Two documents that differ in the case of an open value
@@ -122,6 +131,11 @@ pub fn run(random: &mut Random, subject: Subject, buffers: &mut Buffers, tally: 
             break (model, query, text, clock, alike, change);
         }
     };
+    let unlabelled = unlabelled(&model, query.as_ref());
+    let differs = |place: usize| {
+        model.rows.iter().zip(&alike.rows).any(|(one, other)| one.table == place && one.cells != other.cells)
+    };
+    let undeclared = unlabelled.is_some_and(|place| !model.tables[place].public && differs(place));
     let recasing = Recasing::any(random);
     let (doc, alike) = (recasing.turn(&model.text()), recasing.turn(&alike.text()));
     let (text, other) = recase::any(random, text);
@@ -132,6 +146,7 @@ pub fn run(random: &mut Random, subject: Subject, buffers: &mut Buffers, tally: 
     tally.pairs += 1;
     tally.recased += u64::from(other || doc != model.text());
     tally.case_alone += u64::from(change == Change::Case);
+    tally.undeclared += u64::from(undeclared);
     let put = |buffer: usize, buffers: &mut Buffers| -> Result<Asked, Difference> {
         let question = Question { query: text.clone(), clock, buffer };
         let (asked, equal) = buffers.ask_pair(subject, &doc, &alike, &question)?;
@@ -166,6 +181,7 @@ pub fn run(random: &mut Random, subject: Subject, buffers: &mut Buffers, tally: 
         let (_, equal) = buffers.ask_pair(subject, &doc, &recasing.turn(&unlike.text()), &question)?;
         tally.unlike += 1;
         tally.told_apart += u64::from(!equal);
+        tally.told_apart_public += u64::from(!equal && unlabelled.is_some());
     }
     if let Some(unlike) = changed(random, &model, &bound, true, Change::Case) {
         let unlike = recasing.turn(&unlike.text());

@@ -113,6 +113,7 @@ pub fn good(random: &mut Random, model: &Model, clock: Clock) -> Query {
         table = &model.tables[place];
         let closed = match (table.scheme, purpose) {
             (Scheme::Table(label), Some(p)) => !model.open(label, p),
+            (Scheme::None, _) => !table.public,
             _ => false,
         };
         if !closed && model.rows.iter().any(|row| row.table == place) {
