@@ -31,6 +31,7 @@ TABLES = LABELS + [
 ]
 ROWS = TABLES + [
     "(row n 1 x)",
+    "(public n)",
     "(row t -5)",
     "(row c 3 y)",
     "(row r free 4 z)",
@@ -47,7 +48,7 @@ def nested(depth):
     return "(not " * (depth - 1) + "(eq level 1)" + ")" * (depth - 1)
 
 
-KEYWORDS = r"\((?:purpose|role|attr|user|cond-role|grant|label|table|row|allow|deny|and|or|not|[engl][eqt])\b| (?:num|name)\b|(?<=table . )\w+"
+KEYWORDS = r"\((?:purpose|role|attr|user|cond-role|grant|label|table|row|public|allow|deny|and|or|not|[engl][eqt])\b| (?:num|name)\b|(?<=table . )\w+"
 
 
 def capital_keywords(line):
@@ -97,6 +98,17 @@ CASES = [
     ("grants repeat", after(ROLES, "(grant ads senior)", "(grant ads senior)"), len(ROLES) + 2),
     ("names of different kinds", ["(purpose x)", "(role x)", "(attr x x num)", "(label x (allow x) (deny))", "(table x none (x num))"], 5),
     ("keywords as names", ["(purpose purpose)", "(role row)", "(label deny (allow purpose) (deny))", "(table table none (name num))", "(row table 3)"], 5),
+    # public lines (02, Q-2); a table without one is accepted all the same
+    ("no public line", TABLES, len(TABLES)),
+    ("a public line behind its table", after(LABELS, "(table x none (a num))", "(public x)"), len(LABELS) + 2),
+    ("a public line behind other tables", after(TABLES, "(public n)"), len(TABLES) + 1),
+    ("a public line between rows", after(TABLES, "(row n 1 x)", "(public n)", "(row n 2 y)"), len(TABLES) + 3),
+    ("a public line behind rows", after(TABLES, "(row n 1 x)", "(row n 2 y)", "(public n)"), len(TABLES) + 3),
+    ("public lines for labelled tables", after(TABLES, "(public t)", "(public c)", "(row r free 4 z)", "(public r)", "(public e)", "(row e (Ida free) (40 noads))"), len(TABLES) + 6),
+    ("8 tables, all public", some(8, "(table t{} none (a num))") + some(8, "(public t{})"), 16),
+    ("1,024 rows and a public line", row_fill(1024) + ["(public n)"], len(TABLES) + 1025),
+    ("public as a name", ["(purpose public)", "(role public)", "(table public none (public name))", "(public public)", "(row public public)"], 5),
+    ("a public line in capitals", after(TABLES, "(PUBLIC N)"), len(TABLES) + 1),
     # names without case (02, Q-8)
     ("a keyword in another case", ["(Purpose all)"], 1),
     ("all in capitals", [line.upper() for line in ROWS], len(ROWS)),
@@ -165,6 +177,12 @@ CASES = [
     ("table without column", after(LABELS, "(table x none)"), (2, len(LABELS), None)),
     ("table of another scheme", after(LABELS, "(table x nest (a num))"), (2, len(LABELS), None)),
     ("column scheme without label", after(LABELS, "(table x column (a num))"), (2, len(LABELS), None)),
+    ("public without a table", after(TABLES, "(public)"), (2, len(TABLES), None)),
+    ("public with two tables", after(TABLES, "(public n t)"), (2, len(TABLES), None)),
+    ("public with a number", after(TABLES, "(public 1)"), (2, len(TABLES), None)),
+    ("public with a bracket", after(TABLES, "(public (n))"), (2, len(TABLES), None)),
+    ("another word for public", after(TABLES, "(publick n)"), (2, len(TABLES), None)),
+    ("an unfinished public line", ("\n".join(TABLES) + "\n(public n)").encode(), (2, len(TABLES), None)),
     ("one more than the largest number", after(TABLES, "(row t 9223372036854775808)"), (2, len(TABLES), None)),
     ("one less than the least number", after(TABLES, "(row t -9223372036854775809)"), (2, len(TABLES), None)),
     ("-0", after(TABLES, "(row t -0)"), (2, len(TABLES), None)),
@@ -200,6 +218,13 @@ CASES = [
     ("unknown name twice in the denied set", after(LABELS, "(label l (allow) (deny nix nix))"), (4, len(LABELS), ("nix", 1))),
     ("table taken", after(TABLES, "(table e none (a num))"), (4, len(TABLES), ("e", 0))),
     ("column twice", after(LABELS, "(table x none (aa num) (bb num) (aa name))"), (4, len(LABELS), ("aa", 1))),
+    ("a second public line", after(TABLES, "(public n)", "(public n)"), (4, len(TABLES) + 1, ("n", 0))),
+    ("a second public line in another case", after(TABLES, "(public n)", "(PUBLIC N)"), (4, len(TABLES) + 1, ("N", 0))),
+    ("a second public line behind rows", after(ROWS, "(row n 2 y)", "(public n)"), (4, len(ROWS) + 1, ("n", 0))),
+    ("a second public line for a table's label", after(TABLES, "(public t)", "(public t)"), (4, len(TABLES) + 1, ("t", 0))),
+    ("a second public line for columns' labels", after(TABLES, "(public c)", "(public n)", "(public c)"), (4, len(TABLES) + 2, ("c", 0))),
+    ("a second public line for rows' labels", after(TABLES, "(public r)", "(public R)"), (4, len(TABLES) + 1, ("R", 0))),
+    ("a second public line for cells' labels", after(TABLES, "(public e)", "(row e (Ida free) (40 noads))", "(public e)"), (4, len(TABLES) + 2, ("e", 0))),
     ("purpose taken in another case", after(BASE, "(purpose Ads bill)"), (4, len(BASE), ("Ads", 0))),
     ("the root's name in another case", ["(purpose all)", "(purpose ALL)"], (4, 1, ("ALL", 0))),
     ("role taken in another case", after(BASE, "(role DESK)"), (4, len(BASE), ("DESK", 0))),
@@ -235,6 +260,12 @@ CASES = [
     ("row with an unknown label", after(TABLES, "(row r nix 1 x)"), (5, len(TABLES), ("nix", 0))),
     ("row whose leading name is no label", after(TABLES, "(row r x)"), (5, len(TABLES), ("x", 0))),
     ("cell with an unknown label", after(TABLES, "(row e (Ida free) (40 nix))"), (5, len(TABLES), ("nix", 0))),
+    ("public with an unknown table", after(TABLES, "(public nix)"), (5, len(TABLES), ("nix", 0))),
+    ("public with an unknown table twice", after(TABLES, "(public nix)", "(public nix)"), (5, len(TABLES), ("nix", 0))),
+    ("public before its table", after(LABELS, "(public x)", "(table x none (a num))"), (5, len(LABELS), ("x", 0))),
+    ("public with no table at all", ["(public t)"], (5, 0, ("t", 0))),
+    ("public with a name of another kind", after(TABLES, "(public desk)"), (5, len(TABLES), ("desk", 0))),
+    ("public with a table's name and more", after(TABLES, "(public nn)"), (5, len(TABLES), ("nn", 0))),
     # ---- 6
     ("second root purpose", after(BASE, "(purpose more)"), (6, len(BASE), None)),
     # ---- 7

@@ -57,6 +57,7 @@ RICH = [
     "(label rootless (allow all) (deny all))",
     "(label nopost (allow all) (deny post))",
     "(table plain none (who name) (due num))",
+    "(public plain)",
     "(table led table noads (who name) (due num))",
     "(table cols column (who name free) (due num billing) (tag name nopost))",
     "(table recs row (who name) (due num))",
@@ -76,6 +77,7 @@ RICH = [
     "(row sub (Bo free) (75 noads))",
     "(row nums -9223372036854775808)",
     "(row nums 0)",
+    "(public nums)",
     "(row nums 9223372036854775807)",
     "(row sub (Cy noads) (60 free))",
     "(row sub (Dot free) (50 shut))",
@@ -123,6 +125,16 @@ def of_words(purpose, names):
     return one(f"four words, asked for {purpose}", f"(select ana desk {purpose} recs (who))", answer, DAY, words("p0"))
 
 
+# tables without labels (02, Q-2): none declared public, and every other table declared public too
+UNDECLARED = [line for line in RICH if not line.startswith("(public ")]
+LABELLED = RICH + ["(public led)", "(public cols)", "(public recs)", "(public sub)", "(PUBLIC Dark)"]
+
+
+def declared(*lines):
+    """A policy with a table without labels and one more, and these lines behind them."""
+    return SAMPLE[:4] + ASKER + ["(grant all any)", "(table open none (k num))", "(table other none (k num))", *lines]
+
+
 # names without case (02, Q-8)
 CAPITALS = [line.upper() for line in SAMPLE]
 TWO_CASES = ["(purpose All)", "(purpose Ads ALL)"] + ASKER + [
@@ -142,8 +154,9 @@ HOURS = [
     "(cond-role c desk (or (lt Hour 17) (eq teaM red)))",
     "(grant p C)",
     "(table t none (k num))",
+    "(public t)",
 ]
-MIXED = SAMPLE[:4] + ASKER + ["(grant all any)", "(table names none (k name))"] + [
+MIXED = SAMPLE[:4] + ASKER + ["(grant all any)", "(table names none (k name))", "(public names)"] + [
     f"(row names {name})" for name in ["ada", "Ada", "ADA", "ad", "ada-", "ada_", "ada0", "adA-z"]
 ]
 
@@ -167,7 +180,7 @@ def nested(depth):
 
 def wide(n):
     """A policy with n rows of a name of 24 bytes."""
-    return SAMPLE[:11] + ["(table long none (who name))"] + ["(row long " + "a" * 24 + ")"] * n
+    return SAMPLE[:11] + ["(table long none (who name))", "(public long)"] + ["(row long " + "a" * 24 + ")"] * n
 
 
 SIXTEEN = " ".join(["who"] * 16)
@@ -270,7 +283,36 @@ SESSIONS = [
     # 18
     one("an answer of 59,696 bytes", "(select ana desk post long (" + SIXTEEN + "))", [LONG_ROW] * 147 + [end(147, 0, 0)], DAY, wide(147)),
     one("an answer of 60,102 bytes", "(select ana desk post long (" + SIXTEEN + "))", (18, None), DAY, wide(148)),
-    # scheme none
+    # scheme none: 17 until it is declared public (02, Q-2)
+    one("undeclared", "(select ana desk post plain (due who))", (17, "plain"), DAY, UNDECLARED),
+    one("undeclared, count", "(count ana desk bill plain)", (17, "plain"), DAY, UNDECLARED),
+    one("undeclared, count with a condition", "(count ana desk bill plain (lt due 0))", (17, "plain"), DAY, UNDECLARED),
+    one("undeclared, the root", "(count bob night all plain)", (17, "plain"), NIGHT, UNDECLARED),
+    one("undeclared, the lowest purpose", "(count ana desk mail nums)", (17, "nums"), DAY, UNDECLARED),
+    one("undeclared, in another case", "(count ana desk bill PLAIN)", (17, "PLAIN"), DAY, UNDECLARED),
+    one("undeclared, no rows", "(count ana desk bill other)", (17, "other"), DAY, declared("(public open)")),
+    one("undeclared, a name of the query before the table's", "(count ana desk bill desk)", (17, ("desk", 1)), DAY, declared("(table desk none (k num))")),
+    one("undeclared, 14 before 17", "(count ana desk all plain)", (14, "all"), DAY, UNDECLARED),
+    one("undeclared, 15 before 17", "(select ana desk bill plain (who tag))", (15, "tag"), DAY, UNDECLARED),
+    one("undeclared, 16 before 17", "(count ana desk bill plain (eq due Ida))", (16, "Ida"), DAY, UNDECLARED),
+    one("undeclared, 17 before 18", "(select ana desk post long (" + SIXTEEN + "))", (17, "long"), DAY, [line for line in wide(148) if line != "(public long)"]),
+    one("undeclared, the labelled tables as ever", "(select ana desk bill recs (who) (gt due 15))", ["(row Gus)", "(row Hal)", end(2, 1, 1)], DAY, UNDECLARED),
+    ("declared before the rows", declared("(public open)", "(row open 1)", "(row open 2)"), [DAY, "(select ana desk all open (k))", "(count ana desk post open (gt k 1))"], [["(row 1)", "(row 2)", end(2, 0, 0)], [end(1, 0, 1)]]),
+    ("declared between the rows", declared("(row open 1)", "(public open)", "(row open 2)"), [DAY, "(select ana desk bill open (k))"], [["(row 1)", "(row 2)", end(2, 0, 0)]]),
+    ("declared behind the rows", declared("(row open 1)", "(row other 3)", "(row open 2)", "(public open)"), [DAY, "(select ana desk ads open (k))"], [["(row 1)", "(row 2)", end(2, 0, 0)]]),
+    ("declared in capitals", declared("(row open 1)", "(PUBLIC OPEN)"), [DAY, "(select ana desk post open (k))"], [["(row 1)", end(1, 0, 0)]]),
+    ("one of two declared", declared("(public other)", "(row other 3)", "(row open 1)"), [DAY, "(count ana desk post open)", "(count ana desk post other)"], [(17, "open"), [end(1, 0, 0)]]),
+    ("both declared", declared("(public other)", "(row other 3)", "(public open)", "(row open 1)"), [DAY, "(count ana desk post open)", "(select ana desk post other (k))"], [[end(1, 0, 0)], ["(row 3)", end(1, 0, 0)]]),
+    # on a labelled table the line does nothing
+    one("public and closed by the table's label", "(count ana desk mail led)", (17, "led"), DAY, LABELLED),
+    one("public and a denied root", "(count ana desk bill dark)", (17, "dark"), DAY, LABELLED),
+    one("public and open by the table's label", "(select ana desk bill led (who due))", ["(row Cy 1)", end(1, 0, 0)], DAY, LABELLED),
+    one("public and a column closed", "(select ana desk post cols (who tag due))", (17, "tag"), DAY, LABELLED),
+    one("public and the open columns", "(select ana desk post cols (who))", ["(row Dee)", "(row Eve)", end(2, 0, 0)], DAY, LABELLED),
+    one("public and rows closed", "(select ana desk post recs (who due))", ["(row Fay 10)", end(1, 3, 0)], DAY, LABELLED),
+    one("public and cells closed", "(select ana desk post sub (who) (gt due 50))", [end(0, 3, 1)], DAY, LABELLED),
+    one("public and no cell named", "(count ana desk post sub)", [end(4, 0, 0)], DAY, LABELLED),
+    # scheme none, declared public
     one("none", "(select ana desk post plain (due who))", ["(row 40 Ida)", "(row -75 Bo)", end(2, 0, 0)]),
     one("none, count", "(count ana desk post plain (lt due 0))", [end(1, 0, 1)]),
     one("repeats", "(select ana desk bill plain (who who due who) (eq due -75))", ["(row Bo Bo -75 Bo)", end(1, 0, 1)]),
@@ -373,7 +415,11 @@ def printed(query, expected):
         return "".join(line + "\n" for line in expected)
     number, item = expected
     start = length = 0
-    if item is WHOLE:
+    if isinstance(item, tuple):
+        word, nth = item
+        start = [place for place in range(len(query)) if query.startswith(word, place)][nth]
+        length = len(word)
+    elif item is WHOLE:
         length = len(query.encode())
     elif item is not None:
         start, length = query.index(item), len(item)
@@ -397,5 +443,9 @@ def cases():
     yield "unfinished policy", sample + b"(purpose", (DAY + "\n" + SAMPLE_QUERY + "\n").encode(), f"(refused 2 document {len(sample)} 8)\n".encode()
     yield "policy of 60,001 bytes", b"x" * 60001, b"", b"(refused 1 document 0 0)\n"
     yield "a refused policy with no input", sample + b"(grant ads nobody)\n", b"", f"(refused 5 document {len(sample) + 11} 6)\n".encode()
+    once = "".join(line + "\n" for line in declared("(public open)", "(row open 1)"))
+    yield "a second public line", (once + "(public open)\n").encode(), (DAY + "\n").encode(), f"(refused 4 document {len(once) + 8} 4)\n".encode()
+    yield "a second public line in another case", (once + "(PUBLIC Open)\n").encode(), (DAY + "\n").encode(), f"(refused 4 document {len(once) + 8} 4)\n".encode()
+    yield "a public line for an unknown table", (once + "(public nowhere)\n").encode(), (DAY + "\n").encode(), f"(refused 5 document {len(once) + 8} 7)\n".encode()
     yield "a zero byte in a query", sample, LEAP.encode() + b"\n(count ana desk post sub\0)\n", b"(refused 11 query 0 26)\n"
     yield "bytes above 127", sample, LEAP.encode() + b"\n\xff\xfe\xc3\xa9\n", b"(refused 11 query 0 4)\n"
