@@ -180,9 +180,13 @@ impl Case {
 /// The document of a scheme with at most so many bytes, and as many rows as fit.
 fn document(scheme: Scheme, bytes: usize) -> Vec<u8> {
     let mut text = String::from(POLICY);
-    text.push_str("(table sites none (site name) (seats num))\n");
+    text.push_str("(table sites none (site name) (seats num))\n(public sites)\n");
     text.push_str("(row sites north 14)\n(row sites south 9)\n");
     text.push_str(&table_line(scheme));
+    if scheme == Scheme::None {
+        // 02, Q-2: without this line no query of it is answered.
+        text.push_str("(public sub)\n");
+    }
     let mut sequence = Sequence(0x9e37_79b9_7f4a_7c15);
     for number in 0..MOST_ROWS {
         let line = row_line(scheme, &mut sequence, number);
@@ -233,7 +237,7 @@ pub fn chain(size: &'static str, purposes: usize) -> Case {
         text.push_str(&format!("(purpose {} {})\n", purpose(number), purpose(number - 1)));
     }
     text.push_str("(role desk)\n(user ana desk)\n(cond-role any desk (ge hour 0))\n");
-    text.push_str(&format!("(grant {} any)\n(table sub none (c00 num) (c01 num))\n", purpose(0)));
+    text.push_str(&format!("(grant {} any)\n(table sub none (c00 num) (c01 num))\n(public sub)\n", purpose(0)));
     Case {
         scheme: CHAIN,
         size,
@@ -324,7 +328,7 @@ fn condition(scheme: &'static str, joined: &str, compared: fn(usize) -> String) 
 /// A policy without conditions or labels, and one table of these columns with 1,024 rows of these values.
 fn plain_rows(columns: &str, values: &str) -> Vec<u8> {
     let mut text = String::from("(purpose all)\n(role desk)\n(user ana desk)\n(cond-role any desk (ge hour 0))\n(grant all any)\n");
-    text.push_str(&format!("(table sub none{columns})\n"));
+    text.push_str(&format!("(table sub none{columns})\n(public sub)\n"));
     text.push_str(&format!("(row sub{values})\n").repeat(1_024));
     text.into_bytes()
 }

@@ -236,11 +236,14 @@ fn columns(names: &[String]) -> Vec<u8> {
     filled(text, (0..8).map(|number| format!("(table t{number} column{columns})\n")))
 }
 
-/// 8 tables, and rows of each in turn.
+/// 8 tables, all of them public, and rows of each in turn.
 fn tables(names: &[String]) -> Vec<u8> {
     let mut text = String::from(HEAD);
     for name in &names[..8] {
         text.push_str(&format!("(table {name} none (c num))\n"));
+    }
+    for name in &names[..8] {
+        text.push_str(&format!("(public {name})\n"));
     }
     filled(text, (0..1_024).map(|number| format!("(row {} 1)\n", names[number % 8])))
 }
