@@ -52,7 +52,7 @@ enum gate_outcome {
     GATE_WRONG_FORM = 2,           /* wrong form (line unfinished, blank, number out of range, too deep); part: the whole line */
     GATE_OVER_BOUND = 3,           /* a bound exceeded; part: the whole line */
     GATE_NAME_TAKEN = 4,           /* name taken; part: the later of two equal names; of a user and role given before,
-                                      the role */
+                                      the role; of a table declared public before, the table */
     GATE_NAME_UNKNOWN = 5,         /* name unknown; part: the name */
     GATE_SECOND_ROOT = 6,          /* a second root purpose; part: the whole line */
     GATE_WRONG_VALUES = 7,         /* a row or user without the right count or set of values, or row items not shaped for the
