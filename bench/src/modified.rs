@@ -163,7 +163,8 @@ impl Table {
 /// What the label of a whole row is a label of. No column has this name.
 const ROW: &str = "whole_row";
 
-/// What the peers hold of a document. Labels of tables and columns are rows of a table of their own, a table's label without a column.
+/// What the peers hold of a document. Labels of tables and columns are rows of a table of their own, a table's label without a column;
+/// so are the tables that are declared public.
 pub struct Document {
     parents: Vec<(String, Option<String>)>,
     labels: Vec<Label>,
@@ -180,16 +181,18 @@ fn by_masks(of: &str, [above, related]: [Mask; 2]) -> String {
     format!("({of}allowed & {above}) <> 0 AND ({of}denied & {related}) = 0")
 }
 
-/// The table of labels of tables and columns.
+/// The table of labels of tables and columns, which is the first.
 const LABELS: &str = "labels";
+/// The table of the tables that are declared public (02, Q-2), which is the second.
+const PUBLIC: &str = "public_tables";
 
 impl Document {
     pub fn read(text: &[u8], held: Held, compared: Compared) -> Document {
         let mut document = Document { parents: Vec::new(), labels: Vec::new(), held, compared, tables: Vec::new() };
-        document.tables.push(document.table(LABELS, "none", Vec::new()));
-        for (name, holds_numbers) in [("of_table", false), ("of_column", false), ("allowed", true), ("denied", true)] {
-            document.tables[0].columns.push(Column { name: name.into(), holds_numbers });
-        }
+        let column = |(name, holds_numbers): (&str, bool)| Column { name: name.into(), holds_numbers };
+        let columns = [("of_table", false), ("of_column", false), ("allowed", true), ("denied", true)];
+        document.tables.push(document.table(LABELS, "none", columns.map(column).into()));
+        document.tables.push(document.table(PUBLIC, "none", vec![column(("of_table", false))]));
         for line in std::str::from_utf8(text).expect("an accepted text").lines() {
             let form = read(line);
             let [kind, name, rest @ ..] = form.list() else { panic!("a line has a name") };
@@ -200,6 +203,7 @@ impl Document {
                     document.labels.push(Label { name: name.word().into(), allowed, denied });
                 }
                 "table" => document.add_table(name.word(), rest),
+                "public" => document.tables[1].rows.push(vec![Value::Name(name.word().into())]),
                 "row" => document.add_row(name.word(), rest),
                 _ => {}
             }
@@ -266,6 +270,12 @@ impl Document {
         self.tables[place].rows.push(row);
     }
 
+    /// Whether a table has labels or is declared public: another one is closed to every purpose (02, Q-2).
+    pub fn serves(&self, table: &Table) -> bool {
+        let mut public = self.tables[1].rows.iter().flatten();
+        table.scheme != "none" || public.any(|value| matches!(value, Value::Name(name) if *name == table.name))
+    }
+
     fn ancestors<'a>(&'a self, purpose: &'a str) -> Vec<&'a str> {
         let mut found = vec![purpose];
         while let Some((_, Some(parent))) = self.parents.iter().find(|(name, _)| name == found[found.len() - 1]) {
@@ -310,6 +320,7 @@ impl Document {
         let holds_numbers = |name: &String| table.columns.iter().any(|column| column.name == *name && column.holds_numbers);
         Modified {
             closed: match table.scheme.as_str() {
+                "none" => Some(format!("SELECT 1 - count(*) FROM {PUBLIC} WHERE of_table = '{name}'")),
                 "table" => Some(closed("of_column = ''".into())),
                 "column" => Some(closed(format!("of_column IN ({})", quoted.join(", ")))),
                 _ => None,
@@ -353,7 +364,8 @@ fn condition(form: &Form, compared: Compared, named: &mut Vec<String>) -> String
 
 /// A query that is modified for its purpose.
 pub struct Modified {
-    /// Counts what is closed of the table's label or of the named columns'; where it finds one there is no answer.
+    /// Counts what is closed of the table's label or of the named columns', or the table if it has no labels and isn't public; where it
+    /// finds one there is no answer.
     pub closed: Option<String>,
     /// Whether a row is open, where rows or cells have labels.
     pub opened: Option<String>,
