@@ -1,24 +1,21 @@
--- The printed rows of a select that repeats no column are no longer than the rows' lines. For the reserve. Assumes nothing.
+-- The line of a row that a select prints, if it repeats no column, is no longer than that of all columns. For the reserve. Assumes
+-- nothing.
 use Prim.Native.Nat.{_+_, _<_, _≤_, suc, zero, zero-le, ℕ}
-use borrow.Author.Tests.{eqb-true, ne-eqb}
+use borrow.Author.Tests.{ne-eqb}
 use lib.Dec.{eqb}
-use lib.ListN.{getD, getElem?, length, length-append}
+use lib.ListN.{getD, length, length-append}
 use mathlib.Core.Bool.{Bool, _||_, cond, false, false≢true, true, true≢false}
 use mathlib.Core.List.{List, [], _++_, _∷_, flatten, map}
-use mathlib.Core.Option.{Option}
 use mathlib.Core.Path.{_∙_, _≡_, ap, refl, subst, sym}
 use native.Mathlib.Nat.{le-refl, not-suc-le-zero}
 use native.Mathlib.Omega.{arith}
-use Rattle.document.proofs.RowsFit.{AllFit, countAt, rowsCost, valuesCost}
-use Rattle.document.specs.Open.{rowWithheld}
-use Rattle.document.specs.Policy.{Row, Table}
-use Rattle.form.specs.Form.{Scheme}
-use Rattle.answer.specs.Answer.{lineOf, rowLine}
-use Rattle.answer.specs.Seen.{onlyNamed, rowsIn, seenRow, shown, withheld}
+use Rattle.answer.specs.Answer.{rowLine}
+use Rattle.answer.specs.Reserve.{columnsFrom, wholeLine}
+use Rattle.answer.specs.Seen.{onlyNamed}
 use Rattle.text.proofs.ReaderLaws.{listCost}
 use Rattle.lists.proofs.Tests.{eqb-self}
 use Rattle.text.specs.Bytes.{ascii}
-use Rattle.lists.specs.Lists.{anyOf, keep, member}
+use Rattle.lists.specs.Lists.{anyOf, member}
 use Rattle.text.specs.Numbers.{Value}
 
 differ : (m n : ℕ) → m < n → eqb n m ≡ false
@@ -126,40 +123,19 @@ rowLine-length : (cs : List ℕ) (vs : List Value) → length (rowLine cs vs) �
 unfolding rowLine
 rowLine-length cs vs = length-append (ascii "(row" ++ flatten (map (λ c. 32 ∷ getD vs c []) cs)) (ascii ")\n") ∙ omega (arith, length-append (ascii "(row") (flatten (map (λ c. 32 ∷ getD vs c []) cs)), items-length vs cs)
 
--- the line of a row, if it has one, is no longer than the row's cost
-line-cost : (passes : List Value → Bool) (isOpen : Option ℕ → Bool) (s : Scheme ℕ) (hs ns cs : List ℕ) (r : Row) → Distinct [] cs → AllBelow (length (r .values)) cs
-    → length (lineOf passes cs (seenRow isOpen s hs ns r)) ≤ valuesCost (r .values)
-unfolding seenRow lineOf valuesCost
-line-cost passes isOpen s hs ns cs r u b = outer (rowWithheld isOpen s hs (r .labels))
-  where
-    vs : List Value
-    vs = onlyNamed ns 0 (r .values)
+-- the line of all columns, where the values vs are those of ws from number i on
+columns-length : (ws vs : List Value) (i : ℕ) → ((j : ℕ) → getD ws (i + j) [] ≡ getD vs j []) → colsCost ws (columnsFrom i vs) ≡ listCost length vs
+unfolding colsCost columnsFrom listCost
+columns-length ws [] i h = refl
+columns-length ws (v ∷ vs) i h =
+    let here : getD ws i [] ≡ v = ap (λ (k : ℕ). getD ws k []) (omega arith) ∙ h 0 in
+    let rest = columns-length ws vs (suc i) (λ j. ap (λ (k : ℕ). getD ws k []) (omega arith) ∙ h (suc j)) in
+    omega (arith, ap length here, rest)
 
-    inner : (t : Bool) → length (cond t (rowLine cs vs) []) ≤ 7 + listCost length (r .values)
-    inner true = omega (arith, rowLine-length cs vs, named-cost ns (r .values) cs, distinct-cost (r .values) cs u b)
-    inner false = zero-le
+pub whole-length : (vs : List Value) → length (wholeLine vs) ≡ 6 + listCost length vs
+unfolding wholeLine
+whole-length vs = rowLine-length (columnsFrom 0 vs) vs ∙ ap (λ n. 6 + n) (columns-length vs vs 0 (λ j. ap (λ (k : ℕ). getD vs k []) (omega arith)))
 
-    outer : (t : Bool) → length (lineOf passes cs (cond t withheld (shown vs))) ≤ 7 + listCost length (r .values)
-    outer true = zero-le
-    outer false = inner (passes vs)
-
--- the printed rows of a table are no longer than all rows
-pub lines-cost : (passes : List Value → Bool) (isOpen : Option ℕ → Bool) (s : Scheme ℕ) (hs ns cs : List ℕ) (t : ℕ) (ts : List Table) (rs : List Row) → Distinct [] cs → AllBelow (countAt (getElem? ts t)) cs → AllFit ts rs
-    → length (flatten (map (lineOf passes cs) (map (seenRow isOpen s hs ns) (rowsIn t rs)))) ≤ rowsCost rs
-unfolding flatten rowsIn keep rowsCost
-lines-cost passes isOpen s hs ns cs t ts [] u b f = zero-le
-lines-cost passes isOpen s hs ns cs t ts (r ∷ rs) u b f = go (lines-cost passes isOpen s hs ns cs t ts rs u b (f .1)) (eqb (r .table) t) refl
-  where
-    rest : List Row
-    rest = keep (λ r. eqb (r .table) t) rs
-
-    go : length (flatten (map (lineOf passes cs) (map (seenRow isOpen s hs ns) rest))) ≤ rowsCost rs → (x : Bool) → eqb (r .table) t ≡ x
-        → length (flatten (map (lineOf passes cs) (map (seenRow isOpen s hs ns) (cond x (r ∷ rest) rest)))) ≤ valuesCost (r .values) + rowsCost rs
-    go ih true p = omega (
-      arith,
-      ih,
-      length-append (lineOf passes cs (seenRow isOpen s hs ns r)) (flatten (map (lineOf passes cs) (map (seenRow isOpen s hs ns) rest))),
-      line-cost passes isOpen s hs ns cs r u
-          (subst (λ (n : ℕ). AllBelow n cs) (ap (λ (i : ℕ). countAt (getElem? ts i)) (sym (eqb-true (r .table) t p)) ∙ sym (f .0 .wide)) b),
-    )
-    go ih false p = omega (arith, ih)
+-- what is seen of a row, printed, takes no more than the row with all its columns
+pub row-cost : (ns cs : List ℕ) (vs : List Value) → Distinct [] cs → AllBelow (length vs) cs → length (rowLine cs (onlyNamed ns 0 vs)) ≤ length (wholeLine vs)
+row-cost ns cs vs u b = omega (arith, rowLine-length cs (onlyNamed ns 0 vs), whole-length vs, named-cost ns vs cs, distinct-cost vs cs u b)

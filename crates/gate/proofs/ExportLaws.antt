@@ -6,11 +6,12 @@ use mathlib.Core.Path.{_∙_, _≡_, ap, refl, subst, sym}
 use native.Mathlib.Omega.{arith}
 use Rattle.answer.specs.Ask.{Outcome, ask, measure}
 use Rattle.answer.specs.Ask as meant
-use Rattle.answer.specs.Reserve.{IsReserve}
-use Rattle.gate.specs.Outcome.{Reserved, checkedAs, linesOnly}
+use Rattle.answer.specs.Reserve.{IsReserve, Taken}
+use Rattle.answer.specs.Reserve as reserve
+use Rattle.gate.proofs.DocumentLaws.{accepted-checked, code-checked}
+use Rattle.gate.specs.Outcome.{checkedAs}
 use Rattle.gate.specs.declared.documents.Checked.{Checked}
 use Rattle.gate.specs.declared.documents.Checked.the-variants as checked
-use Rattle.document.specs.Check.{Accepted, check}
 use Rattle.gate.specs.Exports.{ExportsAsk, ExportsCheck, ExportsImport, ExportsMeasure, ExportsMeasureImport, ExportsRefusal, StoresAnswer, StoresLength, askFigures, checkFigures, codeOf, measureFigures}
 use Rattle.loaded.specs.Outside.{Asks, Measures, measuredAs}
 use Rattle.stages.specs.Figures.{Figures, answeredAs, figuresOf, inFigures}
@@ -55,18 +56,7 @@ numbered MalformedRecord e = omega (arith, e)
 numbered UnfitField e = omega (arith, e)
 numbered ImportTooShort e = omega (arith, e)
 
--- the outcome of a check and its number of lines have one code, and the one is accepted where the other is
-pub code-lines : (o : Result Accepted) → codeOf (linesOnly o) ≡ codeOf o
-unfolding codeOf linesOnly
-code-lines (refused r) = refl
-code-lines (accepted a) = refl
-
-lines-accepted : (o : Result Accepted) (n : ℕ) → linesOnly o ≡ accepted n → (a : Accepted) × (o ≡ accepted a)
-unfolding linesOnly
-lines-accepted (refused r) n e = not-refused e
-lines-accepted (accepted a) n e = (a, refl)
-
--- the outcome of asking and its figures likewise
+-- the outcome of asking and its figures have one code, and the one is accepted where the other is
 code-figures : (o : Outcome) → codeOf (inFigures o) ≡ codeOf o
 unfolding codeOf inFigures
 code-figures (refused r) = refl
@@ -81,9 +71,9 @@ figures-accepted (accepted a) x e = (a, refl)
 pub refused-check : (doc figures : List ℕ) (n : ℕ) (x : Checked) (r : Refusal) → ChecksDocument doc x → x ≡ checked.Refused r → ExportsRefusal (refusalOf r) figures n → ExportsCheck doc figures n
 unfolding checkedAs codeOf checkFigures
 refused-check doc figures n x r h told f =
-    let e : refused (refusalOf r) ≡ linesOnly (check doc) = sym (ap checkedAs told) ∙ h .is .is in
+    let e : refused (refusalOf r) ≡ reserve.checked doc = sym (ap checkedAs told) ∙ h .is .is in
     record {
-      code = f .code ∙ ap codeOf e ∙ code-lines (check doc);
+      code = f .code ∙ ap codeOf e ∙ code-checked doc;
       filled = f .filled ∙ ap checkFigures e;
       accepts = λ z. absurd (numbered (r .reason) (sym (f .code) ∙ z));
       reserve = λ z. absurd (numbered (r .reason) (sym (f .code) ∙ z));
@@ -91,14 +81,15 @@ refused-check doc figures n x r h told f =
 
 -- a document that is accepted
 pub accepted-check : (doc figures : List ℕ) (x : Checked) (n m : ℕ) → ChecksDocument doc x → x ≡ checked.Accepted n m → figures ≡ n ∷ m ∷ 0 ∷ 0 ∷ 0 ∷ [] → ExportsCheck doc figures 0
-unfolding checkedAs codeOf checkFigures Reserved HasReserve
+unfolding checkedAs codeOf checkFigures HasReserve
 accepted-check doc figures x n m h told f =
-    let e : accepted n ≡ linesOnly (check doc) = sym (ap checkedAs told) ∙ h .is .is in
-    let same : m ≡ 60021 = subst Reserved told (h .is .reserve) in
+    let t : Taken = record { lines = n; reserve = m } in
+    let e : accepted t ≡ reserve.checked doc = sym (ap checkedAs told) ∙ h .is .is in
+    let a = accepted-checked doc t e in
     record {
-      code = ap codeOf e ∙ code-lines (check doc);
-      filled = f ∙ ap (λ k. n ∷ k ∷ 0 ∷ 0 ∷ 0 ∷ []) same ∙ ap checkFigures e;
-      accepts = λ z. lines-accepted (check doc) n (sym e);
+      code = ap codeOf e ∙ code-checked doc;
+      filled = f ∙ ap checkFigures e;
+      accepts = λ z. (a .0, a .1);
       reserve = λ z. subst (λ l. IsReserve doc (getD l 1 0)) (sym f) (subst (HasReserve doc) told (h .reserve));
     }
 

@@ -4,8 +4,7 @@ use lib.ListN.{getD, length}
 use mathlib.Core.List.{List, [], _∷_}
 use mathlib.Core.Path.{_≡_}
 use Rattle.answer.specs.Ask.{Answered, after, ask, measure}
-use Rattle.answer.specs.Reserve.{IsReserve}
-use Rattle.gate.specs.Outcome.{linesOnly}
+use Rattle.answer.specs.Reserve.{IsReserve, Taken, checked}
 use Rattle.document.specs.Check.{Accepted, check}
 use Rattle.import.specs.Importing.{afterImport, importing, lengthOnly, measureImport}
 use Rattle.query.specs.Authority.{Clock}
@@ -29,9 +28,9 @@ unfoldable pub refusalFigures : Refusal → List ℕ
 refusalFigures r = sourceCode (r .source) ∷ r .start ∷ r .len ∷ 0 ∷ 0 ∷ []
 
 -- the figures of a check: the number of lines and the reserve, or those of the refusal
-unfoldable pub checkFigures : Result ℕ → List ℕ
+unfoldable pub checkFigures : Result Taken → List ℕ
 checkFigures (refused r) = refusalFigures r
-checkFigures (accepted n) = n ∷ 60021 ∷ 0 ∷ 0 ∷ 0 ∷ []
+checkFigures (accepted t) = t .lines ∷ t .reserve ∷ 0 ∷ 0 ∷ 0 ∷ []
 
 -- the figures of asking: the answer's length, the grant and the three counts, or those of the refusal
 unfoldable pub askFigures : Result Figures → List ℕ
@@ -53,10 +52,10 @@ pub record ExportsRefusal (r : Refusal) (figures : List ℕ) (n : ℕ) : Type 0 
   pub filled : figures ≡ refusalFigures r
 
 -- the code n and the figures are those of the check of the document; where n is 0, the document is accepted, and the second
--- figure is a reserve of it
+-- figure does as a reserve of it
 pub record ExportsCheck (doc figures : List ℕ) (n : ℕ) : Type 0 where
   pub code : n ≡ codeOf (check doc)
-  pub filled : figures ≡ checkFigures (linesOnly (check doc))
+  pub filled : figures ≡ checkFigures (checked doc)
   pub accepts : n ≡ 0 → (a : Accepted) × (check doc ≡ accepted a)
   pub reserve : n ≡ 0 → IsReserve doc (getD figures 1 0)
 

@@ -1,6 +1,6 @@
 // Asking: a query over a document, its answer in a lent buffer.
-use crate::documents::Checked;
-use crate::documents::load;
+use crate::documents::hold;
+use checker::loading::Loaded;
 use loaded::asks::ask_loaded;
 use loaded::cells::CELLS;
 use query::clock::Clock;
@@ -34,7 +34,7 @@ pub fn ask(doc: &[u8], query: &[u8], clock: Clock, out: &mut [u8]) -> Answered
     let mut tables = [0usize; TABLE_CELLS];
     let mut rows = [0usize; ROW_CELLS];
     let mut cells = [0usize; CELLS];
-    let r = load(
+    let r = hold(
         doc,
         &mut purposes,
         &mut roles,
@@ -49,8 +49,8 @@ pub fn ask(doc: &[u8], query: &[u8], clock: Clock, out: &mut [u8]) -> Answered
         &mut cells,
     );
     match r {
-        Checked::Refused(x) => Answered::Refused(x),
-        Checked::Accepted(_, _) => ask_loaded(
+        Loaded::Refused(x) => Answered::Refused(x),
+        Loaded::Accepted(_, _) => ask_loaded(
             doc,
             &purposes,
             &roles,

@@ -4,6 +4,7 @@ use checker::loading::Loaded;
 use loaded::cells::CELLS;
 use loaded::cells::store_counts;
 use loaded::cells::store_none;
+use reserve::longest::reserve;
 use text::refusals::Refusal;
 use workspace::layout::ATTRIBUTE_CELLS;
 use workspace::layout::COND_ROLE_CELLS;
@@ -15,11 +16,8 @@ use workspace::layout::ROW_CELLS;
 use workspace::layout::SET_WORDS;
 use workspace::layout::TABLE_CELLS;
 use workspace::layout::USER_CELLS;
-ghost use Rattle.gate.specs.Loads.{LoadsDocument};
+ghost use Rattle.gate.specs.Loads.{HoldsArrays, LoadsDocument};
 ghost use Rattle.gate.specs.Reserved.{ChecksDocument};
-
-// How many bytes hold every answer.
-const RESERVE: usize = 60021;
 
 // What the check of a document says: the number of lines with the reserve, or a refusal.
 pub enum Checked {
@@ -28,8 +26,8 @@ pub enum Checked {
 }
 
 // The check of a document into lent arrays, which hold it then; `cells` say so, or that they hold none. What all of them held
-// before does not matter.
-pub fn load(
+// before does not matter. The reserve is left out, which asking has no use for.
+pub(crate) fn hold(
     doc: &[u8],
     purposes: &mut [usize; PURPOSE_CELLS],
     roles: &mut [usize; ROLE_CELLS],
@@ -42,8 +40,8 @@ pub fn load(
     tables: &mut [usize; TABLE_CELLS],
     rows: &mut [usize; ROW_CELLS],
     cells: &mut [usize; CELLS],
-) -> Checked
-    ensures { λ r. ⌜ LoadsDocument (now (doc .entry)) (now (purposes .exit)) (now (roles .exit)) (now (attributes .exit)) (now (users .exit)) (now (conds .exit)) (now (grants .exit)) (now (sets .exit)) (now (tables .exit)) (now (rows .exit)) (now (cells .exit)) r ⌝ }
+) -> Loaded
+    ensures { λ r. ⌜ HoldsArrays (now (doc .entry)) (now (purposes .exit)) (now (roles .exit)) (now (attributes .exit)) (now (users .exit)) (now (conds .exit)) (now (grants .exit)) (now (sets .exit)) (now (tables .exit)) (now (rows .exit)) (now (cells .exit)) r ⌝ }
 {
     let r = loading::load(
         doc,
@@ -61,16 +59,53 @@ pub fn load(
     match r {
         Loaded::Accepted(c, n) => {
             store_counts(cells, c);
-            Checked::Accepted(n, RESERVE)
+            Loaded::Accepted(c, n)
         }
         Loaded::Refused(x) => {
             store_none(cells);
-            Checked::Refused(x)
+            Loaded::Refused(x)
         }
     }
 }
 
-// The check of a document: the number of its lines and a reserve, or the first refusal.
+// The same, with the reserve.
+pub fn load(
+    doc: &[u8],
+    purposes: &mut [usize; PURPOSE_CELLS],
+    roles: &mut [usize; ROLE_CELLS],
+    attributes: &mut [usize; ATTRIBUTE_CELLS],
+    users: &mut [usize; USER_CELLS],
+    conds: &mut [usize; COND_ROLE_CELLS],
+    grants: &mut [usize; GRANT_CELLS],
+    labels: &mut [usize; LABELS],
+    sets: &mut [u64; SET_WORDS],
+    tables: &mut [usize; TABLE_CELLS],
+    rows: &mut [usize; ROW_CELLS],
+    cells: &mut [usize; CELLS],
+) -> Checked
+    ensures { λ r. ⌜ LoadsDocument (now (doc .entry)) (now (purposes .exit)) (now (roles .exit)) (now (attributes .exit)) (now (users .exit)) (now (conds .exit)) (now (grants .exit)) (now (sets .exit)) (now (tables .exit)) (now (rows .exit)) (now (cells .exit)) r ⌝ }
+{
+    let r = hold(
+        doc,
+        purposes,
+        roles,
+        attributes,
+        users,
+        conds,
+        grants,
+        labels,
+        sets,
+        tables,
+        rows,
+        cells,
+    );
+    match r {
+        Loaded::Accepted(c, n) => Checked::Accepted(n, reserve(doc, rows, c.tables, c.rows)),
+        Loaded::Refused(x) => Checked::Refused(x),
+    }
+}
+
+// The check of a document: the number of its lines and the reserve, or the first refusal.
 pub fn check(doc: &[u8]) -> Checked
     ensures { λ r. ⌜ ChecksDocument (now (doc .entry)) r ⌝ }
 {

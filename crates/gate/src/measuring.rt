@@ -1,6 +1,6 @@
 // How long an answer is, so that a host can lend exactly enough.
-use crate::documents::Checked;
-use crate::documents::load;
+use crate::documents::hold;
+use checker::loading::Loaded;
 use loaded::cells::CELLS;
 use loaded::measures::Measured;
 use loaded::measures::measure_loaded;
@@ -33,7 +33,7 @@ pub fn measure(doc: &[u8], query: &[u8], clock: Clock) -> Measured
     let mut tables = [0usize; TABLE_CELLS];
     let mut rows = [0usize; ROW_CELLS];
     let mut cells = [0usize; CELLS];
-    let r = load(
+    let r = hold(
         doc,
         &mut purposes,
         &mut roles,
@@ -48,8 +48,8 @@ pub fn measure(doc: &[u8], query: &[u8], clock: Clock) -> Measured
         &mut cells,
     );
     match r {
-        Checked::Refused(x) => Measured::Refused(x),
-        Checked::Accepted(_, _) => measure_loaded(
+        Loaded::Refused(x) => Measured::Refused(x),
+        Loaded::Accepted(_, _) => measure_loaded(
             doc,
             &purposes,
             &roles,

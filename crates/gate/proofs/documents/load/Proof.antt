@@ -1,38 +1,28 @@
--- `gate::documents::load` meets its contract, by that of the checker. Assumes nothing.
-use Rattle.gate.proofs.LoadLaws.{loads-accepted, loads-refused}
+-- `gate::documents::load` meets its contract: the reserve is found over the arrays that hold the document. Assumes nothing.
+use Rattle.gate.proofs.LoadLaws.{loads-accepted, loads-refused, told-accepted, told-refused}
 use borrow.Author.Needs.{needs}
 use Rattle.gate.proofs.documents.load.Statement.{statement}
 use Rattle.gate.proofs.documents.load.Tie as tie
 
-load-requires : tie.Need-load-requires
-load-requires c κs = search needs
+hold-requires : tie.Need-hold-requires
+hold-requires c κs = search needs
 
 enum-known-r : tie.Need-enum-known-r
 enum-known-r c = search needs
 
-store-counts-requires : tie.Need-store-counts-requires
-store-counts-requires c κs = search needs
+reserve-requires : tie.Need-reserve-requires
+reserve-requires c κs = search needs
 
 enum-known-r-2 : tie.Need-enum-known-r-2
 enum-known-r-2 c = search needs
 
-store-none-requires : tie.Need-store-none-requires
-store-none-requires c κs = search needs
-
 returns : tie.Need-returns
-returns c = loads-accepted (c .before .before .before .before .before .load .ensures .accepts _ _ (c .before .before .before .r .given .1)) (c .store-counts .ensures)
+returns c =
+    let h = told-accepted (c .before .before .before .before .before .hold .ensures) (c .before .before .before .r .given .1) in
+    loads-accepted h (c .reserve .ensures (h .what) (h .rows))
 
 returns-2 : tie.Need-returns-2
-returns-2 c = loads-refused (c .before .before .before .before .before .load .ensures .refuses _ (c .before .before .before .r2 .given .1)) (c .store-none .ensures)
+returns-2 c = loads-refused (told-refused (c .before .before .before .hold .ensures) (c .before .r2 .given .1))
 
 pub load-spec : {M : Type 1} → statement M
-load-spec =
-    tie.close
-    (tie.spec
-    load-requires
-    enum-known-r
-    store-counts-requires
-    enum-known-r-2
-    store-none-requires
-    returns
-    returns-2)
+load-spec = tie.close (tie.spec hold-requires enum-known-r reserve-requires enum-known-r-2 returns returns-2)

@@ -1,0 +1,2 @@
+-- Laws of the sums of a table's rows.
+pub mod SumLaws

@@ -1,0 +1,2 @@
+-- What is summed of the rows that the workspace holds.
+pub mod Sums

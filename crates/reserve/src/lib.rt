@@ -1,0 +1,3 @@
+// The reserve of a document that the workspace holds.
+pub mod longest;
+mod sums;
