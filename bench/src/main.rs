@@ -72,12 +72,12 @@ impl Call {
         }
     }
 
-    /// The reference's outcome in the gate's figures; the reserve, which it has not, as 0.
+    /// The reference's outcome in the gate's figures.
     fn reference(self, case: &Case, out: &mut [u8]) -> (u64, [u64; 5]) {
         let refused = |refusal: reference::Refusal| (u64::from(refusal.number), [0; 5]);
         match self {
             Call::Check => match plain::reference_check(&case.text) {
-                Ok(accepted) => (0, [accepted.lines as u64, 0, 0, 0, 0]),
+                Ok(accepted) => (0, [accepted.lines as u64, accepted.reserve as u64, 0, 0, 0]),
                 Err(refusal) => refused(refusal),
             },
             _ => match plain::reference_ask(&case.text, self.query(case).as_bytes(), out) {
@@ -153,11 +153,7 @@ fn agree(case: &Case, call: Call) -> (Vec<u8>, [u64; 5]) {
     let mut theirs = vec![0; BUFFER];
     let (number, figures) = call.gate(case, &mut ours);
     assert_eq!(number, 0, "{} is answered", key(case));
-    let mut wanted = figures;
-    if call == Call::Check {
-        wanted[1] = 0;
-    }
-    assert_eq!((number, wanted), call.reference(case, &mut theirs), "{} {}", key(case), call.word());
+    assert_eq!((number, figures), call.reference(case, &mut theirs), "{} {}", key(case), call.word());
     assert!(ours == theirs, "{} {}: the same bytes", key(case), call.word());
     if call != Call::Check {
         ours.truncate(figures[0] as usize);

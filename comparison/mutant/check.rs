@@ -1,5 +1,6 @@
 //! A copy of the reference's `check`, with blunders 11 to 15, 32 and 37 to 39.
 
+use crate::answer::reserve;
 use crate::forms::{read_line, Form};
 use crate::on;
 use crate::policy::{Labelling, Policy};
@@ -10,15 +11,16 @@ use crate::text::{Name, Span};
 /// 01: "document 60,000 bytes".
 pub const LONGEST_DOCUMENT: usize = 60_000;
 
-/// 01: "Acceptance gives the number of lines" (the reserve is left out).
+/// 01: "Acceptance gives the number of lines and a reserve".
 #[derive(Clone, Copy, Debug, PartialEq, Eq)]
 pub struct Accepted {
     pub lines: usize,
+    pub reserve: usize,
 }
 
 /// 01, "Checking a document".
 pub fn check(doc: &[u8]) -> Result<Accepted, Refusal> {
-    read_document(doc).map(|(_, lines)| Accepted { lines })
+    read_document(doc).map(|(policy, lines)| Accepted { lines, reserve: reserve(&policy) })
 }
 
 /// The policy of an accepted document and its number of lines, or the refusal 1 to 9.

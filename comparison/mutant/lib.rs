@@ -35,7 +35,7 @@ pub use import::{import, measure_import};
 pub use refusal::{Refusal, Source};
 
 /// What each mutant does wrong, counted from 1.
-pub const BLUNDERS: [&str; 40] = [
+pub const BLUNDERS: [&str; 43] = [
     "a denied purpose closes downwards only",
     "labels tested for selected columns only",
     "withheld counted only where the condition holds",
@@ -76,6 +76,9 @@ pub const BLUNDERS: [&str; 40] = [
     "a second `public` line of a labelled table taken",
     "a `public` line behind a row of its table does nothing",
     "an undeclared table refused before its columns and types are looked at",
+    "the reserve without the end line",
+    "the reserve of the last table, not of the longest answer",
+    "a row's label counted in the reserve",
 ];
 
 /// These blunders are of importing.

@@ -180,8 +180,8 @@ pub fn pair_difference(subject: Subject, what: String, doc: &[u8], alike: &[u8],
     }
 }
 
-/// 01, "Checking a document": the same text to both; the gate's reserve where accepted.
-pub fn check(second: Second, doc: &[u8]) -> Result<(Checked, usize), Difference> {
+/// 01, "Checking a document": the same text to both; the number of lines and the reserve, or the refusal.
+pub fn check(second: Second, doc: &[u8]) -> Result<Checked, Difference> {
     let theirs = second.check(doc);
     let difference = |what: &str, gate: String| Difference {
         what: what.to_string(),
@@ -191,17 +191,17 @@ pub fn check(second: Second, doc: &[u8]) -> Result<(Checked, usize), Difference>
         gate,
         second: format!("{theirs:?}"),
     };
-    let (ours, reserve) = match gate::check(doc) {
+    let ours = match gate::check(doc) {
         Ok(given) => given,
         Err(what) => return Err(difference(&what, String::new())),
     };
     if ours != theirs {
         return Err(difference("results of checking", format!("{ours:?}")));
     }
-    if reserve > LONGEST_RESERVE as u64 {
-        return Err(difference("a reserve over 60,021", format!("{ours:?}, reserve {reserve}")));
+    if matches!(ours, Checked::Accepted { reserve, .. } if reserve > LONGEST_RESERVE as u64) {
+        return Err(difference("a reserve over 60,021", format!("{ours:?}")));
     }
-    Ok((ours, reserve as usize))
+    Ok(ours)
 }
 
 /// Whether an answered query is a select whose column bracket repeats no column.

@@ -68,10 +68,10 @@ pub struct Refused {
     pub length: u64,
 }
 
-/// What checking gives; the reference has no reserve.
+/// What checking gives.
 #[derive(Clone, Copy, Debug, PartialEq, Eq)]
 pub enum Checked {
-    Accepted { lines: u64 },
+    Accepted { lines: u64, reserve: u64 },
     Refused(Refused),
 }
 
@@ -171,8 +171,8 @@ pub fn measure_import(import: &Import) -> Result<Imported, String> {
     imported(number, figures.read()?)
 }
 
-/// The gate's checking, with its reserve (0 where refused).
-pub fn check(doc: &[u8]) -> Result<(Checked, u64), String> {
+/// The gate's checking.
+pub fn check(doc: &[u8]) -> Result<Checked, String> {
     let mut figures = Figures::new();
     // The pointers are of slices that live through the call; the figures have room for five.
     let number = unsafe { gate_check(doc.as_ptr(), doc.len(), figures.lent()) };
@@ -182,9 +182,9 @@ pub fn check(doc: &[u8]) -> Result<(Checked, u64), String> {
         if (c, d, e) != (0, 0, 0) {
             return Err(format!("accepted with figures {figures:?}"));
         }
-        Ok((Checked::Accepted { lines }, reserve))
+        Ok(Checked::Accepted { lines, reserve })
     } else {
-        Ok((Checked::Refused(refused(number, figures)?), 0))
+        Ok(Checked::Refused(refused(number, figures)?))
     }
 }
 
@@ -302,11 +302,11 @@ impl Second {
     pub fn check(self, doc: &[u8]) -> Checked {
         match self {
             Second::Reference => match reference::check(doc) {
-                Ok(accepted) => Checked::Accepted { lines: accepted.lines as u64 },
+                Ok(accepted) => Checked::Accepted { lines: accepted.lines as u64, reserve: accepted.reserve as u64 },
                 Err(refusal) => Checked::Refused(of_reference(refusal)),
             },
             Second::Mutant => match mutant::check(doc) {
-                Ok(accepted) => Checked::Accepted { lines: accepted.lines as u64 },
+                Ok(accepted) => Checked::Accepted { lines: accepted.lines as u64, reserve: accepted.reserve as u64 },
                 Err(refusal) => Checked::Refused(of_mutant(refusal)),
             },
         }

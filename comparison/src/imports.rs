@@ -303,10 +303,10 @@ pub fn desk(random: &mut Random, buffers: &mut Buffers, second: Second, tally: &
         other => return Err(alone("a list without faults is not imported".to_string(), &doc, format!("{other:?}"))),
     };
     doc.extend_from_slice(&out[..length]);
-    let (checked, _) = compare::check(second, &doc)?;
+    let checked = compare::check(second, &doc)?;
     tally.documents += 1;
     match checked {
-        Checked::Accepted { lines } if lines != (model.lines.len() + count) as u64 => {
+        Checked::Accepted { lines, .. } if lines != (model.lines.len() + count) as u64 => {
             return Err(alone(format!("accepted with {lines} lines, of which {count} are the list's"), &doc, String::new()));
         }
         Checked::Accepted { .. } => {

@@ -101,7 +101,7 @@ fn changed(random: &mut Random, model: &Model, cells: &Cells, all: bool, change:
 }
 
 fn accepted(doc: &[u8]) -> bool {
-    matches!(gate::check(doc), Ok((Checked::Accepted { .. }, _)))
+    matches!(gate::check(doc), Ok(Checked::Accepted { .. }))
 }
 
 /// One pair alike, with its questions; and where the query is answered, one pair that isn't alike.

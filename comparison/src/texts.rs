@@ -181,10 +181,10 @@ impl Run {
 
     /// The reserve, where the text is accepted.
     fn check(&mut self, text: &Text) -> Result<Option<usize>, Difference> {
-        let (checked, reserve) = check(self.second, &text.doc).map_err(|difference| smaller_check(self.second, difference))?;
+        let checked = check(self.second, &text.doc).map_err(|difference| smaller_check(self.second, difference))?;
         self.tally.saw_check(checked);
         match checked {
-            Checked::Accepted { .. } => Ok(Some(reserve)),
+            Checked::Accepted { reserve, .. } => Ok(Some(reserve as usize)),
             Checked::Refused(_) if text.valid => {
                 let what = "both refuse a document that the generator holds valid".to_string();
                 Err(alone(what, text.doc.clone(), None, format!("{checked:?}")))
@@ -241,10 +241,10 @@ impl Run {
     /// The lines that an answer longer than its reserve takes.
     fn smaller_reserve(&mut self, doc: &[u8], question: Question) -> Difference {
         let mut over = |doc: &[u8]| -> Option<String> {
-            let (checked, reserve) = check(self.second, doc).ok()?;
+            let checked = check(self.second, doc).ok()?;
             let asked = self.buffers.ask(self.second, doc, &question).ok()?;
             match (checked, asked) {
-                (Checked::Accepted { .. }, Asked::Answered { length, .. }) if length > reserve as u64 => {
+                (Checked::Accepted { reserve, .. }, Asked::Answered { length, .. }) if length > reserve => {
                     Some(format!("reserve {reserve}, {asked:?}"))
                 }
                 _ => None,

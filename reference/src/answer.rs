@@ -101,9 +101,32 @@ pub fn write<'p>(policy: &Policy<'p>, request: &Request<'_, 'p>) -> Written {
             }
         }
     }
-    let end = format!("(end {} {} {})\n", written.passed, written.withheld, written.unmatched);
-    written.text.extend_from_slice(end.as_bytes());
+    let Written { passed, withheld, unmatched, .. } = written;
+    write_end(&mut written.text, passed, withheld, unmatched);
     written
+}
+
+/// 02, Q-9: "exactly the length of the longest answer among tables, taking each table with all its columns selected once and all
+/// rows passed, end line included; 0 without tables."
+pub fn reserve(policy: &Policy) -> usize {
+    (0..policy.tables.len()).map(|table| whole(policy, table).len()).max().unwrap_or(0)
+}
+
+/// The answer that gives all rows of a table with all their columns.
+fn whole(policy: &Policy, table: usize) -> Vec<u8> {
+    let columns: Vec<usize> = (0..policy.tables[table].columns.len()).collect();
+    let rows: Vec<&Row> = policy.rows.iter().filter(|row| row.table == table).collect();
+    let mut text = Vec::new();
+    for row in &rows {
+        write_row(&mut text, row, &columns);
+    }
+    write_end(&mut text, rows.len(), 0, 0);
+    text
+}
+
+/// `(end PASSED WITHHELD UNMATCHED)`, and a line feed.
+fn write_end(text: &mut Vec<u8>, passed: usize, withheld: usize, unmatched: usize) {
+    text.extend_from_slice(format!("(end {passed} {withheld} {unmatched})\n").as_bytes());
 }
 
 /// `(row v ..)` with the selected values, and a line feed.
