@@ -300,23 +300,59 @@ CASES = [
 ]
 
 
+# 02, Q-9: (name, text, lines, reserve). A row of one value of one byte prints 8 bytes, and an end line of one digit 12.
+SEVENS = "(table t none (a num))\n"
+LETTERS = "abcdefghijklmnopqrstuvwx"
+RESERVES = [
+    ("reserve: a table without rows", SEVENS, 1, 12),
+    ("reserve: nine rows", SEVENS + 9 * "(row t 7)\n", 10, 9 * 8 + 12),
+    ("reserve: ten rows", SEVENS + 10 * "(row t 7)\n", 11, 10 * 8 + 13),
+    ("reserve: 99 rows", SEVENS + 99 * "(row t 7)\n", 100, 99 * 8 + 13),
+    ("reserve: 100 rows", SEVENS + 100 * "(row t 7)\n", 101, 100 * 8 + 14),
+    ("reserve: 16 columns of 24 bytes", "(table t none" + "".join(f" ({c} name)" for c in LETTERS[:16]) + ")\n(row t" + 16 * (" " + LETTERS) + ")\n", 2, 418),
+    ("reserve: the shorter table has more rows", SEVENS + "(table u none (a name))\n(row u " + LETTERS + ")\n" + 2 * "(row t 7)\n", 5, 43),
+    ("reserve: the longer table stands first", "(table u none (a name))\n" + SEVENS + "(row u " + LETTERS + ")\n" + 2 * "(row t 7)\n", 5, 43),
+    ("reserve: a row's label does not count", "(label shut (allow) (deny))\n(table t row (a num))\n(row t shut 7)\n", 3, 20),
+    ("reserve: cells' labels do not count", "(label shut (allow) (deny))\n(table t cell (a num) (b name))\n(row t (7 shut) (x shut))\n", 3, 22),
+    ("reserve: a table counts that no line declares public, and as much as one declared", SEVENS + "(table u none (a name))\n(public t)\n(row u ab)\n(row t 7)\n", 5, 21),
+    ("reserve: rows that name their table in two cases", "(table Sub none (a name))\n(row sub Ida)\n(ROW SUB ida)\n", 3, 2 * 10 + 12),
+]
+
+
+def reserve_of(text):
+    """02, Q-9: the length of the longest answer among tables, each with all columns selected once and all rows passed; 0 without tables.
+    Keywords and names go without case (02, Q-8), and a line that declares a table public changes nothing of it (02, Q-2)."""
+    schemes, printed = {}, {}
+    for line in text.split(b"\n"):
+        if table := re.match(rb"\(table (\S+) (\S+) ", line, re.IGNORECASE):
+            name = table[1].lower()
+            schemes[name], printed[name] = table[2].lower(), []
+        elif row := re.match(rb"\(row (\S+) (.*)\)", line, re.IGNORECASE):
+            name = row[1].lower()
+            items = re.findall(rb"\((\S+) \S+\)", row[2]) if schemes[name] == b"cell" else row[2].split(b" ")
+            printed[name].append(b"(row " + b" ".join(items[1:] if schemes[name] == b"row" else items) + b")\n")
+    return max((len(b"".join(rows)) + len(b"(end %d 0 0)\n" % len(rows)) for rows in printed.values()), default=0)
+
+
 def text_of(lines):
     return lines if isinstance(lines, bytes) else ("\n".join(lines) + "\n").encode()
 
 
 def cases():
     """(name, text, what the program must print)"""
+    for name, text, lines, reserve in RESERVES:
+        yield name, text.encode(), b"(accepted %d %d)\n" % (lines, reserve)
     for name, lines, expected in CASES:
         if name == "60,000 bytes":
             text = wide(60000)
-            yield name, text, b"(accepted %d 60021)\n" % text.count(b"\n")
+            yield name, text, b"(accepted %d %d)\n" % (text.count(b"\n"), reserve_of(text))
             continue
         if name == "60,001 bytes":
             yield name, wide(60001), b"(refused 1 document 0 0)\n"
             continue
         text = text_of(lines)
         if isinstance(expected, int):
-            yield name, text, b"(accepted %d 60021)\n" % expected
+            yield name, text, b"(accepted %d %d)\n" % (expected, reserve_of(text))
             continue
         number, line, item = expected
         if line is None:
