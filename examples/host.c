@@ -158,9 +158,7 @@ static void print_checked(uint64_t number, struct text doc, const uint64_t figur
         print_refused(number, doc, text_of(""), figures);
         return;
     }
-    /* The reserve itself may change from one version to the next; its bound does not. */
-    printf("accepted: %" PRIu64 " lines, a reserve %s 60021\n", figures[GATE_LINES],
-           figures[GATE_RESERVE] <= GATE_RESERVE_BYTES ? "of at most" : "over");
+    printf("accepted: %" PRIu64 " lines, a reserve of %" PRIu64 "\n", figures[GATE_LINES], figures[GATE_RESERVE]);
 }
 
 static void print_answered(uint64_t number, struct text doc, struct text asked, const uint8_t *out, size_t out_len,

@@ -57,11 +57,7 @@ fn print_refused(to: &mut impl Write, doc: &[u8], query: &[u8], r: &Refusal) -> 
 
 fn print_checked(to: &mut impl Write, doc: &[u8], r: &Result<Checked, Refusal>) -> io::Result<()> {
     match r {
-        // The reserve itself may change from one version to the next; its bound does not.
-        Ok(c) => {
-            let bound = if c.reserve <= gate::RESERVE_BYTES { "of at most" } else { "over" };
-            writeln!(to, "accepted: {} lines, a reserve {} {}", c.lines, bound, gate::RESERVE_BYTES)
-        }
+        Ok(c) => writeln!(to, "accepted: {} lines, a reserve of {}", c.lines, c.reserve),
         Err(x) => print_refused(to, doc, b"", x),
     }
 }

@@ -89,7 +89,8 @@ enum gate_source {
 /* Where each figure stands. The rest are 0. */
 enum gate_checked_figure {         /* gate_check, accepted */
     GATE_LINES = 0,                /* how many lines the document has */
-    GATE_RESERVE = 1               /* no answer to a select whose column bracket repeats no column is longer */
+    GATE_RESERVE = 1               /* how long the longest answer among tables is, each with all its columns once and all its rows; no
+                                      answer to a select whose column bracket repeats no column is longer */
 };
 enum gate_answered_figure {        /* gate_ask, accepted; of gate_measure, gate_import and gate_measure_import the first alone */
     GATE_LENGTH = 0,               /* how many bytes of the buffer the answer or the lines fill, from the first on */

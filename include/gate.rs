@@ -122,7 +122,8 @@ pub struct Clock {
     pub hour: u64,
 }
 
-/// An accepted document: its lines, and a length that no answer to a select exceeds which repeats no column.
+/// An accepted document: its lines, and how long the longest answer among tables is, each with all its columns once and all its rows,
+/// which no answer to a select exceeds that repeats no column.
 pub struct Checked {
     pub lines: usize,
     pub reserve: usize,
