@@ -1,4 +1,4 @@
--- Pairs of documents that pin which values may differ (01, "The no-difference claim"; 02, Q-2), by computation, both ways: for each
+-- Pairs of documents that pin which values may differ (01, "The no-difference claim"; 02, Q-2, Q-8, Q-10), by computation, both ways: for each
 -- reason that lets a value differ a pair that is alike for that reason alone, and pairs that are not alike. The claim itself
 -- does not pin the reasons: it gets easier where fewer values are free.
 use Prim.Native.Nat.{ℕ}
@@ -109,6 +109,11 @@ freeValues =
     ∷ alikeFor namedCells "(select ana desk ads t (a b))" "(row t (x open) (y shut))\n" "(row t (X open) (y shut))\n"
     -- row lines whose keyword is written in another case
     ∷ alikeFor named "(select ana desk ads t (a))" "(ROW T x y)\n" "(ROW T x z)\n"
+    -- a blank's (02, Q-10): closed and only selected, in a row that is not withheld; in a row that the condition withholds; by a row's
+    -- label
+    ∷ alikeFor cells "(blank ana desk ads t (a b))" "(row t (1 open) (2 shut))\n" "(row t (1 open) (-3 shut))\n"
+    ∷ alikeFor cells "(blank ana desk ads t (a) (eq b 2))" "(row t (1 open) (2 shut))\n" "(row t (3 open) (4 shut))\n"
+    ∷ alikeFor rows "(blank ana desk ads t (a))" "(row t shut 1)\n" "(row t shut 2)\n"
     ∷ []
 
 -- what may not differ
@@ -154,6 +159,9 @@ fixedValues =
     ∷ unlikeFor named "" "(row t x y)\n" "(ROW t x z)\n"
     ∷ unlikeFor named "" "(row t x y)\n" "(row T x z)\n"
     ∷ unlikeFor rows "" "(row t open 1)\n" "(row t Open 2)\n"
+    -- a blank's (02, Q-10): open beside a gap, which does not withhold the row; open in the condition, beside a gap
+    ∷ unlikeFor cells "(blank ana desk ads t (a b))" "(row t (1 open) (2 shut))\n" "(row t (3 open) (2 shut))\n"
+    ∷ unlikeFor cells "(blank ana desk ads t (a) (eq b 2))" "(row t (1 shut) (2 open))\n" "(row t (1 shut) (3 open))\n"
     -- a refused document: the second, the first, both
     ∷ unlikeFor plain "" "(row t 1 2)\n" "(row t 1 x)\n"
     ∷ unlikeFor plain "" "(row t 1 x)\n" "(row t 1 2)\n"

@@ -1,28 +1,31 @@
 -- Rows given further down (02, Q-6), over what a document and a query mean: what a select is answered for P, it is answered
 -- for every Q below P. Assumes nothing.
-use Prim.Native.Nat.{_≤_, ℕ}
+use Prim.Native.Nat.{_≤_, suc, ℕ}
 use mathlib.Core.Bool.{Bool, cond, false, true}
 use mathlib.Core.List.{List, Sublistᴰ, Sublistᴰ·cons, Sublistᴰ·cons-cons, Sublistᴰ·slnil, [], _++_, _∷_, flatten, map}
 use mathlib.Core.Logic.{_⊎_, inl, inr}
 use mathlib.Core.Option.{Option, some}
-use mathlib.Core.Path.{_∙_, _≡_, ap, refl}
+use mathlib.Core.Path.{_∙_, _≡_, ap, refl, subst, sym}
 use native.Mathlib.Omega.{arith}
-use Rattle.document.proofs.OpenLaws.{rowWithheld-less}
+use Rattle.document.proofs.OpenLaws.{columnOpen-more, rowWithheld-less, shown-open, tableOpen-more}
 use Rattle.document.specs.Lookup.{labellingAt, purposeOf}
-use Rattle.document.specs.Open.{labelOpen, rowWithheld}
+use Rattle.document.specs.Open.{cellOpen, columnOpen, labelOpen, rowWithheld, tableOpen}
 use Rattle.document.specs.Policy.{Doc, Row, treeOf}
 use Rattle.form.specs.Form.{Scheme}
 use Rattle.answer.proofs.AcceptedOrRefused.{answered, is-answered}
 use Rattle.answer.specs.Answer.{answerTo, counted, isWithheld, lineOf, matches, rowLine, rowLines}
 use Rattle.answer.specs.Ask.{Answered, answerForm}
-use Rattle.answer.specs.Seen.{Seen, rowsIn, seenIn, seenRow, seenRows, shown, withheld}
+use Rattle.answer.specs.Seen.{Seen, gap, rowsIn, seenIn, seenRow, seenRows, seenValue, seenValues, shown, withheld}
 use Rattle.lists.proofs.Tests.{true-not-false}
-use Rattle.lists.specs.Lists.{countOf, orZero}
+use Rattle.lists.specs.Lists.{countOf, member, orZero}
 use Rattle.purpose.specs.Compliance.{descends}
 use Rattle.query.proofs.Below.{forPurpose, grant-below, label-down, parts-down, party-down, resolved-down, toPurpose}
+use Rattle.query.proofs.NamedAll.{all-withhold}
+use Rattle.query.proofs.NamedColumns.{columns-known, names-parts, parts-open}
+use Rattle.query.proofs.WantedLaws.{gaps-map}
 use Rattle.query.specs.Authority.{Clock, firstGrant}
-use Rattle.query.specs.Query.{Query, mistypedQuery, resolved, select, unknownColumn}
-use Rattle.query.specs.QueryForm.{QueryForm, namedRefs, namedWords, selectedRefs, selectedWords, testedRefs}
+use Rattle.query.specs.Query.{PartsOpen, Query, mistypedQuery, resolved, unknownColumn, wantedOf}
+use Rattle.query.specs.QueryForm.{QueryForm, Verb, hasGaps, namedRefs, namedWords, rowsOf, selectedRefs, selectedWords, testedRefs}
 use Rattle.text.specs.Numbers.{Value}
 use Rattle.text.specs.Refusal.{accepted}
 use Rattle.text.specs.Words.{Word}
@@ -73,53 +76,78 @@ further-rows passes (alike (shown vs) {ss} {ts} r) = go (passes vs) (further-row
     go true rest = Sublistᴰ·cons-cons refl rest
     go false rest = rest
 
--- a select prints the passed rows
-pub rows-printed : (passes : List Value → Bool) (cs : List ℕ) (rs : List Seen) → rowLines passes (select cs) rs ≡ flatten (map (rowLine cs) (passedRows passes rs))
+-- a query for rows prints those that pass
+pub rows-printed : (passes : List Value → Bool) (v : Verb) (cs : List ℕ) (rs : List Seen) → rowLines passes (rowsOf v cs) rs ≡ flatten (map (rowLine cs) (passedRows passes rs))
 unfolding rowLines passedRows flatten lineOf
-rows-printed passes cs [] = refl
-rows-printed passes cs (withheld ∷ rs) = rows-printed passes cs rs
-rows-printed passes cs (shown vs ∷ rs) = go (passes vs) (rows-printed passes cs rs)
+rows-printed passes v cs [] = refl
+rows-printed passes v cs (withheld ∷ rs) = rows-printed passes v cs rs
+rows-printed passes v cs (shown vs ∷ rs) = go (passes vs) (rows-printed passes v cs rs)
   where
-    go : (b : Bool) → rowLines passes (select cs) rs ≡ flatten (map (rowLine cs) (passedRows passes rs))
+    go : (b : Bool) → rowLines passes (rowsOf v cs) rs ≡ flatten (map (rowLine cs) (passedRows passes rs))
         → cond b (rowLine cs vs) [] ++ flatten (map (lineOf passes cs) rs) ≡ flatten (map (rowLine cs) (cond b (vs ∷ passedRows passes rs) (passedRows passes rs)))
     go true e = ap (λ l. rowLine cs vs ++ l) e
     go false e = e
 
--- where more labels are open, each row is withheld before or seen as before
-row-further : (isOpen isOpen′ : Option ℕ → Bool) → ((l : Option ℕ) → isOpen l ≡ true → isOpen′ l ≡ true) → (s : Scheme ℕ) (hs ns : List ℕ) (r : Row)
-    → (seenRow isOpen s hs ns r ≡ withheld) ⊎ (seenRow isOpen s hs ns r ≡ seenRow isOpen′ s hs ns r)
-unfolding seenRow
-row-further isOpen isOpen′ wider s hs ns r = go (rowWithheld isOpen s hs (r .labels)) (rowWithheld isOpen′ s hs (r .labels)) refl refl
+-- values are seen alike where the named cells are open both times
+seen-open : (o o′ : ℕ → Bool) (ns : List ℕ) → ((c : ℕ) → member c ns ≡ true → (o c ≡ true) × (o′ c ≡ true)) → (i : ℕ) (vs : List Value) → seenValues o ns i vs ≡ seenValues o′ ns i vs
+unfolding seenValues seenValue
+seen-open o o′ ns h i [] = refl
+seen-open o o′ ns h i (v ∷ vs) = λ j. go (member i ns) refl j ∷ seen-open o o′ ns h (suc i) vs j
   where
-    go : (a b : Bool) → rowWithheld isOpen s hs (r .labels) ≡ a → rowWithheld isOpen′ s hs (r .labels) ≡ b
-        → (seenRow isOpen s hs ns r ≡ withheld) ⊎ (seenRow isOpen s hs ns r ≡ seenRow isOpen′ s hs ns r)
-    go true b e f = inl (rw e)
-    go false false e f = inr (rw (e, f))
-    go false true e f = true-not-false (rowWithheld-less isOpen isOpen′ wider s hs (r .labels) f) e
+    go : (b : Bool) → member i ns ≡ b → cond b (cond (o i) v gap) [] ≡ cond b (cond (o′ i) v gap) []
+    go true e = rw (h i e .0, h i e .1)
+    go false e = refl
 
-seen-further : (d : Doc) (q : Query) (p : ℕ) → ((l : Option ℕ) → labelOpen (d .policy) (q .purpose) l ≡ true → labelOpen (d .policy) p l ≡ true)
+-- where more labels are open, each row of an open table with open columns, of which all that are named withhold, is withheld before or
+-- seen as before
+module _ (isOpen isOpen′ : Option ℕ → Bool) (wider : (l : Option ℕ) → isOpen l ≡ true → isOpen′ l ≡ true) (s : Scheme ℕ) (ns : List ℕ)
+    (open-table : tableOpen isOpen s ≡ true) (open-columns : (c : ℕ) → member c ns ≡ true → columnOpen isOpen s c ≡ true) where
+  both-open : (r : Row) → rowWithheld isOpen s ns (r .labels) ≡ false → rowWithheld isOpen′ s ns (r .labels) ≡ false
+      → (c : ℕ) → member c ns ≡ true → (cellOpen isOpen s (r .labels) c ≡ true) × (cellOpen isOpen′ s (r .labels) c ≡ true)
+  both-open r e f c m = (
+    shown-open isOpen s ns (r .labels) open-table open-columns e c m,
+    shown-open isOpen′ s ns (r .labels) (tableOpen-more isOpen isOpen′ wider s open-table) (λ k n. columnOpen-more isOpen isOpen′ wider s k (open-columns k n)) f c m,
+  )
+
+  row-further : (r : Row) → (seenRow isOpen s ns ns r ≡ withheld) ⊎ (seenRow isOpen s ns ns r ≡ seenRow isOpen′ s ns ns r)
+  unfolding seenRow
+  row-further r = go (rowWithheld isOpen s ns (r .labels)) (rowWithheld isOpen′ s ns (r .labels)) refl refl
+    where
+      go : (a b : Bool) → rowWithheld isOpen s ns (r .labels) ≡ a → rowWithheld isOpen′ s ns (r .labels) ≡ b
+          → (seenRow isOpen s ns ns r ≡ withheld) ⊎ (seenRow isOpen s ns ns r ≡ seenRow isOpen′ s ns ns r)
+      go true b e f = inl (rw e)
+      go false false e f = inr (rw (e, f) (ap shown (seen-open (cellOpen isOpen s (r .labels)) (cellOpen isOpen′ s (r .labels)) ns (both-open r e f) 0 (r .values))))
+      go false true e f = true-not-false (rowWithheld-less isOpen isOpen′ wider s ns (r .labels) f) e
+
+seen-further : (d : Doc) (q : Query) (p : ℕ) → q .source .withholding ≡ q .source .named → PartsOpen (d .policy) q
+    → ((l : Option ℕ) → labelOpen (d .policy) (q .purpose) l ≡ true → labelOpen (d .policy) p l ≡ true)
     → Further (seenRows d q) (seenRows d (toPurpose p q))
 unfolding seenRows seenIn toPurpose
-seen-further d q p wider =
-    map-further _ _ (row-further (labelOpen (d .policy) (q .purpose)) (labelOpen (d .policy) p) wider (labellingAt (d .policy) (q .source .table)) (q .source .withholding) (q .source .named)) (rowsIn (q .source .table) (d .rows))
+seen-further d q p all open-parts wider =
+    subst (λ hs. Further (seenBy hs (q .purpose)) (seenBy hs p)) (sym all)
+    (map-further _ _ (row-further (labelOpen (d .policy) (q .purpose)) (labelOpen (d .policy) p) wider (labellingAt (d .policy) (q .source .table)) (q .source .named) (open-parts .table) (open-parts .columns)) (rowsIn (q .source .table) (d .rows)))
+  where
+    seenBy : List ℕ → ℕ → List Seen
+    seenBy hs p = map (seenRow (labelOpen (d .policy) p) (labellingAt (d .policy) (q .source .table)) hs (q .source .named)) (rowsIn (q .source .table) (d .rows))
 
 -- ---- the theorem
 
 module _ (d : Doc) (q : QueryForm) (w : Word) (p : ℕ) (is-p : purposeOf (d .policy) w ≡ some p)
     (below : descends (treeOf (d .policy .purposes)) p (orZero (purposeOf (d .policy) (q .purpose))) ≡ true) where
-  -- Q's answer has P's rows in the same order, perhaps with others between, and withholds no more rows.
-  pub further-down : (c : Clock) (r : Answered) → answerForm d c q ≡ accepted r
+  -- Where no gaps are left, Q's answer has P's rows in the same order, perhaps with others between, and withholds no more rows.
+  pub further-down : hasGaps (q .wanted) ≡ false → (c : Clock) (r : Answered) → answerForm d c q ≡ accepted r
       → (s : Answered) × (answerForm d c (forPurpose w q) ≡ accepted s)
       × Sublistᴰ (passedRows (matches (resolved (d .policy) q .condition)) (seenRows d (resolved (d .policy) q)))
       (passedRows (matches (resolved (d .policy) q .condition)) (seenRows d (resolved (d .policy) (forPurpose w q))))
       × (s .answer .withheld ≤ r .answer .withheld)
   unfolding answerTo counted forPurpose unknownColumn mistypedQuery namedWords namedRefs selectedRefs testedRefs selectedWords orZero
-  further-down c r h =
+  further-down whole c r h =
       let a = answered d c q r h in
+      let parts = names-parts (d .policy) q (columns-known (d .policy) q (a .columns)) in
       let g = grant-below (d .policy) _ p below c (a .user) (a .grant) (a .authorised) in
       let s : Answered = record { answer = answerTo (resolved (d .policy) (forPurpose w q)) (seenRows d (resolved (d .policy) (forPurpose w q))); grant = g .0 } in
       let f : Further (seenRows d (resolved (d .policy) q)) (seenRows d (toPurpose p (resolved (d .policy) q))) =
-      seen-further d (resolved (d .policy) q) p (unfold resolved in label-down (d .policy) q w p is-p below) in (
+      seen-further d (resolved (d .policy) q) p (all-withhold (resolved (d .policy) q) parts (unfold resolved wantedOf in gaps-map _ (q .wanted) ∙ whole)) (parts-open (d .policy) q (a .columns) (a .parts)) (unfold resolved in label-down (d .policy) q w p is-p below) in (
         s,
         is-answered d c (forPurpose w q) s (record {
           user = a .user;

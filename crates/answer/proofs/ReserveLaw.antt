@@ -13,27 +13,28 @@ use Rattle.document.proofs.Kept.{table-there}
 use Rattle.document.proofs.RowsFit.{AllFit, Rows, accepted-rows, columns-count, countAt, rowsCost, valuesCost}
 use Rattle.document.specs.Check.{Accepted, check}
 use Rattle.document.specs.Lookup.{columnOf, columnsOf, labellingAt, tableOf}
-use Rattle.document.specs.Open.{labelOpen, rowWithheld}
+use Rattle.document.specs.Open.{cellOpen, labelOpen, rowWithheld}
 use Rattle.document.specs.Policy.{Column, Doc, Row, Table}
 use Rattle.form.specs.Form.{Scheme}
 use Rattle.answer.proofs.EndLines.{end-cost, end-short}
 use Rattle.answer.proofs.RowLines.{AllBelow, Distinct, row-cost, whole-length}
+use Rattle.answer.proofs.ValuesFilled.{accepted-filled, filled, rowsFilled}
 use Rattle.answer.specs.Answer.{answerTo, counted, endLine, isPassed, isUnmatched, isWithheld, lineOf, matches, rowLine, rowLines}
 use Rattle.answer.specs.Ask.{Answered, answerForm, ask, askUnbounded, ifFits}
 use Rattle.answer.specs.Reserve.{IsReserve, SelectsOnce, greatest, larger, reserveOf, wholeLength, wholeLengths, wholeLine}
-use Rattle.answer.specs.Seen.{Seen, onlyNamed, rowsIn, seenIn, seenRow, seenRows, shown, withheld}
+use Rattle.answer.specs.Seen.{Seen, rowsIn, seenIn, seenRow, seenRows, seenValues, shown, withheld}
 use Rattle.purpose.specs.Members.{passing}
 use Rattle.query.proofs.NamedColumns.{columnNumber}
 use Rattle.query.proofs.Sources.{named-words-are}
 use Rattle.query.specs.Authority.{Clock}
-use Rattle.query.specs.Query.{Query, Wanted, resolved, select, sourceOf, unknownColumn, wantedOf}
-use Rattle.query.specs.QueryForm.{QueryForm, selectedWords}
+use Rattle.query.specs.Query.{Query, resolved, sourceOf, unknownColumn, wantedOf}
+use Rattle.query.specs.QueryForm.{QueryForm, Verb, Wanted, mapWanted, rowsOf, selected, selectedWords}
 use Rattle.lists.proofs.ListLaws.{findIndex-found, keep-length, there-some}
 use Rattle.text.proofs.NameLaws.{sameName-sym, sameName-trans}
 use Rattle.text.proofs.OffendingLaws.{leftmost-head, leftmost-tail, unless-none}
 use Rattle.text.proofs.RefusalLaws.{accepted-same, bind-accepted, need-accepted, refuseAt-accepted, then-accepted}
-use Rattle.lists.proofs.Tests.{neither-left, neither-right, true-not-false}
-use Rattle.lists.specs.Lists.{anyOf, countOf, holdsOf, keep, member, orZero, there}
+use Rattle.lists.proofs.Tests.{and-left, and-right, neither-left, neither-right, true-not-false}
+use Rattle.lists.specs.Lists.{allOf, anyOf, countOf, holdsOf, keep, member, orZero, there}
 use Rattle.text.specs.Names.{Name, sameName}
 use Rattle.text.specs.Numbers.{Value}
 use Rattle.text.specs.Offending.{missing, repeated, repeatedAfter}
@@ -181,19 +182,23 @@ all-known cols (w ∷ ws) vs e = (unless-none _ w (leftmost-head _ _ e), all-kno
 
 -- ---- the answer
 
--- every row is wide enough for the columns
+-- the row is wide enough for the columns, and each of its values has a byte
+abbrev Wide : List ℕ → Row → Type 0
+Wide cs r = AllBelow (length (r .values)) cs × (allOf filled (r .values) ≡ true)
+
+-- every row is
 abbrev AllWide : List ℕ → List Row → Type 0
 AllWide cs [] = Unit {0}
-AllWide cs (r ∷ rs) = AllBelow (length (r .values)) cs × AllWide cs rs
+AllWide cs (r ∷ rs) = Wide cs r × AllWide cs rs
 
-rows-wide : (cs : List ℕ) (t : ℕ) (ts : List Table) (rs : List Row) → AllBelow (countAt (getElem? ts t)) cs → AllFit ts rs → AllWide cs (rowsIn t rs)
-unfolding rowsIn keep
-rows-wide cs t ts [] b f = tt
-rows-wide cs t ts (r ∷ rs) b f = go (eqb (r .table) t) refl (rows-wide cs t ts rs b (f .1))
+rows-wide : (cs : List ℕ) (t : ℕ) (ts : List Table) (rs : List Row) → AllBelow (countAt (getElem? ts t)) cs → AllFit ts rs → rowsFilled rs ≡ true → AllWide cs (rowsIn t rs)
+unfolding rowsIn keep rowsFilled allOf
+rows-wide cs t ts [] b f h = tt
+rows-wide cs t ts (r ∷ rs) b f h = go (eqb (r .table) t) refl (rows-wide cs t ts rs b (f .1) (and-right (allOf filled (r .values)) _ h))
   where
     go : (x : Bool) → eqb (r .table) t ≡ x → AllWide cs (keep (λ r. eqb (r .table) t) rs)
         → AllWide cs (cond x (r ∷ keep (λ r. eqb (r .table) t) rs) (keep (λ r. eqb (r .table) t) rs))
-    go true p ih = (subst (λ (n : ℕ). AllBelow n cs) (ap (λ (i : ℕ). countAt (getElem? ts i)) (sym (eqb-true (r .table) t p)) ∙ sym (f .0 .wide)) b, ih)
+    go true p ih = ((subst (λ (n : ℕ). AllBelow n cs) (ap (λ (i : ℕ). countAt (getElem? ts i)) (sym (eqb-true (r .table) t p)) ∙ sym (f .0 .wide)) b, and-left (allOf filled (r .values)) _ h), ih)
     go false p ih = ih
 
 -- which rows are passed is a test of the values shown, and the columns are given
@@ -227,7 +232,7 @@ module _ (passes : List Value → Bool) (cs : List ℕ) where
       }
 
   -- all rows together
-  rows-cost : (f : Row → Seen) → ((r : Row) → AllBelow (length (r .values)) cs → Step r (f r)) → (rs : List Row) → AllWide cs rs
+  rows-cost : (f : Row → Seen) → ((r : Row) → Wide cs r → Step r (f r)) → (rs : List Row) → AllWide cs rs
       → (length (flatten (map (lineOf passes cs) (map f rs))) + left (map f rs) ≤ length (flatten (map (λ r. wholeLine (r .values)) rs)))
       × (countOf (isPassed passes) (map f rs) + countOf isWithheld (map f rs) + countOf (isUnmatched passes) (map f rs) ≡ length rs)
   unfolding flatten
@@ -238,10 +243,10 @@ module _ (passes : List Value → Bool) (cs : List ℕ) where
       (omega (arith, s .line (map f rs), rest .0, length-append (wholeLine (r .values)) (flatten (map (λ r. wholeLine (r .values)) rs))), s .count (map f rs) ∙ ap suc (rest .1))
 
   -- an answer over these rows is no longer than the one that gives them whole
-  lines-cost : (f : Row → Seen) → ((r : Row) → AllBelow (length (r .values)) cs → Step r (f r)) → (rs : List Row) → AllWide cs rs
-      → length (counted (rowLines passes (select cs) (map f rs)) (countOf (isPassed passes) (map f rs)) (countOf isWithheld (map f rs)) (countOf (isUnmatched passes) (map f rs)) .bytes) ≤ wholeLength rs
+  lines-cost : (v : Verb) (f : Row → Seen) → ((r : Row) → Wide cs r → Step r (f r)) → (rs : List Row) → AllWide cs rs
+      → length (counted (rowLines passes (rowsOf v cs) (map f rs)) (countOf (isPassed passes) (map f rs)) (countOf isWithheld (map f rs)) (countOf (isUnmatched passes) (map f rs)) .bytes) ≤ wholeLength rs
   unfolding counted wholeLength rowLines
-  lines-cost f h rs w =
+  lines-cost v f h rs w =
       let ss : List Seen = map f rs in
       let c = rows-cost f h rs w in
       let e : length (endLine (countOf (isPassed passes) ss + countOf isWithheld ss + countOf (isUnmatched passes) ss) 0 0) ≡ length (endLine (length rs) 0 0) = ap (λ (n : ℕ). length (endLine n 0 0)) (c .1) in
@@ -255,35 +260,35 @@ module _ (passes : List Value → Bool) (cs : List ℕ) where
       )
 
   -- what is seen of a row is such a step
-  seen-step : (isOpen : Option ℕ → Bool) (s : Scheme ℕ) (hs ns : List ℕ) → Distinct [] cs → (r : Row) → AllBelow (length (r .values)) cs → Step r (seenRow isOpen s hs ns r)
+  seen-step : (isOpen : Option ℕ → Bool) (s : Scheme ℕ) (hs ns : List ℕ) → Distinct [] cs → (r : Row) → Wide cs r → Step r (seenRow isOpen s hs ns r)
   unfolding seenRow
   seen-step isOpen s hs ns u r b = go (rowWithheld isOpen s hs (r .labels))
     where
-      go : (t : Bool) → Step r (cond t withheld (shown (onlyNamed ns 0 (r .values))))
+      go : (t : Bool) → Step r (cond t withheld (shown (seenValues (cellOpen isOpen s (r .labels)) ns 0 (r .values))))
       go true = step-withheld r
-      go false = step-shown r (onlyNamed ns 0 (r .values)) (row-cost ns cs (r .values) u b)
+      go false = step-shown r _ (row-cost (cellOpen isOpen s (r .labels)) ns cs (r .values) (b .1) u (b .0))
 
-answer-cost : (d : Doc) (q : Query) (cs : List ℕ) → q .wanted ≡ select cs → q .source .table < length (d .policy .tables) → Distinct [] cs → AllBelow (countAt (getElem? (d .policy .tables) (q .source .table))) cs
-    → AllFit (d .policy .tables) (d .rows) → length (answerTo q (seenRows d q) .bytes) ≤ reserveOf d
+answer-cost : (d : Doc) (q : Query) (v : Verb) (cs : List ℕ) → q .wanted ≡ rowsOf v cs → q .source .table < length (d .policy .tables) → Distinct [] cs → AllBelow (countAt (getElem? (d .policy .tables) (q .source .table))) cs
+    → AllFit (d .policy .tables) (d .rows) → rowsFilled (d .rows) ≡ true → length (answerTo q (seenRows d q) .bytes) ≤ reserveOf d
 unfolding answerTo seenRows seenIn reserveOf wholeLengths
-answer-cost d q cs w inside u b h =
+answer-cost d q v cs w inside u b h g =
     let f : List Value → Bool = matches (q .condition) in
     let see : Row → Seen = seenRow (labelOpen (d .policy) (q .purpose)) (labellingAt (d .policy) (q .source .table)) (q .source .withholding) (q .source .named) in
     let rs : List Row = rowsIn (q .source .table) (d .rows) in
     le-trans
-    (subst (λ (x : Wanted). length (counted (rowLines f x (map see rs)) (countOf (isPassed f) (map see rs)) (countOf isWithheld (map see rs)) (countOf (isUnmatched f) (map see rs)) .bytes) ≤ wholeLength rs) (sym w)
-    (lines-cost f cs see (seen-step f cs (labelOpen (d .policy) (q .purpose)) (labellingAt (d .policy) (q .source .table)) (q .source .withholding) (q .source .named) u) rs (rows-wide cs (q .source .table) (d .policy .tables) (d .rows) b h)))
+    (subst (λ (x : Wanted ℕ). length (counted (rowLines f x (map see rs)) (countOf (isPassed f) (map see rs)) (countOf isWithheld (map see rs)) (countOf (isUnmatched f) (map see rs)) .bytes) ≤ wholeLength rs) (sym w)
+    (lines-cost f cs v see (seen-step f cs (labelOpen (d .policy) (q .purpose)) (labellingAt (d .policy) (q .source .table)) (q .source .withholding) (q .source .named) u) rs (rows-wide cs (q .source .table) (d .policy .tables) (d .rows) b h g)))
     (among-tables (λ t. wholeLength (rowsIn t (d .rows))) (length (d .policy .tables)) (q .source .table) inside)
 
--- a select that repeats no column, over a document whose rows fit
-select-cost : (d : Doc) (q : QueryForm) (ws : List Word) → q .columns ≡ some ws → repeated ws ≡ none → unknownColumn (d .policy) q ≡ none → AllFit (d .policy .tables) (d .rows)
+-- a query for rows that repeats no column, over a document whose rows fit
+select-cost : (d : Doc) (q : QueryForm) (v : Verb) (ws : List Word) → q .wanted ≡ rowsOf v ws → repeated ws ≡ none → unknownColumn (d .policy) q ≡ none → AllFit (d .policy .tables) (d .rows) → rowsFilled (d .rows) ≡ true
     → length (answerTo (resolved (d .policy) q) (seenRows d (resolved (d .policy) q)) .bytes) ≤ reserveOf d
-unfolding repeated unknownColumn selectedWords resolved sourceOf wantedOf columnsOf
-select-cost d q ws c r k h =
-    answer-cost d (resolved (d .policy) q) (map (columnNumber cols) ws) (ap (wantedOf cols) c)
+unfolding repeated unknownColumn selectedWords selected mapWanted resolved sourceOf wantedOf columnsOf
+select-cost d q v ws c r k h g =
+    answer-cost d (resolved (d .policy) q) v (map (columnNumber cols) ws) (ap (wantedOf cols) c)
     (table-there (d .policy) (q .table) (unless-none _ (q .table) (leftmost-head _ _ k)))
     (distinct-columns cols [] ws tt knows r)
-    (subst (λ (n : ℕ). AllBelow n (map (columnNumber cols) ws)) (columns-count (d .policy) (orZero (tableOf (d .policy) (q .table)))) (below-columns cols ws knows)) h
+    (subst (λ (n : ℕ). AllBelow n (map (columnNumber cols) ws)) (columns-count (d .policy) (orZero (tableOf (d .policy) (q .table)))) (below-columns cols ws knows)) h g
   where
     cols : List Column
     cols = columnsOf (d .policy) (q .table)
@@ -312,8 +317,8 @@ reserve-covers doc x is = (go, reserve-short (x .doc) (rows .short))
         let f15 = then-accepted _ _ _ (f14 .2) in
         let f16 = then-accepted _ _ _ (f15 .2) in
         let f17 = then-accepted _ _ _ (f16 .2) in
-        let one-form : s .0 ≡ b11 .0 = Option·some-injective _ _ (sym (s .2) ∙ need-accepted _ _ _ (b11 .1)) in
+        let one-form : s .0 ≡ b11 .0 = Option·some-injective _ _ (sym (s .3) ∙ need-accepted _ _ _ (b11 .1)) in
         let one-doc : c .0 .doc ≡ x .doc = ap (λ (y : Accepted). y .doc) (accepted-same (sym (c .1) ∙ is)) in
         subst (λ (y : Answered). length (y .answer .bytes) ≤ reserveOf (x .doc)) (accepted-same (f17 .2) ∙ accepted-same (b18 .2))
         (subst (λ (d : Doc). length (answerTo (resolved (c .0 .doc .policy) (b11 .0)) (seenRows (c .0 .doc) (resolved (c .0 .doc .policy) (b11 .0))) .bytes) ≤ reserveOf d) one-doc
-        (select-cost (c .0 .doc) (b11 .0) (s .1) (ap (λ (q : QueryForm). q .columns) (sym one-form) ∙ s .3) (s .4) (refuseAt-accepted 15 query _ (f15 .1)) (accepted-rows doc (c .0) (c .1) .fit)))
+        (select-cost (c .0 .doc) (b11 .0) (s .1) (s .2) (ap (λ (q : QueryForm). q .wanted) (sym one-form) ∙ s .4) (s .5) (refuseAt-accepted 15 query _ (f15 .1)) (accepted-rows doc (c .0) (c .1) .fit) (accepted-filled doc (c .0) (c .1))))

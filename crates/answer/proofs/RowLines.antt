@@ -1,4 +1,4 @@
--- The line of a row that a select prints, if it repeats no column, is no longer than that of all columns. For the reserve. Assumes
+-- The line of a row that a select or a blank prints, if it repeats no column, is no longer than that of all columns. For the reserve. Assumes
 -- nothing.
 use Prim.Native.Nat.{_+_, _<_, _≤_, suc, zero, zero-le, ℕ}
 use borrow.Author.Tests.{ne-eqb}
@@ -9,13 +9,14 @@ use mathlib.Core.List.{List, [], _++_, _∷_, flatten, map}
 use mathlib.Core.Path.{_∙_, _≡_, ap, refl, subst, sym}
 use native.Mathlib.Nat.{le-refl, not-suc-le-zero}
 use native.Mathlib.Omega.{arith}
+use Rattle.answer.proofs.ValuesFilled.{filled}
 use Rattle.answer.specs.Answer.{rowLine}
 use Rattle.answer.specs.Reserve.{columnsFrom, wholeLine}
-use Rattle.answer.specs.Seen.{onlyNamed}
+use Rattle.answer.specs.Seen.{gap, seenValue, seenValues}
 use Rattle.text.proofs.ReaderLaws.{listCost}
 use Rattle.lists.proofs.Tests.{eqb-self}
 use Rattle.text.specs.Bytes.{ascii}
-use Rattle.lists.specs.Lists.{anyOf, member}
+use Rattle.lists.specs.Lists.{allOf, anyOf, member}
 use Rattle.text.specs.Numbers.{Value}
 
 differ : (m n : ℕ) → m < n → eqb n m ≡ false
@@ -96,21 +97,23 @@ cols-cost vs used (c ∷ cs) d b = omega (arith, cols-cost vs (c ∷ used) cs (d
 distinct-cost : (vs : List Value) (cs : List ℕ) → Distinct [] cs → AllBelow (length vs) cs → colsCost vs cs ≤ listCost length vs
 distinct-cost vs cs d b = omega (arith, cols-cost vs [] cs d b, unused-all 0 vs)
 
--- a value that is left out costs less
-named-value : (ns : List ℕ) (i : ℕ) (vs : List Value) (c : ℕ) → length (getD (onlyNamed ns i vs) c []) ≤ length (getD vs c [])
-unfolding onlyNamed
-named-value ns i [] c = le-refl _
-named-value ns i (v ∷ vs) zero = go (member i ns)
+-- a value that is left out costs less, and so does a gap: a value has a byte at least
+seen-value : (o : ℕ → Bool) (ns : List ℕ) (i : ℕ) (vs : List Value) → allOf filled vs ≡ true → (c : ℕ) → length (getD (seenValues o ns i vs) c []) ≤ length (getD vs c [])
+unfolding seenValues seenValue gap filled allOf
+seen-value o ns i [] h c = le-refl _
+seen-value o ns i ([] ∷ vs) h c = absurd (true≢false (sym h))
+seen-value o ns i ((b ∷ bs) ∷ vs) h zero = go (member i ns) (o i)
   where
-    go : (b : Bool) → length (cond b v []) ≤ length v
-    go true = le-refl _
-    go false = zero-le
-named-value ns i (v ∷ vs) (suc c) = named-value ns (suc i) vs c
+    go : (x y : Bool) → length (cond x (cond y (b ∷ bs) gap) []) ≤ length (b ∷ bs)
+    go true true = le-refl _
+    go true false = omega arith
+    go false y = zero-le
+seen-value o ns i ((b ∷ bs) ∷ vs) h (suc c) = seen-value o ns (suc i) vs h c
 
-named-cost : (ns : List ℕ) (vs : List Value) (cs : List ℕ) → colsCost (onlyNamed ns 0 vs) cs ≤ colsCost vs cs
+seen-cost : (o : ℕ → Bool) (ns : List ℕ) (vs : List Value) → allOf filled vs ≡ true → (cs : List ℕ) → colsCost (seenValues o ns 0 vs) cs ≤ colsCost vs cs
 unfolding colsCost
-named-cost ns vs [] = zero-le
-named-cost ns vs (c ∷ cs) = omega (arith, named-value ns 0 vs c, named-cost ns vs cs)
+seen-cost o ns vs h [] = zero-le
+seen-cost o ns vs h (c ∷ cs) = omega (arith, seen-value o ns 0 vs h c, seen-cost o ns vs h cs)
 
 -- ---- the printed rows
 
@@ -137,5 +140,5 @@ unfolding wholeLine
 whole-length vs = rowLine-length (columnsFrom 0 vs) vs ∙ ap (λ n. 6 + n) (columns-length vs vs 0 (λ j. ap (λ (k : ℕ). getD vs k []) (omega arith)))
 
 -- what is seen of a row, printed, takes no more than the row with all its columns
-pub row-cost : (ns cs : List ℕ) (vs : List Value) → Distinct [] cs → AllBelow (length vs) cs → length (rowLine cs (onlyNamed ns 0 vs)) ≤ length (wholeLine vs)
-row-cost ns cs vs u b = omega (arith, rowLine-length cs (onlyNamed ns 0 vs), whole-length vs, named-cost ns vs cs, distinct-cost vs cs u b)
+pub row-cost : (o : ℕ → Bool) (ns cs : List ℕ) (vs : List Value) → allOf filled vs ≡ true → Distinct [] cs → AllBelow (length vs) cs → length (rowLine cs (seenValues o ns 0 vs)) ≤ length (wholeLine vs)
+row-cost o ns cs vs h u b = omega (arith, rowLine-length cs (seenValues o ns 0 vs), whole-length vs, seen-cost o ns vs h cs, distinct-cost vs cs u b)

@@ -23,8 +23,8 @@ use Rattle.query.proofs.Below.{forPurpose}
 use Rattle.query.proofs.NamedColumns.{columnNumber}
 use Rattle.query.proofs.QueryPlaceless.{closed-placeless, column-placeless, party-placeless, placelessQuery, resolved-placeless, types-placeless}
 use Rattle.query.specs.Authority.{Clock}
-use Rattle.query.specs.Query.{Query, resolved, select, wantedOf}
-use Rattle.query.specs.QueryForm.{QueryForm}
+use Rattle.query.specs.Query.{Query, resolved, wantedOf}
+use Rattle.query.specs.QueryForm.{QueryForm, hasGaps, leavesGaps, mapWanted, rowsOf, select}
 use Rattle.text.proofs.ReadBack.{placeless}
 use Rattle.text.proofs.RefusalLaws.{accepted-same}
 use Rattle.text.specs.Bytes.{ascii}
@@ -75,21 +75,21 @@ answers-placed d c q r a = record {
 
 -- ---- what an answer prints
 
-prints-answer : (q : Query) (cs : List ℕ) (rs : List Seen) → q .wanted ≡ select cs → Prints (answerTo q rs) cs (passedRows (matches (q .condition)) rs)
+prints-answer : (q : Query) (cs : List ℕ) (rs : List Seen) → q .wanted ≡ rowsOf select cs → Prints (answerTo q rs) cs (passedRows (matches (q .condition)) rs)
 unfolding Prints answerTo counted
 prints-answer q cs rs e =
-    ap (λ l. l ++ endLine (answerTo q rs .passed) (answerTo q rs .withheld) (answerTo q rs .unmatched)) (ap (λ w. rowLines (matches (q .condition)) w rs) e ∙ rows-printed (matches (q .condition)) cs rs)
+    ap (λ l. l ++ endLine (answerTo q rs .passed) (answerTo q rs .withheld) (answerTo q rs .unmatched)) (ap (λ w. rowLines (matches (q .condition)) w rs) e ∙ rows-printed (matches (q .condition)) select cs rs)
 
 -- an answered select prints its passed rows
-answer-prints : (d : Doc) (c : Clock) (q : QueryForm) (a : Answered) (ws : List Word) → q .columns ≡ some ws → Answers d c q a
+answer-prints : (d : Doc) (c : Clock) (q : QueryForm) (a : Answered) (ws : List Word) → q .wanted ≡ rowsOf select ws → Answers d c q a
     → Prints (a .answer) (map (columnNumber (columnsOf (d .policy) (q .table))) ws) (passedRows (matches (resolved (d .policy) q .condition)) (seenRows d (resolved (d .policy) q)))
 answer-prints d c q a ws e x =
     let cs : List ℕ = map (columnNumber (columnsOf (d .policy) (q .table))) ws in
     subst (λ (b : Answered). Prints (b .answer) cs (passedRows (matches (resolved (d .policy) q .condition)) (seenRows d (resolved (d .policy) q)))) (sym (x .is))
     (prints-answer (resolved (d .policy) q) cs (seenRows d (resolved (d .policy) q)) wanted)
   where
-    wanted : resolved (d .policy) q .wanted ≡ select (map (columnNumber (columnsOf (d .policy) (q .table))) ws)
-    wanted = unfold resolved wantedOf in ap (wantedOf (columnsOf (d .policy) (q .table))) e
+    wanted : resolved (d .policy) q .wanted ≡ rowsOf select (map (columnNumber (columnsOf (d .policy) (q .table))) ws)
+    wanted = unfold resolved wantedOf mapWanted in ap (wantedOf (columnsOf (d .policy) (q .table))) e
 
 -- if a select for P is answered, the same select for Q below P is answered too, under the
 -- same clock, with a buffer as long as its answer needs and a text within 4,096 bytes.
@@ -109,7 +109,7 @@ further-answered doc A is-A k u r p p′ rest is-k is-u is-r is-p is-p′ n n′
     let w : Word = other k u r p p′ rest is-k is-u is-r is-p is-p′ in
     let y = other-query k u r p p′ rest is-k is-u is-r is-p is-p′ q (x .reads) (le-leb _ _ short) in
     let sel = is-select k u r p p′ rest is-k is-u is-r is-p is-p′ q (x .reads) in
-    let z = further-down d q w n′ known-p′ (subst (λ o. descends (treeOf (d .policy .purposes)) n′ (orZero o) ≡ true) (sym (ap (purposeOf (d .policy)) (sel .0) ∙ known-p)) below) c a (is-answered d c q a answers) in
+    let z = further-down d q w n′ known-p′ (subst (λ o. descends (treeOf (d .policy .purposes)) n′ (orZero o) ≡ true) (sym (ap (purposeOf (d .policy)) (sel .0) ∙ known-p)) below) (unfold hasGaps leavesGaps in ap hasGaps (sel .2)) c a (is-answered d c q a answers) in
     let s : Answered = z .0 in
     let q′ : QueryForm = forPurpose w (y .0) in
     let t : Answers d c (forPurpose w q) s = answered d c (forPurpose w q) s (z .1) in

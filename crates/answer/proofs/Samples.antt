@@ -166,6 +166,35 @@ pub public-samples : map (λ c. answerOf (c .question)) publicCases ≡ map (λ 
 unfolding computing policy undeclared declared declaredShut clockAt answerOf answered refusedAt brokenAt _⇒_ publicCases
 public-samples = refl
 
+-- ---- blanks instead of missing rows (02, Q-10)
+
+-- a cell that is both closed and below zero in another, and a row with all cells closed; a table with a closed column; one with row labels
+unfoldable pub gapped : List ℕ
+gapped = session ++ ascii "(row sub (Di noads) (-5 noads))\n(table old column (who name free) (due num noads))\n(row old Ed 1)\n(table new row (due num))\n(row new noads 2)\n(row new free -3)\n"
+
+unfoldable pub blankCases : List Case
+blankCases =
+    -- a closed cell that is only selected is a gap, each time; a row is not withheld for it, though all its cells be closed
+    asking gapped (clockAt 2028 366 10) "(blank ana desk post sub (due who due))" 60021 ⇒ answered "(row 40 Ida 40)\n(row - Bo -)\n(row 60 Cy 60)\n(row - - -)\n(end 4 0 0)\n" 4 0 0
+    -- one in the condition withholds it, selected too or not
+    ∷ asking gapped (clockAt 2028 366 10) "(blank ana desk post sub (who due) (gt due 50))" 60021 ⇒ answered "(row Cy 60)\n(end 1 2 1)\n" 1 2 1
+    ∷ asking gapped (clockAt 2028 366 10) "(blank ana desk post sub (due) (ne who Cy))" 60021 ⇒ answered "(row 40)\n(row -)\n(end 2 1 1)\n" 2 1 1
+    -- a closed row label withholds; a closed column or table is 17, though it be only selected
+    ∷ asking gapped (clockAt 2028 366 10) "(blank ana desk post new (due))" 60021 ⇒ answered "(row -3)\n(end 1 1 0)\n" 1 1 0
+    ∷ asking gapped (clockAt 2028 366 10) "(blank ana desk post old (who due))" 60021 ⇒ refusedAt 17 30 3
+    ∷ asking undeclared (clockAt 2028 366 10) "(blank ana desk post log (day))" 60021 ⇒ refusedAt 17 21 3
+    ∷ asking declared (clockAt 2028 366 10) "(Blank ana desk post log (day))" 60021 ⇒ answered "(row 7)\n(end 1 0 0)\n" 1 0 0
+    -- a blank has a column bracket; its answer fits, or is 18
+    ∷ asking session (clockAt 2028 366 10) "(blank ana desk post sub)" 60021 ⇒ refusedAt 11 0 25
+    ∷ asking session (clockAt 2028 366 10) "(blank ana desk post sub (due))" 38 ⇒ answered "(row 40)\n(row -)\n(row 60)\n(end 3 0 0)\n" 3 0 0
+    ∷ asking session (clockAt 2028 366 10) "(blank ana desk post sub (due))" 37 ⇒ refusedAt 18 0 0
+    ∷ []
+
+-- in every case the definitions say what 02 expects
+pub blank-samples : map (λ c. answerOf (c .question)) blankCases ≡ map (λ c. c .expected) blankCases
+unfolding computing policy ida cy session gapped undeclared declared clockAt answerOf answered refusedAt _⇒_ blankCases
+blank-samples = refl
+
 -- ---- the asking program
 
 -- the sample's input, with a second query that lacks its line feed

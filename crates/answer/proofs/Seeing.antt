@@ -2,20 +2,19 @@
 -- Assumes nothing.
 use Prim.Native.Nat.{ℕ}
 use lib.Dec.{eqb}
-use mathlib.Core.Bool.{Bool, cond, false, true}
+use mathlib.Core.Bool.{Bool, _&&_, cond, false, true}
 use mathlib.Core.List.{List, [], _∷_, map}
 use mathlib.Core.Option.{Option, none, some}
 use mathlib.Core.Path.{_∙_, _≡_, ap, refl, sym}
-use Rattle.document.proofs.OpenLaws.{shown-open}
 use Rattle.document.specs.Lookup.{labellingAt, purposeOf, userOf}
-use Rattle.document.specs.Open.{cellOpen, columnOpen, labelOpen, rowWithheld, tableOpen}
+use Rattle.document.specs.Open.{cellOpen, labelOpen, rowWithheld}
 use Rattle.document.specs.Policy.{Policy, Row}
 use Rattle.form.specs.Form.{Scheme}
 use Rattle.answer.specs.Alike.{SameOrFree, differs, done, free, same, sees}
 use Rattle.answer.specs.Answer.{answerTo}
 use Rattle.answer.specs.Ask.{answerForm}
-use Rattle.answer.specs.Seen.{Seen, onlyNamed, rowsIn, seenIn, seenRow, seenRows, shown, withheld}
-use Rattle.query.proofs.NamedColumns.{all-withhold, columns-open, purpose-known, source-known, table-open}
+use Rattle.answer.specs.Seen.{Seen, gap, rowsIn, seenIn, seenRow, seenRows, seenValue, seenValues, shown, withheld}
+use Rattle.query.proofs.NamedColumns.{purpose-known, source-known}
 use Rattle.query.specs.Authority.{Clock, firstGrant}
 use Rattle.query.specs.Query.{Source, closedPart, mistypedQuery, resolved, sources, unknownColumn, unknownParty}
 use Rattle.query.specs.QueryForm.{QueryForm}
@@ -35,26 +34,31 @@ pub data RowsAlike (d : Policy) (q : Option QueryForm) : List Row → List Row �
   noRows : RowsAlike d q [] []
   rowAnd : {r s : Row} {rs ss : List Row} → RowAlike d q r s → RowsAlike d q rs ss → RowsAlike d q (r ∷ rs) (s ∷ ss)
 
--- values that are free only where no column is named are seen alike
-onlyNamed-same : (f : ℕ → Bool) (cs : List ℕ) → ((c : ℕ) → f c ≡ true → member c cs ≡ false) → {c : ℕ} {vs ws : List Value} → SameOrFree f c vs ws
-    → onlyNamed cs c vs ≡ onlyNamed cs c ws
-unfolding onlyNamed
-onlyNamed-same f cs h done = refl
-onlyNamed-same f cs h (same {c} v r) = ap (λ l. cond (member c cs) v [] ∷ l) (onlyNamed-same f cs h r)
-onlyNamed-same f cs h (differs {c} v w e r) = rw (h c e) (ap (λ l. [] ∷ l) (onlyNamed-same f cs h r))
+-- values that are free only where no column is named or the cell is closed are seen alike
+seenValues-same : (f o : ℕ → Bool) (ns : List ℕ) → ((c : ℕ) → f c ≡ true → (member c ns && o c) ≡ false) → {c : ℕ} {vs ws : List Value} → SameOrFree f c vs ws
+    → seenValues o ns c vs ≡ seenValues o ns c ws
+unfolding seenValues seenValue
+seenValues-same f o ns h done = refl
+seenValues-same f o ns h (same {c} v r) = ap (λ l. seenValue o ns c v ∷ l) (seenValues-same f o ns h r)
+seenValues-same f o ns h (differs {c} v w e r) = λ i. unseen (member c ns) (o c) (h c e) i ∷ seenValues-same f o ns h r i
+  where
+    unseen : (named opened : Bool) → (named && opened) ≡ false → cond named (cond opened v gap) [] ≡ cond named (cond opened w gap) []
+    unseen false opened k = refl
+    unseen true false k = refl
+    unseen true true k = true-not-false refl k
 
--- two rows are seen alike, if values are free only where no column is named or the row is withheld
+-- two rows are seen alike, if values are free only where no column is named, the cell is closed or the row is withheld
 seenRow-same : (isOpen : Option ℕ → Bool) (s : Scheme ℕ) (hs ns : List ℕ) (f : ℕ → Bool) (x y : Row) → y .labels ≡ x .labels
     → SameOrFree f 0 (x .values) (y .values)
-    → (rowWithheld isOpen s hs (x .labels) ≡ false → (c : ℕ) → f c ≡ true → member c ns ≡ false)
+    → (rowWithheld isOpen s hs (x .labels) ≡ false → (c : ℕ) → f c ≡ true → (member c ns && cellOpen isOpen s (x .labels) c) ≡ false)
     → seenRow isOpen s hs ns x ≡ seenRow isOpen s hs ns y
 unfolding seenRow
 seenRow-same isOpen s hs ns f x y e v h = rw e (go (rowWithheld isOpen s hs (x .labels)) refl)
   where
     go : (b : Bool) → rowWithheld isOpen s hs (x .labels) ≡ b
-        → cond b withheld (shown (onlyNamed ns 0 (x .values))) ≡ cond b withheld (shown (onlyNamed ns 0 (y .values)))
+        → cond b withheld (shown (seenValues (cellOpen isOpen s (x .labels)) ns 0 (x .values))) ≡ cond b withheld (shown (seenValues (cellOpen isOpen s (x .labels)) ns 0 (y .values)))
     go true w = refl
-    go false w = ap shown (onlyNamed-same f ns (h w) v)
+    go false w = ap shown (seenValues-same f (cellOpen isOpen s (x .labels)) ns (h w) v)
 
 -- rows that are kept alike and seen alike
 mapped-same : {d : Policy} {q : Option QueryForm} (k : Row → Bool) (f : Row → Seen)
@@ -69,28 +73,20 @@ mapped-same k f same-k same-f (rowAnd {r} {s} {rs} {ss} a as′) = go (k r) refl
     go true e rest = rw (← same-k r s a, e, same-f r s a e, rest)
     go false e rest = rw (← same-k r s a, e, rest)
 
--- in a row that is not withheld, of the one table that the query reads and which is open, a value that is free to differ is not named
-free-unnamed : (d : Policy) (q : QueryForm) (x : Source) (r : Row) (p : ℕ) → purposeOf d (q .purpose) ≡ some p → sources d q ≡ x ∷ []
-    → x .withholding ≡ x .named → eqb (r .table) (x .table) ≡ true → tableOpen (labelOpen d p) (labellingAt d (x .table)) ≡ true
-    → ((k : ℕ) → member k (x .named) ≡ true → columnOpen (labelOpen d p) (labellingAt d (x .table)) k ≡ true)
-    → rowWithheld (labelOpen d p) (labellingAt d (x .table)) (x .withholding) (r .labels) ≡ false
-    → (c : ℕ) → free d (some q) r c ≡ true → member c (x .named) ≡ false
+-- in a row that is not withheld, of the one table that the query reads, a value that is free to differ is not named or its cell is
+-- closed: it is not seen
+free-unseen : (d : Policy) (q : QueryForm) (x : Source) (r : Row) (p : ℕ) → purposeOf d (q .purpose) ≡ some p → sources d q ≡ x ∷ []
+    → eqb (r .table) (x .table) ≡ true → rowWithheld (labelOpen d p) (labellingAt d (x .table)) (x .withholding) (r .labels) ≡ false
+    → (c : ℕ) → free d (some q) r c ≡ true → (member c (x .named) && cellOpen (labelOpen d p) (labellingAt d (x .table)) (r .labels) c) ≡ false
 unfolding free holdsOf anyOf sees
-free-unnamed d q x r p is-p is-x all-withhold here t k w c f = go (member c (x .named)) refl
+free-unseen d q x r p is-p is-x here w c f = go _ refl
   where
-    opened : member c (x .named) ≡ true → cellOpen (labelOpen d p) (labellingAt d (x .table)) (r .labels) c ≡ true
-    opened m =
-        shown-open (labelOpen d p) (labellingAt d (x .table)) (x .named) (r .labels) t k
-        (ap (λ cs. rowWithheld (labelOpen d p) (labellingAt d (x .table)) cs (r .labels)) (sym all-withhold) ∙ w) c m
-
-    seen : member c (x .named) ≡ true → free d (some q) r c ≡ false
-    seen m = simp (is-p, is-x, here, w, m, opened m)
-
-    go : (b : Bool) → member c (x .named) ≡ b → member c (x .named) ≡ false
+    go : (b : Bool) → (member c (x .named) && cellOpen (labelOpen d p) (labellingAt d (x .table)) (r .labels) c) ≡ b
+        → (member c (x .named) && cellOpen (labelOpen d p) (labellingAt d (x .table)) (r .labels) c) ≡ false
     go false e = e
-    go true e = true-not-false f (seen e)
+    go true e = true-not-false f (simp (is-p, is-x, here, w, e))
 
-module _ (d : Policy) (q : QueryForm) (known-party : unknownParty d q ≡ none) (known-columns : unknownColumn d q ≡ none) (open-parts : closedPart d q ≡ none) where
+module _ (d : Policy) (q : QueryForm) (known-party : unknownParty d q ≡ none) (known-columns : unknownColumn d q ≡ none) where
   -- the table that the query reads
   abbrev source : Source
   source = resolved d q .source
@@ -103,8 +99,7 @@ module _ (d : Policy) (q : QueryForm) (known-party : unknownParty d q ≡ none) 
   row-seen : (x y : Row) → RowAlike d (some q) x y → eqb (x .table) (source .table) ≡ true → seen x ≡ seen y
   row-seen x y a e =
       seenRow-same (labelOpen d (resolved d q .purpose)) (labellingAt d (source .table)) (source .withholding) (source .named) (free d (some q) x) x y (a .labels) (a .values)
-      (free-unnamed d q source x (resolved d q .purpose) (purpose-known d q known-party) (source-known d q known-columns) (all-withhold d q) e
-      (table-open d q open-parts) (columns-open d q known-columns open-parts))
+      (free-unseen d q source x (resolved d q .purpose) (purpose-known d q known-party) (source-known d q known-columns) e)
 
   -- alike rows are seen alike
   pub seen-same : {rs ss : List Row} → RowsAlike d (some q) rs ss → seenRows (record { policy = d; rows = rs }) (resolved d q) ≡ seenRows (record { policy = d; rows = ss }) (resolved d q)
@@ -121,6 +116,6 @@ same-outcome d rs ss c q a =
     bind-cong (need (firstGrant d c u (orZero (purposeOf d (q .purpose)))) (pointing 14 query (q .purpose))) _ _ (λ g _.
     then-cong (refuseAt 15 query (unknownColumn d q)) _ _ (λ _ columns.
     then-cong (refuseAt 16 query (mistypedQuery d q)) _ _ (λ _ _.
-    then-cong (refuseAt 17 query (closedPart d q)) _ _ (λ _ parts.
+    then-cong (refuseAt 17 query (closedPart d q)) _ _ (λ _ _.
     ap (λ seen. accepted (record { answer = answerTo (resolved d q) seen; grant = g }))
-    (seen-same d q (refuseAt-accepted 12 query _ party) (refuseAt-accepted 15 query _ columns) (refuseAt-accepted 17 query _ parts) a)))))))
+    (seen-same d q (refuseAt-accepted 12 query _ party) (refuseAt-accepted 15 query _ columns) a)))))))

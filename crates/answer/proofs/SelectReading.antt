@@ -11,7 +11,7 @@ use Rattle.condition.specs.CondForm.{conditionInForm}
 use Rattle.answer.specs.Further.{selectText}
 use Rattle.query.proofs.Below.{forPurpose}
 use Rattle.query.proofs.QueryPlaceless.{bounds-placeless, placelessQuery}
-use Rattle.query.specs.QueryForm.{QueryForm, columnList, ifWithinBounds, queryBody, queryForm, queryForms, queryOf, selectColumns, selectedWords, withinBounds}
+use Rattle.query.specs.QueryForm.{QueryForm, columnList, ifWithinBounds, mapWanted, queryBody, queryForm, queryForms, queryOf, rowsOf, select, selectedWords, wantedRows, withinBounds}
 use Rattle.text.proofs.ByteLaws.{name-nameBytes, run-stops}
 use Rattle.lists.proofs.ListLaws.{drop-append}
 use Rattle.text.proofs.NameLaws.{sameName-length}
@@ -30,9 +30,9 @@ use Rattle.text.specs.Words.{Word, isCalled, name, word, wordThat}
 unfoldable behindPurpose : Word → Word → Word → Reader QueryForm
 behindPurpose u r p = do
   t ← next name
-  cs ← selectColumns
+  w ← wantedRows select
   c ← optional conditionInForm
-  give (record { user = u; role = r; purpose = p; table = t; columns = cs; condition = c })
+  give (record { user = u; role = r; purpose = p; table = t; wanted = w; condition = c })
 
 -- a name behind a space
 name-next : {B : Type 0} (f : Word → Reader B) (at : ℕ) (w rest : List ℕ) → isName w ≡ true → isNameByte (firstByte rest) ≡ false
@@ -51,7 +51,7 @@ module _ (u r : Name) (rest : List ℕ) (is-u : isName u ≡ true) (is-r : isNam
   unfoldable pub purposeAt : ℕ
   purposeAt = 8 + length u + 1 + length r + 1
 
-  body-reads : (p : Name) → isName p ≡ true → queryBody selectColumns (left 7 (32 ∷ (u ++ 32 ∷ (r ++ 32 ∷ (p ++ 32 ∷ rest)))))
+  body-reads : (p : Name) → isName p ≡ true → queryBody (wantedRows select) (left 7 (32 ∷ (u ++ 32 ∷ (r ++ 32 ∷ (p ++ 32 ∷ rest)))))
       ≡ behindPurpose userWord roleWord (record { at = purposeAt; bytes = p }) (left (purposeAt + length p) (32 ∷ rest))
   unfolding queryBody behindPurpose userWord roleWord purposeAt isNameByte isLetter isDigit
   body-reads p is-p = name-next _ 7 u _ is-u refl ∙ name-next _ (8 + length u) r _ is-r refl ∙ name-next _ (8 + length u + 1 + length r) p _ is-p refl
@@ -64,7 +64,7 @@ tail u r p = do
   give x
 
 -- the keyword `select`, in any case of letters, calls for the body of a select
-keyword-select : (k bs : List ℕ) → sameName k (ascii "select") ≡ true → keyword queryForms (left 1 (k ++ 32 ∷ bs)) ≡ queryBody selectColumns (left 7 (32 ∷ bs))
+keyword-select : (k bs : List ℕ) → sameName k (ascii "select") ≡ true → keyword queryForms (left 1 (k ++ 32 ∷ bs)) ≡ queryBody (wantedRows select) (left 7 (32 ∷ bs))
 unfolding keyword word queryForms among isCalled allOf isNameByte isLetter isDigit
 keyword-select k bs e =
     rw (run-stops k (32 ∷ bs) (same-name-bytes k (ascii "select") e refl) refl, drop-append k (32 ∷ bs), sameName-length k (ascii "select") e, e)
@@ -76,17 +76,17 @@ unfolding whole tail queryForm bracketed byte selectText
 form-reads k u r p rest is-k is-u is-r is-p =
     ap (λ o. ended (andThen o (λ x. byte 41 >> give x))) (keyword-select k (u ++ 32 ∷ (r ++ 32 ∷ (p ++ 32 ∷ rest))) is-k ∙ body-reads u r rest is-u is-r p is-p)
 
-columns-agree : Agree (Option·map (map placeless)) selectColumns selectColumns
-unfolding selectColumns columnList
+columns-agree : Agree (mapWanted placeless) (wantedRows select) (wantedRows select)
+unfolding wantedRows columnList mapWanted
 columns-agree =
     bind-agree (next-agree (bracketed-agree (bind-agree (wordThat-agree isName) (λ c c′ e. bind-agree (many-agree (wordThat-agree isName)) (λ cs cs′ es. give-agree _ _ (λ i. e i ∷ es i))))))
-    (λ cs cs′ e. give-agree _ _ (ap {B = Option (List Word)} some e))
+    (λ cs cs′ e. give-agree _ _ (ap (rowsOf select) e))
 
 tail-agree : (u r p : Word) → Agree placelessQuery (tail u r p) (tail u r p)
 unfolding tail behindPurpose placelessQuery
 tail-agree u r p =
     bind-agree (bind-agree (next-agree (wordThat-agree isName)) (λ t t′ e. bind-agree columns-agree (λ cs cs′ f. bind-agree (optional-agree conditionInForm-agree) (λ c c′ g.
-    give-agree _ _ (λ i. record { user = placeless u; role = placeless r; purpose = placeless p; table = e i; columns = f i; condition = g i })))))
+    give-agree _ _ (λ i. record { user = placeless u; role = placeless r; purpose = placeless p; table = e i; wanted = f i; condition = g i })))))
     (λ x y e. then-agree (byte-agree 41) (give-agree x y e))
 
 -- ---- another purpose in the same place gives the same query for that purpose
@@ -101,7 +101,7 @@ then-map g (some r) f f′ h = h (r .0) (r .1)
 behind-swap : (u r p w : Word) (l : Left) → behindPurpose u r w l ≡ Option·map (swap w) (behindPurpose u r p l)
 unfolding behindPurpose swap forPurpose
 behind-swap u r p w l =
-    then-map (swap w) (next name l) _ _ (λ t l. then-map (swap w) (selectColumns l) _ _ (λ cs l. then-map (swap w) (optional conditionInForm l) _ _ (λ c l. refl)))
+    then-map (swap w) (next name l) _ _ (λ t l. then-map (swap w) (wantedRows select l) _ _ (λ cs l. then-map (swap w) (optional conditionInForm l) _ _ (λ c l. refl)))
 
 tail-swap : (u r p w : Word) (l : Left) → tail u r w l ≡ Option·map (swap w) (tail u r p l)
 unfolding tail swap
@@ -159,13 +159,13 @@ give-always {A} P x h = record { on = λ l y e. subst (λ (z : A × Left). P (z 
 
 -- a select for the purpose p
 unfoldable pub IsSelect : Word → QueryForm → Type 0
-IsSelect p q = (q .purpose ≡ p) × (ws : List Word) × (q .columns ≡ some ws)
+IsSelect p q = (q .purpose ≡ p) × (ws : List Word) × (q .wanted ≡ rowsOf select ws)
 
 tail-select : (u r p : Word) → Always (IsSelect p) (tail u r p)
-unfolding tail behindPurpose selectColumns IsSelect
+unfolding tail behindPurpose wantedRows IsSelect
 tail-select u r p =
     bind-always (behindPurpose u r p) _ (bind-always (next name) _ (anything (next name)) (λ t _.
-    bind-always {Q = λ cs. (ws : List Word) × (cs ≡ some ws)} selectColumns _ (bind-always (next columnList) _ (anything (next columnList)) (λ ws _. give-always _ _ (ws, refl))) (λ cs w.
+    bind-always {Q = λ w. (ws : List Word) × (w ≡ rowsOf select ws)} (wantedRows select) _ (bind-always (next columnList) _ (anything (next columnList)) (λ ws _. give-always _ _ (ws, refl))) (λ cs w.
     bind-always (optional conditionInForm) _ (anything (optional conditionInForm)) (λ c _. give-always (IsSelect p) _ (refl, w .0, w .1)))))
     (λ x h. bind-always (byte 41) _ (anything (byte 41)) (λ b _. give-always (IsSelect p) x h))
 

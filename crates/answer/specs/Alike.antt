@@ -1,4 +1,4 @@
--- Meaning: when two documents are alike for a query (01, "The no-difference claim"; 02, Q-8). Which cells may differ is said by the policy
+-- Meaning: when two documents are alike for a query (01, "The no-difference claim"; 02, Q-8, Q-10). Which cells may differ is said by the policy
 -- and the labels of the rows, which alike documents share.
 use Prim.Native.Nat.{suc, ℕ}
 use lib.Dec.{eqb}
@@ -32,7 +32,8 @@ sees d p r c x =
     && (member c (x .named) && cellOpen (labelOpen d p) (labellingAt d (x .table)) (r .labels) c))
 
 -- the value of cell c of the row may differ: the query, be it answered or refused, does not see it, since the cell is closed to the
--- purpose, stands in a table or column that the query does not name, or lies in a row withheld from it. To a purpose that the
+-- purpose, stands in a table or column that the query does not name, or lies in a row withheld from it, which for a blank is one that its
+-- condition's columns or the row's label withhold (02, Q-10). To a purpose that the
 -- document does not know every cell is closed, and a text that is no query names nothing
 unfoldable pub free : Policy → Option QueryForm → Row → ℕ → Bool
 free d none r c = true

@@ -9,7 +9,9 @@ use native.Mathlib.Omega.{arith}
 use Rattle.answer.specs.Answer.{Answer, counted, endLine}
 use Rattle.answering.proofs.LineLaws.{lines-short}
 use Rattle.answering.specs.Answering.{Writes, bufferAfter, measuredOf}
-use Rattle.answering.specs.Lines.{answerMarked, linesMarked}
+use Rattle.answering.specs.Lines.{answerMarked, linesMarked, rowShown}
+use Rattle.document.specs.Policy.{Policy}
+use Rattle.judging.specs.declared.tally.Tally.{Tally}
 use Rattle.text.specs.Bytes.{ascii}
 use Rattle.text.specs.Numbers.{decimal}
 use Rattle.writing.proofs.Digits.{decimal-short}
@@ -25,25 +27,34 @@ end-short p w u =
     let c : List ℕ = b ++ 32 ∷ decimal u in
     omega (arith, decimal-short p, decimal-short w, decimal-short u, length-append a (32 ∷ decimal w), length-append b (32 ∷ decimal u), length-append c (ascii ")\n"))
 
-module _ (text ws cs : List ℕ) (marks : List Bool) (chosen k p w u : ℕ) (small : length text ≤ 60000) (few : chosen ≤ 16) (rows : k ≤ 1024) where
-  -- an answer is far shorter than a machine's longest array
-  short : (selecting : Bool) → 0 + length (answerMarked text ws (take chosen cs) marks k selecting p w u .bytes) < 2 ^ 63
+module _ (d : Policy) (p : ℕ) (text ws : List ℕ) (gaps : Bool) (cs : List ℕ) (marks : List Bool) (chosen k : ℕ) (x : Tally) (small : length text ≤ 60000) (few : chosen ≤ 16) (rows : k ≤ 1024) where
+  -- the answer
+  abbrev marked : Bool → Answer
+  marked asked = answerMarked (rowShown d p text ws gaps) (take chosen cs) marks k asked x
+
+  abbrev lines : List ℕ
+  lines = linesMarked (rowShown d p text ws gaps) (take chosen cs) marks k
+
+  abbrev last : List ℕ
+  last = endLine (x .passed) (x .withheld) (x .unmatched)
+
+  -- it is far shorter than a machine's longest array
+  short : (asked : Bool) → 0 + length (marked asked .bytes) < 2 ^ 63
   unfolding answerMarked counted
   short true =
       let l : length (take chosen cs) ≤ 16 = omega (arith, few, length-take chosen cs) in
-      omega (arith, rows, length-append (linesMarked text ws (take chosen cs) marks k) (endLine p w u), lines-short text ws (take chosen cs) marks small l k, end-short p w u)
-  short false = omega (arith, end-short p w u)
+      omega (arith, rows, length-append lines last, lines-short d p text ws gaps (take chosen cs) marks small l k, end-short (x .passed) (x .withheld) (x .unmatched))
+  short false = omega (arith, end-short (x .passed) (x .withheld) (x .unmatched))
 
-  -- a select: the lines, then the end line
-  pub select-written : {selecting : Bool} {d e f : List ℕ} {m n : ℕ} → selecting ≡ true → Wrote d 0 (linesMarked text ws (take chosen cs) marks k) e m → Wrote e m (endLine p w u) f n
-      → Stored d 0 (answerMarked text ws (take chosen cs) marks k selecting p w u .bytes) f n
+  -- the lines, where they are asked for, then the end line
+  pub lines-written : {asked : Bool} {b e f : List ℕ} {m n : ℕ} → asked ≡ true → Wrote b 0 lines e m → Wrote e m last f n → Stored b 0 (marked asked .bytes) f n
   unfolding answerMarked counted
-  select-written {selecting} {d} {e} {f} {m} {n} is v z = subst (λ b. Stored d 0 (answerMarked text ws (take chosen cs) marks k b p w u .bytes) f n) (sym is) (both v z .room (short true))
+  lines-written {b} {f} {n} is v z = subst (λ (asked : Bool). Stored b 0 (marked asked .bytes) f n) (sym is) (both v z .room (short true))
 
   -- a count: the end line alone
-  pub count-written : {selecting : Bool} {d f : List ℕ} {n : ℕ} → selecting ≡ false → Wrote d 0 (endLine p w u) f n → Stored d 0 (answerMarked text ws (take chosen cs) marks k selecting p w u .bytes) f n
+  pub count-written : {asked : Bool} {b f : List ℕ} {n : ℕ} → asked ≡ false → Wrote b 0 last f n → Stored b 0 (marked asked .bytes) f n
   unfolding answerMarked counted
-  count-written {selecting} {d} {f} {n} is z = subst (λ b. Stored d 0 (answerMarked text ws (take chosen cs) marks k b p w u .bytes) f n) (sym is) (z .room (short false))
+  count-written {b} {f} {n} is z = subst (λ (asked : Bool). Stored b 0 (marked asked .bytes) f n) (sym is) (z .room (short false))
 
 -- what is behind a text written from the start is its length
 pub size-written : {d bytes f : List ℕ} {n : ℕ} → Stored d 0 bytes f n → n ≡ length bytes

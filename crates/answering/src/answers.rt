@@ -1,10 +1,14 @@
 // The whole answer: measured first, and then, where there is room, written straight into the lent buffer.
 use crate::lines::put_end;
 use crate::lines::put_lines;
+use form::lines::Scheme;
 use judging::fates::judge_rows;
 use judging::sought::Sought;
 use judging::tally::Tally;
 use judging::tests::TEST_CELLS;
+use query::reading::Verb;
+use query::reading::leaves_gaps;
+use relations::tables::table_scheme;
 use workspace::layout::COLUMNS;
 use workspace::layout::LABELS;
 use workspace::layout::ROW_CELLS;
@@ -12,14 +16,14 @@ use workspace::layout::ROWS;
 use workspace::layout::TABLE_CELLS;
 ghost use Prim.Native.Nat.{_≤_, ℕ};
 ghost use lib.ListN.{length, take};
-ghost use mathlib.Core.List.{List};
 ghost use mathlib.Core.Path.{_≡_};
 ghost use Rattle.answer.specs.Answer.{answerTo};
 ghost use Rattle.answer.specs.Seen.{seenRows};
 ghost use Rattle.answering.specs.Answering.{Writes};
-ghost use Rattle.answering.specs.Lines.{answerMarked};
+ghost use Rattle.answering.specs.Lines.{answerMarked, gapsBy, labelsCells, rowShown};
 ghost use Rattle.judging.specs.Prepared.{Prepared};
-ghost use Rattle.document.specs.Policy.{Doc, Row};
+ghost use Rattle.document.specs.Policy.{Doc};
+ghost use Rattle.relations.specs.Labels.{Opened};
 ghost use Rattle.relations.specs.Rows.{Rows};
 ghost use Rattle.query.specs.Query.{Query};
 ghost use Rattle.writing.specs.Write.{Stored};
@@ -33,25 +37,52 @@ pub struct Measured {
     pub tally: Tally,
 }
 
-// Writes the answer, as far as the buffer goes: the marked rows' lines, if it is a select, and the end line.
+// Whether the cells of a table of this scheme have labels of their own.
+fn labels_cells(s: Scheme) -> bool
+    ensures { λ r. ⌜ r ≡ labelsCells s ⌝ }
+{
+    match s {
+        Scheme::Unlabelled => false,
+        Scheme::ByTable => false,
+        Scheme::ByColumn => false,
+        Scheme::ByRow => false,
+        Scheme::ByCell => true,
+    }
+}
+
+// Whether gaps are written: they are left, and cells have labels of their own. In a table of another scheme a row that is given has
+// no closed cell in the selected columns.
+fn writes_gaps(verb: Verb, scheme: Scheme) -> bool
+    ensures { λ r. ⌜ r ≡ gapsBy verb scheme ⌝ }
+{
+    if leaves_gaps(verb) {
+        return labels_cells(scheme);
+    }
+    false
+}
+
+// Writes the answer, as far as the buffer goes: the marked rows' lines, if they are asked for, and the end line.
 fn put_answer(
     out: &mut [u8],
     text: &[u8],
     rows: &[usize; ROW_CELLS],
+    opened: &[bool; LABELS],
+    gaps: bool,
     count: usize,
     marks: &[bool; ROWS],
     columns: &[usize; 80],
-    select: bool,
+    lines: bool,
     chosen: usize,
-    passed: usize,
-    withheld: usize,
-    unmatched: usize,
+    tally: Tally,
 ) -> usize
     requires { ⌜ (length (now text) ≤ 60000) × (chosen ≤ 16) × (count ≤ 1024) ⌝ }
-    ensures { λ x. ⌜ ((rs : List Row) → Rows (now (text .entry)) (now (rows .entry)) count rs → Stored (now (out .entry)) 0 (answerMarked (now (text .entry)) (now (rows .entry)) (take chosen (now (columns .entry))) (now (marks .entry)) count select passed withheld unmatched .bytes) (now (out .exit)) x) ⌝ }
+    ensures { λ x. ⌜ ((d : Doc) (p : ℕ) → Opened (d .policy) p (now (opened .entry)) → Rows (now (text .entry)) (now (rows .entry)) count (d .rows) → Stored (now (out .entry)) 0 (answerMarked (rowShown (d .policy) p (now (text .entry)) (now (rows .entry)) gaps) (take chosen (now (columns .entry))) (now (marks .entry)) count lines tally .bytes) (now (out .exit)) x) ⌝ }
 {
-    if select {
-        let at = put_lines(out, text, rows, count, marks, columns, chosen);
+    let passed = tally.passed;
+    let withheld = tally.withheld;
+    let unmatched = tally.unmatched;
+    if lines {
+        let at = put_lines(out, text, rows, opened, gaps, count, marks, columns, chosen);
         return put_end(out, at, passed, withheld, unmatched);
     }
     put_end(out, 0, passed, withheld, unmatched)
@@ -61,29 +92,31 @@ fn put_answer(
 fn measure_answer(
     text: &[u8],
     rows: &[usize; ROW_CELLS],
+    opened: &[bool; LABELS],
+    gaps: bool,
     count: usize,
     marks: &[bool; ROWS],
     columns: &[usize; 80],
-    select: bool,
+    lines: bool,
     chosen: usize,
     tally: Tally,
 ) -> usize
     requires { ⌜ (length (now text) ≤ 60000) × (chosen ≤ 16) × (count ≤ 1024) ⌝ }
-    ensures { λ n. ⌜ ((rs : List Row) → Rows (now (text .entry)) (now (rows .entry)) count rs → n ≡ length (answerMarked (now (text .entry)) (now (rows .entry)) (take chosen (now (columns .entry))) (now (marks .entry)) count select (tally .passed) (tally .withheld) (tally .unmatched) .bytes)) ⌝ }
+    ensures { λ n. ⌜ ((d : Doc) (p : ℕ) → Opened (d .policy) p (now (opened .entry)) → Rows (now (text .entry)) (now (rows .entry)) count (d .rows) → n ≡ length (answerMarked (rowShown (d .policy) p (now (text .entry)) (now (rows .entry)) gaps) (take chosen (now (columns .entry))) (now (marks .entry)) count lines tally .bytes)) ⌝ }
 {
     let mut nothing = [0u8; 1];
     put_answer(
         &mut nothing[..0],
         text,
         rows,
+        opened,
+        gaps,
         count,
         marks,
         columns,
-        select,
+        lines,
         chosen,
-        tally.passed,
-        tally.withheld,
-        tally.unmatched,
+        tally,
     )
 }
 
@@ -92,17 +125,30 @@ fn put_measured(
     out: &mut [u8],
     text: &[u8],
     rows: &[usize; ROW_CELLS],
+    opened: &[bool; LABELS],
+    gaps: bool,
     count: usize,
     marks: &[bool; ROWS],
     columns: &[usize; 80],
-    select: bool,
+    lines: bool,
     chosen: usize,
     tally: Tally,
 ) -> Measured
     requires { ⌜ (length (now text) ≤ 60000) × (chosen ≤ 16) × (count ≤ 1024) ⌝ }
-    ensures { λ x. ⌜ ((rs : List Row) → Rows (now (text .entry)) (now (rows .entry)) count rs → Writes (answerMarked (now (text .entry)) (now (rows .entry)) (take chosen (now (columns .entry))) (now (marks .entry)) count select (tally .passed) (tally .withheld) (tally .unmatched)) (now (out .entry)) (now (out .exit)) x) ⌝ }
+    ensures { λ x. ⌜ ((d : Doc) (p : ℕ) → Opened (d .policy) p (now (opened .entry)) → Rows (now (text .entry)) (now (rows .entry)) count (d .rows) → Writes (answerMarked (rowShown (d .policy) p (now (text .entry)) (now (rows .entry)) gaps) (take chosen (now (columns .entry))) (now (marks .entry)) count lines tally) (now (out .entry)) (now (out .exit)) x) ⌝ }
 {
-    let len = measure_answer(text, rows, count, marks, columns, select, chosen, tally);
+    let len = measure_answer(
+        text,
+        rows,
+        opened,
+        gaps,
+        count,
+        marks,
+        columns,
+        lines,
+        chosen,
+        tally,
+    );
     if out.len() < len {
         return Measured { len, tally };
     }
@@ -110,14 +156,14 @@ fn put_measured(
         out,
         text,
         rows,
+        opened,
+        gaps,
         count,
         marks,
         columns,
-        select,
+        lines,
         chosen,
-        tally.passed,
-        tally.withheld,
-        tally.unmatched,
+        tally,
     );
     Measured { len, tally }
 }
@@ -172,14 +218,19 @@ pub fn answer_rows(
         columns,
         &mut marks,
     );
+    let verb = s.verb;
+    let scheme = table_scheme(tables, s.table);
+    let gaps = writes_gaps(verb, scheme);
     put_measured(
         out,
         text,
         rows,
+        opened,
+        gaps,
         count,
         &marks,
         columns,
-        s.select,
+        s.lines,
         s.chosen,
         tally,
     )

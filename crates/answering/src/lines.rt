@@ -1,8 +1,10 @@
 // The lines of an answer: those of the rows that are given, and the last.
 use judging::cells::value_place;
+use judging::fates::cell_open;
 use relations::rows::row_values;
 use text::words::written_end;
 use workspace::layout::COLUMNS;
+use workspace::layout::LABELS;
 use workspace::layout::ROW_CELLS;
 use workspace::layout::ROWS;
 use writing::bytes::put_byte;
@@ -10,15 +12,17 @@ use writing::bytes::put_bytes;
 use writing::bytes::put_decimal;
 use writing::bytes::put_number;
 use writing::bytes::put_sized;
-ghost use Prim.Native.Nat.{_<_, _≤_};
+ghost use Prim.Native.Nat.{_<_, _≤_, ℕ};
 ghost use lib.ListN.{getD, length, set, take};
 ghost use mathlib.Core.List.{List, []};
 ghost use mathlib.Core.Path.{_≡_};
 ghost use Rattle.answer.specs.Answer.{endLine, rowLine};
-ghost use Rattle.answering.specs.Lines.{Sizes, lineMarked, linesMarked, spacedValues};
-ghost use Rattle.document.specs.Policy.{Row};
-ghost use Rattle.relations.specs.Rows.{Rows, valueCountIn, valueIn};
-ghost use Rattle.workspace.specs.Tabulated.{tabulated};
+ghost use Rattle.answer.specs.Exactly.{withGaps};
+ghost use Rattle.answering.specs.Lines.{Sizes, cellShown, lineMarked, linesMarked, rowShown, shownIn, spacedValues, valuesIn};
+ghost use Rattle.document.specs.Policy.{Doc, Policy};
+ghost use Rattle.judging.specs.Judging.{openIn};
+ghost use Rattle.relations.specs.Labels.{Opened};
+ghost use Rattle.relations.specs.Rows.{Rows, labelCountIn, labelRoom, valueCountIn};
 ghost use Rattle.text.specs.Numbers.{Value};
 ghost use Rattle.text.specs.Words.{writtenAt};
 ghost use Rattle.writing.specs.Write.{Wrote};
@@ -73,7 +77,7 @@ fn put_values(
     columns: &[usize],
 ) -> usize
     requires { ⌜ (r < 1024) × (width ≤ 16) ⌝ }
-    ensures { λ x. ⌜ Wrote (now (out .entry)) at (spacedValues (now (columns .entry)) (tabulated (valueIn (now (text .entry)) (now (rows .entry)) r) width)) (now (out .exit)) x ⌝ }
+    ensures { λ x. ⌜ Wrote (now (out .entry)) at (spacedValues (now (columns .entry)) (valuesIn (now (text .entry)) (now (rows .entry)) r width)) (now (out .exit)) x ⌝ }
 {
     let mut sizes = [0usize; COLUMNS];
     let mut to = at;
@@ -89,21 +93,98 @@ fn put_values(
     to
 }
 
-// Writes the line of row r.
-fn put_row(
+// Writes the value of column c of row r, or a gap where it is not shown; nothing for a column that the row has not. A value that is
+// not shown is not looked at.
+fn put_cell(
     out: &mut [u8],
     at: usize,
     text: &[u8],
     rows: &[usize; ROW_CELLS],
     r: usize,
     width: usize,
+    c: usize,
+    shown: bool,
+    sizes: &mut [usize; COLUMNS],
+) -> usize
+    requires { ⌜ (r < 1024) × (width ≤ 16) ⌝ }
+    ensures { λ x. ⌜ (Sizes (valuesIn (now (text .entry)) (now (rows .entry)) r width) (now (sizes .entry)) → Wrote (now (out .entry)) at (cellShown shown (valuesIn (now (text .entry)) (now (rows .entry)) r width) c) (now (out .exit)) x × Sizes (valuesIn (now (text .entry)) (now (rows .entry)) r width) (now (sizes .exit))) ⌝ }
+{
+    if shown {
+        let place = value_place(text, rows, r, width, c);
+        let size = value_size(text, place, c, sizes);
+        return put_sized(out, at, text, place, size);
+    }
+    if c < width {
+        return put_byte(out, at, b'-');
+    }
+    at
+}
+
+// Writes the values of row r in some columns, each after a space, with a gap for each closed cell (02, Q-10).
+fn put_gapped(
+    out: &mut [u8],
+    at: usize,
+    text: &[u8],
+    rows: &[usize; ROW_CELLS],
+    opened: &[bool; LABELS],
+    r: usize,
+    width: usize,
     columns: &[usize],
 ) -> usize
     requires { ⌜ (r < 1024) × (width ≤ 16) ⌝ }
-    ensures { λ x. ⌜ Wrote (now (out .entry)) at (rowLine (now (columns .entry)) (tabulated (valueIn (now (text .entry)) (now (rows .entry)) r) width)) (now (out .exit)) x ⌝ }
+    ensures { λ x. ⌜ ((d : Policy) (p : ℕ) → Opened d p (now (opened .entry)) → labelCountIn (now (rows .entry)) r ≤ labelRoom → Wrote (now (out .entry)) at (spacedValues (now (columns .entry)) (withGaps (openIn d p (now (rows .entry)) r) 0 (valuesIn (now (text .entry)) (now (rows .entry)) r width))) (now (out .exit)) x) ⌝ }
+{
+    let mut sizes = [0usize; COLUMNS];
+    let mut to = at;
+    let mut i = 0;
+    while i < columns.len() {
+        let c = columns[i];
+        let shown = cell_open(rows, opened, r, c);
+        let next = put_byte(out, to, b' ');
+        to = put_cell(out, next, text, rows, r, width, c, shown, &mut sizes);
+        i += 1;
+    }
+    to
+}
+
+// Writes the values of row r in some columns, each after a space, with gaps or as they are.
+fn put_shown(
+    out: &mut [u8],
+    at: usize,
+    text: &[u8],
+    rows: &[usize; ROW_CELLS],
+    opened: &[bool; LABELS],
+    gaps: bool,
+    r: usize,
+    width: usize,
+    columns: &[usize],
+) -> usize
+    requires { ⌜ (r < 1024) × (width ≤ 16) ⌝ }
+    ensures { λ x. ⌜ ((d : Policy) (p : ℕ) → Opened d p (now (opened .entry)) → labelCountIn (now (rows .entry)) r ≤ labelRoom → Wrote (now (out .entry)) at (spacedValues (now (columns .entry)) (shownIn d p (now (text .entry)) (now (rows .entry)) gaps r width)) (now (out .exit)) x) ⌝ }
+{
+    if gaps {
+        return put_gapped(out, at, text, rows, opened, r, width, columns);
+    }
+    put_values(out, at, text, rows, r, width, columns)
+}
+
+// Writes the line of row r.
+fn put_row(
+    out: &mut [u8],
+    at: usize,
+    text: &[u8],
+    rows: &[usize; ROW_CELLS],
+    opened: &[bool; LABELS],
+    gaps: bool,
+    r: usize,
+    width: usize,
+    columns: &[usize],
+) -> usize
+    requires { ⌜ (r < 1024) × (width ≤ 16) ⌝ }
+    ensures { λ x. ⌜ ((d : Policy) (p : ℕ) → Opened d p (now (opened .entry)) → labelCountIn (now (rows .entry)) r ≤ labelRoom → Wrote (now (out .entry)) at (rowLine (now (columns .entry)) (shownIn d p (now (text .entry)) (now (rows .entry)) gaps r width)) (now (out .exit)) x) ⌝ }
 {
     let a = put_bytes(out, at, b"(row");
-    let b = put_values(out, a, text, rows, r, width, columns);
+    let b = put_shown(out, a, text, rows, opened, gaps, r, width, columns);
     put_bytes(out, b, b")\n")
 }
 
@@ -113,16 +194,18 @@ fn put_line(
     at: usize,
     text: &[u8],
     rows: &[usize; ROW_CELLS],
+    opened: &[bool; LABELS],
+    gaps: bool,
     r: usize,
     marked: bool,
     columns: &[usize],
 ) -> usize
     requires { ⌜ r < 1024 ⌝ }
-    ensures { λ x. ⌜ (valueCountIn (now (rows .entry)) r ≤ 16 → Wrote (now (out .entry)) at (lineMarked (now (text .entry)) (now (rows .entry)) (now (columns .entry)) r marked) (now (out .exit)) x) ⌝ }
+    ensures { λ x. ⌜ ((d : Policy) (p : ℕ) → Opened d p (now (opened .entry)) → valueCountIn (now (rows .entry)) r ≤ 16 → labelCountIn (now (rows .entry)) r ≤ labelRoom → Wrote (now (out .entry)) at (lineMarked (rowShown d p (now (text .entry)) (now (rows .entry)) gaps) (now (columns .entry)) r marked) (now (out .exit)) x) ⌝ }
 {
     if marked {
         let width = row_values(rows, r);
-        return put_row(out, at, text, rows, r, width, columns);
+        return put_row(out, at, text, rows, opened, gaps, r, width, columns);
     }
     at
 }
@@ -132,17 +215,19 @@ fn put_marked(
     out: &mut [u8],
     text: &[u8],
     rows: &[usize; ROW_CELLS],
+    opened: &[bool; LABELS],
+    gaps: bool,
     count: usize,
     marks: &[bool],
     columns: &[usize],
 ) -> usize
     requires { ⌜ (count ≤ 1024) × (length (now marks) ≡ 1024) ⌝ }
-    ensures { λ x. ⌜ ((rs : List Row) → Rows (now (text .entry)) (now (rows .entry)) count rs → Wrote (now (out .entry)) 0 (linesMarked (now (text .entry)) (now (rows .entry)) (now (columns .entry)) (now (marks .entry)) count) (now (out .exit)) x) ⌝ }
+    ensures { λ x. ⌜ ((d : Doc) (p : ℕ) → Opened (d .policy) p (now (opened .entry)) → Rows (now (text .entry)) (now (rows .entry)) count (d .rows) → Wrote (now (out .entry)) 0 (linesMarked (rowShown (d .policy) p (now (text .entry)) (now (rows .entry)) gaps) (now (columns .entry)) (now (marks .entry)) count) (now (out .exit)) x) ⌝ }
 {
     let mut to = 0;
     let mut r = 0;
     while r < count {
-        to = put_line(out, to, text, rows, r, marks[r], columns);
+        to = put_line(out, to, text, rows, opened, gaps, r, marks[r], columns);
         r += 1;
     }
     to
@@ -153,17 +238,28 @@ pub(crate) fn put_lines(
     out: &mut [u8],
     text: &[u8],
     rows: &[usize; ROW_CELLS],
+    opened: &[bool; LABELS],
+    gaps: bool,
     count: usize,
     marks: &[bool; ROWS],
     columns: &[usize; 80],
     chosen: usize,
 ) -> usize
     requires { ⌜ (chosen ≤ 16) × (count ≤ 1024) ⌝ }
-    ensures { λ x. ⌜ ((rs : List Row) → Rows (now (text .entry)) (now (rows .entry)) count rs → Wrote (now (out .entry)) 0 (linesMarked (now (text .entry)) (now (rows .entry)) (take chosen (now (columns .entry))) (now (marks .entry)) count) (now (out .exit)) x) ⌝ }
+    ensures { λ x. ⌜ ((d : Doc) (p : ℕ) → Opened (d .policy) p (now (opened .entry)) → Rows (now (text .entry)) (now (rows .entry)) count (d .rows) → Wrote (now (out .entry)) 0 (linesMarked (rowShown (d .policy) p (now (text .entry)) (now (rows .entry)) gaps) (take chosen (now (columns .entry))) (now (marks .entry)) count) (now (out .exit)) x) ⌝ }
 {
     let marked: &[bool] = marks;
     let numbers: &[usize] = columns;
-    put_marked(out, text, rows, count, marked, &numbers[..chosen])
+    put_marked(
+        out,
+        text,
+        rows,
+        opened,
+        gaps,
+        count,
+        marked,
+        &numbers[..chosen],
+    )
 }
 
 // Writes the last line of an answer.

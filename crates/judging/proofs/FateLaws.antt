@@ -2,7 +2,7 @@
 use Prim.Native.Nat.{_+_, _<_, _≤_, ℕ}
 use borrow.Author.Tests.{eq-eqb, ne-eqb}
 use lib.Dec.{eqb}
-use lib.ListN.{length, set, take}
+use lib.ListN.{drop, length, set, take}
 use mathlib.Core.Bool.{Bool, _&&_, cond, false, not, true}
 use mathlib.Core.List.{List, [], _++_, _∷_}
 use mathlib.Core.Path.{_∙_, _≡_, ap, refl, subst, sym}
@@ -12,7 +12,7 @@ use Rattle.answer.specs.Exactly.{isGiven, isUnmatchedRow, isWithheldRow}
 use Rattle.answer.specs.Seen.{rowsIn}
 use Rattle.judging.proofs.TestLaws.{stored-more}
 use Rattle.judging.specs.Judging.{Judgeable, JudgedTo, countedBy, fateHere, fateOf, passedBy}
-use Rattle.judging.specs.Prepared.{Judged, Prepared}
+use Rattle.judging.specs.Prepared.{Judged, Prepared, firstWithholding}
 use Rattle.judging.specs.declared.fates.Fate.the-variants as fate
 use Rattle.judging.specs.declared.fates.Fate.{Fate}
 use Rattle.judging.specs.declared.sought.Sought.{Sought}
@@ -32,6 +32,8 @@ use Rattle.form.specs.declared.lines.Scheme as coded
 use Rattle.lists.proofs.ListLaws.{count-keep}
 use Rattle.lists.specs.Lists.{countOf, keep}
 use Rattle.query.specs.Query.{Query}
+use Rattle.query.specs.QueryForm.{leavesGaps}
+use Rattle.query.specs.QueryPlaces.{verbOf}
 
 -- ---- a row of a query that is ready for the rows
 
@@ -39,8 +41,8 @@ use Rattle.query.specs.Query.{Query}
 abbrev fateBy : Bool → Bool → Bool → Fate
 fateBy here held met = cond here (fateHere held met) fate.Elsewhere
 
-module _ (text ws : List ℕ) (count : ℕ) (os : List Bool) (s : List ℕ) (g : Sought) (code : coded.Scheme) (cs rs : List ℕ) (d : Doc) (q : Query)
-    (jd : Judgeable text ws count os s g code cs rs d q) (r : ℕ) (l : r < count) where
+module _ (text ws : List ℕ) (count : ℕ) (os : List Bool) (s : List ℕ) (g : Sought) (first : ℕ) (code : coded.Scheme) (cs rs : List ℕ) (d : Doc) (q : Query)
+    (jd : Judgeable text ws count os s g first code cs rs d q) (r : ℕ) (l : r < count) where
   pub row-small : r < 1024
   row-small = omega (arith, l, jd .rows .few)
 
@@ -51,7 +53,7 @@ module _ (text ws : List ℕ) (count : ℕ) (os : List Bool) (s : List ℕ) (g :
 
   -- whether it is withheld, as the code finds it
   withheld-here : (x : Bool)
-      → ((e : Policy) (p l : ℕ) (ls : List ℕ) → Opened e p os → r < 1024 → labelCountIn ws r ≤ labelRoom → x ≡ rowWithheld (labelOpen e p) (schemeBy code l ls) (take (g .chosen + g .tests) cs) (labelsIn ws r))
+      → ((e : Policy) (p l : ℕ) (ls : List ℕ) → Opened e p os → r < 1024 → labelCountIn ws r ≤ labelRoom → x ≡ rowWithheld (labelOpen e p) (schemeBy code l ls) (drop first (take (g .chosen + g .tests) cs)) (labelsIn ws r))
       → x ≡ isWithheldRow d q (rowIn text ws r)
   unfolding isWithheldRow rowIn labellingAt
   withheld-here x h =
@@ -66,7 +68,7 @@ module _ (text ws : List ℕ) (count : ℕ) (os : List Bool) (s : List ℕ) (g :
     fate-elsewhere e = ap (λ (b : Bool). fateBy b (isWithheldRow d q (rowIn text ws r)) (matches (q .condition) (rowIn text ws r .values))) (sym (ne-eqb x (g .table) e) ∙ table-here x is)
 
     module _ (here : x ≡ g .table) (y : Bool)
-        (held : (e : Policy) (p l : ℕ) (ls : List ℕ) → Opened e p os → r < 1024 → labelCountIn ws r ≤ labelRoom → y ≡ rowWithheld (labelOpen e p) (schemeBy code l ls) (take (g .chosen + g .tests) cs) (labelsIn ws r)) where
+        (held : (e : Policy) (p l : ℕ) (ls : List ℕ) → Opened e p os → r < 1024 → labelCountIn ws r ≤ labelRoom → y ≡ rowWithheld (labelOpen e p) (schemeBy code l ls) (drop first (take (g .chosen + g .tests) cs)) (labelsIn ws r)) where
       in-table : true ≡ eqb (rowIn text ws r .table) (q .source .table)
       in-table = sym (eq-eqb x (g .table) here) ∙ table-here x is
 
@@ -86,11 +88,21 @@ module _ (text ws : List ℕ) (count : ℕ) (os : List Bool) (s : List ℕ) (g :
           go true e = fate-withheld e
           go false e = fate-judged e z (met ∙ ap (λ (b : Bool). not b && matches (q .condition) (rowIn text ws r .values)) e) z refl
 
+-- the first of the columns that withhold, by whether gaps are left
+module _ (g : Sought) (b : Bool) (gaps : b ≡ leavesGaps (verbOf (g .verb))) where
+  pub first-gaps : b ≡ true → g .chosen ≡ firstWithholding g
+  unfolding firstWithholding
+  first-gaps e = ap (λ (x : Bool). cond x (g .chosen) 0) (sym e ∙ gaps)
+
+  pub first-whole : b ≡ false → 0 ≡ firstWithholding g
+  unfolding firstWithholding
+  first-whole e = ap (λ (x : Bool). cond x (g .chosen) 0) (sym e ∙ gaps)
+
 -- a prepared query is ready for the rows
 pub judgeable : (text ts ws : List ℕ) (count : ℕ) (os : List Bool) (s : List ℕ) (g : Sought) (rs cs : List ℕ) (d : Doc) (q : Query) → Prepared text ts ws count os s g rs cs d q
-    → (code : coded.Scheme) → (g .table < 8 → schemeIn ts (g .table) ≡ schemeBy code (tableLabelIn ts (g .table)) (columnLabelsIn ts (g .table)))
-    → Judgeable text ws count os s g code cs rs d q
-judgeable text ts ws count os s g rs cs d q pr code is = record {
+    → {first : ℕ} → first ≡ firstWithholding g → (code : coded.Scheme) → (g .table < 8 → schemeIn ts (g .table) ≡ schemeBy code (tableLabelIn ts (g .table)) (columnLabelsIn ts (g .table)))
+    → Judgeable text ws count os s g first code cs rs d q
+judgeable text ts ws count os s g rs cs d q pr f code is = record {
   rows = pr .rows;
   table = pr .table;
   label = tableLabelIn ts (g .table);
@@ -100,7 +112,7 @@ judgeable text ts ws count os s g rs cs d q pr code is = record {
       ∙ sym (scheme-at text ts (pr .tableCount) (g .table) (d .policy) (pr .tables) (pr .inside))
       ∙ ap (schemeAt (d .policy)) (sym (pr .table));
   opened = pr .opened;
-  withholding = pr .withholding;
+  withholding = ap (λ n. drop n (take (g .chosen + g .tests) cs)) f ∙ pr .withholding;
   tested = pr .tested;
 }
 

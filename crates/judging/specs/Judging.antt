@@ -1,7 +1,7 @@
 -- Contract: what becomes of a row, and what the arrays say of its cells.
 use Prim.Native.Nat.{_+_, _<_, ℕ}
 use lib.Dec.{eqb}
-use lib.ListN.{getD, getElem?, take}
+use lib.ListN.{drop, getD, getElem?, take}
 use mathlib.Core.Bool.{Bool, _&&_, cond, false, true}
 use mathlib.Core.List.{List}
 use mathlib.Core.Path.{_≡_}
@@ -55,16 +55,16 @@ countedBy x fate.Withheld = record { passed = x .passed; withheld = x .withheld 
 countedBy x fate.Passed = record { passed = x .passed + 1; withheld = x .withheld; unmatched = x .unmatched }
 countedBy x fate.Unmatched = record { passed = x .passed; withheld = x .withheld; unmatched = x .unmatched + 1 }
 
--- a query and what is read of it, ready for each of the rows: g is what is sought of them, in a table of this scheme; the numbers cs
--- are those of the columns that withhold, and the condition's comparisons are read
-pub record Judgeable (text ws : List ℕ) (count : ℕ) (os : List Bool) (s : List ℕ) (g : Sought) (scheme : coded.Scheme) (cs read : List ℕ) (d : Doc) (q : Query) : Type 0 where
+-- a query and what is read of it, ready for each of the rows: g is what is sought of them, in a table of this scheme; of the numbers cs
+-- those from `first` on are of the columns that withhold, and the condition's comparisons are read
+pub record Judgeable (text ws : List ℕ) (count : ℕ) (os : List Bool) (s : List ℕ) (g : Sought) (first : ℕ) (scheme : coded.Scheme) (cs read : List ℕ) (d : Doc) (q : Query) : Type 0 where
   pub rows : Rows text ws count (d .rows)
   pub table : q .source .table ≡ g .table
   pub label : ℕ
   pub labels : List ℕ
   pub schemed : schemeBy scheme label labels ≡ schemeAt (d .policy) (q .source .table)
   pub opened : Opened (d .policy) (q .purpose) os
-  pub withholding : take (g .chosen + g .tests) cs ≡ q .source .withholding
+  pub withholding : drop first (take (g .chosen + g .tests) cs) ≡ q .source .withholding
   pub tested : Tested s read (g .tests) (q .condition)
 
 -- the same as Judged, for the first k rows

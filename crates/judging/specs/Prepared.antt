@@ -1,8 +1,8 @@
 -- Contract: A query prepared for the rows: what the lent arrays say of it.
 use Prim.Native.Nat.{_+_, _<_, _≤_, ℕ}
 use lib.Dec.{eqb}
-use lib.ListN.{getD, getElem?, length, take}
-use mathlib.Core.Bool.{Bool, _&&_, false, true}
+use lib.ListN.{drop, getD, getElem?, length, take}
+use mathlib.Core.Bool.{Bool, _&&_, cond, false, true}
 use mathlib.Core.List.{List}
 use mathlib.Core.Option.{some}
 use mathlib.Core.Path.{_≡_}
@@ -13,15 +13,22 @@ use Rattle.relations.specs.Labels.{Opened}
 use Rattle.relations.specs.Rows.{Rows}
 use Rattle.relations.specs.Tables.{Tables}
 use Rattle.lists.specs.Lists.{countOf}
-use Rattle.query.specs.Query.{NamesParts, Query, Wanted, countsOnly, select}
+use Rattle.query.specs.Query.{NamesParts, PartsOpen, Query}
+use Rattle.query.specs.QueryForm.{Wanted, countsOnly, leavesGaps, rowsOf}
+use Rattle.query.specs.QueryPlaces.{verbOf}
+use Rattle.query.specs.declared.reading.Verb.{Verb}
 use Rattle.judging.specs.Tests.{Tested}
 use Rattle.judging.specs.declared.sought.Sought.{Sought}
 use Rattle.judging.specs.declared.tally.Tally.{Tally}
 
--- what is asked for, as the code says it: whether it is a select, and of which columns
-unfoldable pub wantedBy : Bool → List ℕ → Wanted
-wantedBy true cs = select cs
-wantedBy false cs = countsOnly
+-- what is asked for, as the code says it: whether lines are, in which way, and of which columns
+unfoldable pub wantedBy : Bool → Verb → List ℕ → Wanted ℕ
+wantedBy true v cs = rowsOf (verbOf v) cs
+wantedBy false v cs = countsOnly
+
+-- the first of the columns whose closed cells withhold a row: where gaps are left, the selected ones do not (02, Q-10)
+unfoldable pub firstWithholding : Sought → ℕ
+firstWithholding g = cond (leavesGaps (verbOf (g .verb))) (g .chosen) 0
 
 -- the arrays hold the document's tables ts and rows ws; g is what is sought of the rows, os says which labels are open to the query's
 -- purpose; of the numbers cs of columns the first are selected, and then those follow that its comparisons name, which are read
@@ -35,9 +42,10 @@ pub record Prepared (text ts ws : List ℕ) (count : ℕ) (os : List Bool) (s : 
   pub table : q .source .table ≡ g .table
   pub opened : Opened (d .policy) (q .purpose) os
   pub fewChosen : g .chosen ≤ 16
-  pub wanted : q .wanted ≡ wantedBy (g .select) (take (g .chosen) cs)
+  pub wanted : q .wanted ≡ wantedBy (g .lines) (g .verb) (take (g .chosen) cs)
   pub named : NamesParts q
-  pub withholding : take (g .chosen + g .tests) cs ≡ q .source .withholding
+  pub parts : PartsOpen (d .policy) q
+  pub withholding : drop (firstWithholding g) (take (g .chosen + g .tests) cs) ≡ q .source .withholding
   pub tested : Tested s read (g .tests) (q .condition)
 
 -- each row is judged: the marks say which rows of the query's table are given, and the counts are those of its rows

@@ -4,6 +4,7 @@ use crate::sought::Sought;
 use crate::tally::Tally;
 use crate::tests::TEST_CELLS;
 use form::lines::Scheme;
+use query::reading::leaves_gaps;
 use relations::labels::opened_at;
 use relations::rows::row_label;
 use relations::rows::row_labels;
@@ -15,14 +16,14 @@ use workspace::layout::ROW_CELLS;
 use workspace::layout::ROWS;
 use workspace::layout::TABLE_CELLS;
 ghost use Prim.Native.Nat.{_+_, _<_, _≤_, ℕ};
-ghost use lib.ListN.{getD, length, take};
+ghost use lib.ListN.{drop, getD, length, take};
 ghost use mathlib.Core.Bool.{_&&_, false, not};
 ghost use mathlib.Core.List.{List};
 ghost use mathlib.Core.Option.{Option};
 ghost use mathlib.Core.Path.{_≡_};
 ghost use Rattle.answer.specs.Answer.{matches};
 ghost use Rattle.judging.specs.Judging.{JudgedTo, Judgeable, countedBy, fateHere, fateOf, openIn, passedBy};
-ghost use Rattle.judging.specs.Prepared.{Judged, Prepared};
+ghost use Rattle.judging.specs.Prepared.{Judged, Prepared, firstWithholding};
 ghost use Rattle.judging.specs.Tests.{Tested};
 ghost use Rattle.condition.specs.Comparison.{Comparison};
 ghost use Rattle.condition.specs.Cond.{Cond};
@@ -43,7 +44,7 @@ pub enum Fate {
 }
 
 // Whether label c of row r is open; a label that the row has not is closed.
-fn cell_open(rows: &[usize; ROW_CELLS], opened: &[bool; LABELS], r: usize, c: usize) -> bool
+pub fn cell_open(rows: &[usize; ROW_CELLS], opened: &[bool; LABELS], r: usize, c: usize) -> bool
     ensures { λ x. ⌜ ((d : Policy) (p : ℕ) → Opened d p (now (opened .entry)) → r < 1024 → labelCountIn (now (rows .entry)) r ≤ labelRoom → x ≡ openIn d p (now (rows .entry)) r c) ⌝ }
 {
     let n = row_labels(rows, r);
@@ -53,18 +54,19 @@ fn cell_open(rows: &[usize; ROW_CELLS], opened: &[bool; LABELS], r: usize, c: us
     false
 }
 
-// Whether a cell of row r in one of the first n columns is closed.
+// Whether a cell of row r is closed in one of these columns: the first n but for those before `first`.
 fn any_closed(
     rows: &[usize; ROW_CELLS],
     opened: &[bool; LABELS],
     r: usize,
     columns: &[usize],
+    first: usize,
     n: usize,
 ) -> bool
     requires { ⌜ n ≤ length (now columns) ⌝ }
-    ensures { λ x. ⌜ ((d : Policy) (p : ℕ) → Opened d p (now (opened .entry)) → r < 1024 → labelCountIn (now (rows .entry)) r ≤ labelRoom → x ≡ anyOf (λ c. not (openIn d p (now (rows .entry)) r c)) (take n (now (columns .entry)))) ⌝ }
+    ensures { λ x. ⌜ ((d : Policy) (p : ℕ) → Opened d p (now (opened .entry)) → r < 1024 → labelCountIn (now (rows .entry)) r ≤ labelRoom → x ≡ anyOf (λ c. not (openIn d p (now (rows .entry)) r c)) (drop first (take n (now (columns .entry))))) ⌝ }
 {
-    let mut i = 0;
+    let mut i = first;
     while i < n {
         if !cell_open(rows, opened, r, columns[i]) {
             return true;
@@ -74,24 +76,26 @@ fn any_closed(
     false
 }
 
-// Whether row r is withheld in a table of this scheme, where closed cells in the first n columns withhold it.
+// Whether row r is withheld in a table of this scheme, where closed cells in the first n columns but for those before `first`
+// withhold it.
 fn is_withheld(
     scheme: Scheme,
     rows: &[usize; ROW_CELLS],
     opened: &[bool; LABELS],
     r: usize,
     columns: &[usize; 80],
+    first: usize,
     n: usize,
 ) -> bool
     requires { ⌜ n ≤ 80 ⌝ }
-    ensures { λ x. ⌜ ((d : Policy) (p l : ℕ) (ls : List ℕ) → Opened d p (now (opened .entry)) → r < 1024 → labelCountIn (now (rows .entry)) r ≤ labelRoom → x ≡ rowWithheld (labelOpen d p) (schemeBy scheme l ls) (take n (now (columns .entry))) (labelsIn (now (rows .entry)) r)) ⌝ }
+    ensures { λ x. ⌜ ((d : Policy) (p l : ℕ) (ls : List ℕ) → Opened d p (now (opened .entry)) → r < 1024 → labelCountIn (now (rows .entry)) r ≤ labelRoom → x ≡ rowWithheld (labelOpen d p) (schemeBy scheme l ls) (drop first (take n (now (columns .entry)))) (labelsIn (now (rows .entry)) r)) ⌝ }
 {
     match scheme {
         Scheme::Unlabelled => false,
         Scheme::ByTable => false,
         Scheme::ByColumn => false,
         Scheme::ByRow => !cell_open(rows, opened, r, 0),
-        Scheme::ByCell => any_closed(rows, opened, r, columns, n),
+        Scheme::ByCell => any_closed(rows, opened, r, columns, first, n),
     }
 }
 
@@ -127,7 +131,7 @@ fn fate_here(held: bool, met: bool) -> Fate
     Fate::Unmatched
 }
 
-// What becomes of row r of a document, where the table has this scheme.
+// What becomes of row r of a document, where the table has this scheme and the columns withhold from `first` on.
 fn fate_of(
     text: &[u8],
     rows: &[usize; ROW_CELLS],
@@ -135,18 +139,19 @@ fn fate_of(
     opened: &[bool; LABELS],
     query: &[u8],
     s: Sought,
+    first: usize,
     scheme: Scheme,
     columns: &[usize; 80],
     tests: &[usize; TEST_CELLS],
 ) -> Fate
     requires { ⌜ (s .chosen ≤ 16) × (s .tests ≤ 64) ⌝ }
-    ensures { λ x. ⌜ ((count : ℕ) (d : Doc) (q : Query) → Judgeable (now (text .entry)) (now (rows .entry)) count (now (opened .entry)) (now (query .entry)) s scheme (now (columns .entry)) (now (tests .entry)) d q → r < count → x ≡ fateOf d q (rowIn (now (text .entry)) (now (rows .entry)) r)) ⌝ }
+    ensures { λ x. ⌜ ((count : ℕ) (d : Doc) (q : Query) → Judgeable (now (text .entry)) (now (rows .entry)) count (now (opened .entry)) (now (query .entry)) s first scheme (now (columns .entry)) (now (tests .entry)) d q → r < count → x ≡ fateOf d q (rowIn (now (text .entry)) (now (rows .entry)) r)) ⌝ }
 {
     let m = s.tests;
     if row_table(rows, r) != s.table {
         return Fate::Elsewhere;
     }
-    let held = is_withheld(scheme, rows, opened, r, columns, s.chosen + m);
+    let held = is_withheld(scheme, rows, opened, r, columns, first, s.chosen + m);
     let met = row_met(held, text, rows, r, query, tests, m);
     fate_here(held, met)
 }
@@ -199,13 +204,14 @@ fn judge_each(
     opened: &[bool; LABELS],
     query: &[u8],
     s: Sought,
+    first: usize,
     scheme: Scheme,
     columns: &[usize; 80],
     tests: &[usize; TEST_CELLS],
     marks: &mut [bool],
 ) -> Tally
     requires { ⌜ (s .chosen ≤ 16) × (s .tests ≤ 64) × (count ≤ 1024) × (count ≤ length (now marks)) ⌝ }
-    ensures { λ x. ⌜ ((d : Doc) (q : Query) → Judgeable (now (text .entry)) (now (rows .entry)) count (now (opened .entry)) (now (query .entry)) s scheme (now (columns .entry)) (now (tests .entry)) d q → JudgedTo d q (rowIn (now (text .entry)) (now (rows .entry))) count (now (marks .exit)) x) ⌝ }
+    ensures { λ x. ⌜ ((d : Doc) (q : Query) → Judgeable (now (text .entry)) (now (rows .entry)) count (now (opened .entry)) (now (query .entry)) s first scheme (now (columns .entry)) (now (tests .entry)) d q → JudgedTo d q (rowIn (now (text .entry)) (now (rows .entry))) count (now (marks .exit)) x) ⌝ }
 {
     let mut x = Tally {
         passed: 0,
@@ -214,12 +220,34 @@ fn judge_each(
     };
     let mut r = 0;
     while r < count {
-        let f = fate_of(text, rows, r, opened, query, s, scheme, columns, tests);
+        let f = fate_of(
+            text,
+            rows,
+            r,
+            opened,
+            query,
+            s,
+            first,
+            scheme,
+            columns,
+            tests,
+        );
         marks[r] = is_passed(f);
         x = count_row(x, f);
         r += 1;
     }
     x
+}
+
+// The first of the columns whose closed cells withhold: where gaps are left, the selected ones do not (02, Q-10).
+fn first_withholding(s: Sought) -> usize
+    ensures { λ n. ⌜ n ≡ firstWithholding s ⌝ }
+{
+    let verb = s.verb;
+    if leaves_gaps(verb) {
+        return s.chosen;
+    }
+    0
 }
 
 // Judges each row once, by the scheme of the table.
@@ -238,6 +266,7 @@ fn judge_bounded(
     requires { ⌜ (s .chosen ≤ 16) × (s .tests ≤ 64) × (count ≤ 1024) ⌝ }
     ensures { λ x. ⌜ ((d : Doc) (q : Query) → Prepared (now (text .entry)) (now (tables .entry)) (now (rows .entry)) count (now (opened .entry)) (now (query .entry)) s (now (tests .entry)) (now (columns .entry)) d q → Judged d q (now (marks .exit)) x) ⌝ }
 {
+    let first = first_withholding(s);
     let scheme = table_scheme(tables, s.table);
     judge_each(
         text,
@@ -246,6 +275,7 @@ fn judge_bounded(
         opened,
         query,
         s,
+        first,
         scheme,
         columns,
         tests,

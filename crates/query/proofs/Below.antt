@@ -23,7 +23,7 @@ use Rattle.text.specs.Words.{Word}
 
 -- the same query for another purpose
 unfoldable pub forPurpose : Word → QueryForm → QueryForm
-forPurpose w q = record { user = q .user; role = q .role; purpose = w; table = q .table; columns = q .columns; condition = q .condition }
+forPurpose w q = record { user = q .user; role = q .role; purpose = w; table = q .table; wanted = q .wanted; condition = q .condition }
 
 -- the resolved query for another purpose
 unfoldable pub toPurpose : ℕ → Query → Query

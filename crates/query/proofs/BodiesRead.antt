@@ -5,8 +5,8 @@ use borrow.Author.Tests.{le-leb, leb-true, lt-leb}
 use lib.Dec.{leb}
 use lib.ListN.{getD, length}
 use mathlib.Core.Bool.{Bool, cond, false, true}
-use mathlib.Core.List.{List, []}
-use mathlib.Core.Option.{Option, Option·getD, Option·map, bind, none, some}
+use mathlib.Core.List.{List}
+use mathlib.Core.Option.{Option, Option·map, bind, none, some}
 use mathlib.Core.Path.{_∙_, _≡_, ap, refl, sym}
 use Rattle.condition.specs.Answers.{comparedIn}
 use Rattle.condition.specs.Cond.{Cond, comparisonsIn}
@@ -16,8 +16,9 @@ use Rattle.lists.proofs.Tests.{and-left, and-right}
 use Rattle.lists.specs.Lists.{there}
 use Rattle.query.proofs.WholeLaws.{whole-long, whole-open, whole-read, whole-shut, whole-wrong}
 use Rattle.query.specs.QueryPartPlaces.{BodyWithin, HeadedWithin, ListedWithin, ReadsBody, ReadsColumns, ReadsHead, ReadsTest, TestedWithin, bodyAt, headThen, headTo, isBounded, listedAt, testedAt}
-use Rattle.query.specs.QueryPlaces.{Few, ReadsQuery, TestWithin, WantedWithin, Within, chosenCount, comparisonCount, conditionAt, formAt, isSelect, wantedAt}
-use Rattle.query.specs.QueryForm.{QueryForm, ifWithinBounds, queryBody, queryForm, queryForms, queryOf, selectColumns, selectedWords, withinBounds}
+use Rattle.query.specs.QueryPlaces.{Few, ReadsQuery, TestWithin, WantedWithin, Within, asksRows, chosenCount, comparisonCount, conditionAt, formAt, verbIn, verbOf, wantedAt}
+use Rattle.query.specs.QueryForm as form
+use Rattle.query.specs.QueryForm.{QueryForm, countsOnly, hasGaps, ifWithinBounds, leavesGaps, queryBody, queryForm, queryForms, queryOf, selected, selectedWords, wantedRows, withinBounds}
 use Rattle.text.specs.Brackets.{among, keyword, optional}
 use Rattle.text.specs.Bytes.{ascii}
 use Rattle.text.specs.Names.{sameName}
@@ -33,59 +34,68 @@ use Rattle.query.specs.declared.reading.Question.{Question}
 use Rattle.query.specs.declared.reading.Test.{Test}
 use Rattle.query.specs.declared.reading.Test.the-variants as test
 use Rattle.query.specs.declared.reading.Tested.the-variants as tested
+use Rattle.query.specs.declared.reading.Verb.{Verb}
+use Rattle.query.specs.declared.reading.Verb.the-variants as verb
 use Rattle.query.specs.declared.reading.Wanted.{Wanted}
 use Rattle.query.specs.declared.reading.Wanted.the-variants as wanted
 
 -- ---- behind the keyword
 
 -- what comes behind the head: the column bracket, and then perhaps a condition
-abbrev rest : Reader (Option (List Word)) → Word → Word → Word → Word → Reader QueryForm
+abbrev rest : Reader (form.Wanted Word) → Word → Word → Word → Word → Reader QueryForm
 rest B u r p t = do
-  cs ← B
+  w ← B
   c ← optional conditionInForm
-  give (record { user = u; role = r; purpose = p; table = t; columns = cs; condition = c })
+  give (record { user = u; role = r; purpose = p; table = t; wanted = w; condition = c })
 
 module _ (s : List ℕ) {at : ℕ} where
-  pub body-headless : (B : Reader (Option (List Word))) → ReadsHead s at headed.Refused → ReadsBody s (queryBody B (from s at)) body.Refused
+  pub body-headless : (B : Reader (form.Wanted Word)) → ReadsHead s at headed.Refused → ReadsBody s (queryBody B (from s at)) body.Refused
   unfolding queryBody headThen headTo bodyAt BodyWithin
   body-headless B a = record { is = a .is (rest B); within = tt }
 
   module _ {h : Head} {e : ℕ} (a : ReadsHead s at (headed.At h e)) where
-    pub select-no-columns : ReadsColumns s e listed.Refused → ReadsBody s (queryBody selectColumns (from s at)) body.Refused
-    unfolding queryBody selectColumns headThen headTo listedAt bodyAt BodyWithin
-    select-no-columns l = record { is = a .is (rest selectColumns) ∙ rw (l .is); within = tt }
+    pub rows-no-columns : (v : Verb) → ReadsColumns s e listed.Refused → ReadsBody s (queryBody (wantedRows (verbOf v)) (from s at)) body.Refused
+    unfolding queryBody wantedRows headThen headTo listedAt bodyAt BodyWithin
+    rows-no-columns v l = record { is = a .is (rest (wantedRows (verbOf v))) ∙ rw (l .is); within = tt }
 
-    pub count-wrong : ReadsTest s e tested.Refused → ReadsBody s (queryBody (give none) (from s at)) body.Refused
+    pub count-wrong : ReadsTest s e tested.Refused → ReadsBody s (queryBody (give countsOnly) (from s at)) body.Refused
     unfolding queryBody headThen headTo testedAt bodyAt BodyWithin
-    count-wrong c = record { is = a .is (rest (give none)) ∙ rw (c .is); within = tt }
+    count-wrong c = record { is = a .is (rest (give countsOnly)) ∙ rw (c .is); within = tt }
 
-    pub count-read : {t : Test} {g : ℕ} → ReadsTest s e (tested.At t g) → ReadsBody s (queryBody (give none) (from s at)) (body.At (record { head = h; wanted = wanted.Count; test = t }) g)
+    pub count-read : {t : Test} {g : ℕ} → ReadsTest s e (tested.At t g) → ReadsBody s (queryBody (give countsOnly) (from s at)) (body.At (record { head = h; wanted = wanted.Count; test = t }) g)
     unfolding queryBody headThen headTo testedAt bodyAt formAt wantedAt BodyWithin WantedWithin HeadedWithin TestedWithin
-    count-read c = record { is = a .is (rest (give none)) ∙ rw (c .is); within = record { head = a .within; wanted = tt; test = c .within } }
+    count-read c = record { is = a .is (rest (give countsOnly)) ∙ rw (c .is); within = record { head = a .within; wanted = tt; test = c .within } }
 
     module _ {p n f : ℕ} (l : ReadsColumns s e (listed.At p n f)) where
-      pub select-wrong : ReadsTest s f tested.Refused → ReadsBody s (queryBody selectColumns (from s at)) body.Refused
-      unfolding queryBody selectColumns headThen headTo listedAt testedAt bodyAt BodyWithin
-      select-wrong c = record { is = a .is (rest selectColumns) ∙ rw (l .is, c .is); within = tt }
+      pub rows-wrong : (v : Verb) → ReadsTest s f tested.Refused → ReadsBody s (queryBody (wantedRows (verbOf v)) (from s at)) body.Refused
+      unfolding queryBody wantedRows headThen headTo listedAt testedAt bodyAt BodyWithin
+      rows-wrong v c = record { is = a .is (rest (wantedRows (verbOf v))) ∙ rw (l .is, c .is); within = tt }
 
-      pub select-read : {t : Test} {g : ℕ} → ReadsTest s f (tested.At t g) → ReadsBody s (queryBody selectColumns (from s at)) (body.At (record { head = h; wanted = wanted.Select p n; test = t }) g)
-      unfolding queryBody selectColumns headThen headTo listedAt testedAt bodyAt formAt wantedAt BodyWithin WantedWithin HeadedWithin ListedWithin TestedWithin
-      select-read c = record { is = a .is (rest selectColumns) ∙ rw (l .is, c .is); within = record { head = a .within; wanted = l .within; test = c .within } }
+      pub rows-read : (v : Verb) {t : Test} {g : ℕ} → ReadsTest s f (tested.At t g)
+          → ReadsBody s (queryBody (wantedRows (verbOf v)) (from s at)) (body.At (record { head = h; wanted = wanted.Rows v p n; test = t }) g)
+      unfolding queryBody wantedRows headThen headTo listedAt testedAt bodyAt formAt wantedAt BodyWithin WantedWithin HeadedWithin ListedWithin TestedWithin
+      rows-read v c = record { is = a .is (rest (wantedRows (verbOf v))) ∙ rw (l .is, c .is); within = record { head = a .within; wanted = l .within; test = c .within } }
 
 -- ---- the keyword
 
 module _ (s : List ℕ) (at : ℕ) {e : ℕ} (ends : e ≡ at + length (wordAt s at)) {r : Body} where
-  pub at-select : sameName (wordAt s at) (ascii "select") ≡ true → ReadsBody s (queryBody selectColumns (from s e)) r → ReadsBody s (keyword queryForms (from s at)) r
-  unfolding queryForms among isCalled
+  pub at-select : sameName (wordAt s at) (ascii "select") ≡ true → ReadsBody s (queryBody (wantedRows (verbOf verb.Select)) (from s e)) r → ReadsBody s (keyword queryForms (from s at)) r
+  unfolding queryForms among isCalled verbOf
   at-select h b = record { is = rw (keyword-at queryForms s at e ends, h) (b .is); within = b .within }
 
-  pub at-count : sameName (wordAt s at) (ascii "select") ≡ false → sameName (wordAt s at) (ascii "count") ≡ true → ReadsBody s (queryBody (give none) (from s e)) r → ReadsBody s (keyword queryForms (from s at)) r
+  pub at-count : sameName (wordAt s at) (ascii "select") ≡ false → sameName (wordAt s at) (ascii "count") ≡ true → ReadsBody s (queryBody (give countsOnly) (from s e)) r → ReadsBody s (keyword queryForms (from s at)) r
   unfolding queryForms among isCalled
   at-count h k b = record { is = rw (keyword-at queryForms s at e ends, h, k) (b .is); within = b .within }
 
-pub at-neither : (s : List ℕ) (at : ℕ) {e : ℕ} → e ≡ at + length (wordAt s at) → sameName (wordAt s at) (ascii "select") ≡ false → sameName (wordAt s at) (ascii "count") ≡ false → ReadsBody s (keyword queryForms (from s at)) body.Refused
+  pub at-blank : sameName (wordAt s at) (ascii "select") ≡ false → sameName (wordAt s at) (ascii "count") ≡ false → sameName (wordAt s at) (ascii "blank") ≡ true
+      → ReadsBody s (queryBody (wantedRows (verbOf verb.Blank)) (from s e)) r → ReadsBody s (keyword queryForms (from s at)) r
+  unfolding queryForms among isCalled verbOf
+  at-blank h k l b = record { is = rw (keyword-at queryForms s at e ends, h, k, l) (b .is); within = b .within }
+
+pub at-none : (s : List ℕ) (at : ℕ) {e : ℕ} → e ≡ at + length (wordAt s at) → sameName (wordAt s at) (ascii "select") ≡ false → sameName (wordAt s at) (ascii "count") ≡ false
+    → sameName (wordAt s at) (ascii "blank") ≡ false → ReadsBody s (keyword queryForms (from s at)) body.Refused
 unfolding queryForms among isCalled bodyAt BodyWithin
-at-neither s at {e} ends h k = record { is = rw (keyword-at queryForms s at e ends, h, k); within = tt }
+at-none s at {e} ends h k l = record { is = rw (keyword-at queryForms s at e ends, h, k, l); within = tt }
 
 -- ---- the bounds
 
@@ -97,21 +107,39 @@ pub count-when : {t : Test} {p n : ℕ} → t ≡ test.When p n → n ≡ compar
 unfolding comparisonCount
 count-when h = rw h
 
-pub chosen-select : {w : Wanted} {p n : ℕ} → w ≡ wanted.Select p n → n ≡ chosenCount w
-unfolding chosenCount
-chosen-select h = rw h
+module _ {w : Wanted} {v : Verb} {p n : ℕ} (e : w ≡ wanted.Rows v p n) where
+  pub chosen-rows : n ≡ chosenCount w
+  unfolding chosenCount
+  chosen-rows = rw e
 
-pub select-is : {w : Wanted} {p n : ℕ} → w ≡ wanted.Select p n → true ≡ isSelect w
-unfolding isSelect
-select-is h = rw h
+  pub rows-are : true ≡ asksRows w
+  unfolding asksRows
+  rows-are = rw e
 
-pub count-is : {w : Wanted} → w ≡ wanted.Count → false ≡ isSelect w
-unfolding isSelect
-count-is h = rw h
+  pub verb-rows : v ≡ verbIn w
+  unfolding verbIn
+  verb-rows = rw e
 
-pub chosen-none : {w : Wanted} → w ≡ wanted.Count → 0 ≡ chosenCount w
-unfolding chosenCount
-chosen-none h = rw h
+module _ {w : Wanted} (e : w ≡ wanted.Count) where
+  pub chosen-none : 0 ≡ chosenCount w
+  unfolding chosenCount
+  chosen-none = rw e
+
+  pub count-is : false ≡ asksRows w
+  unfolding asksRows
+  count-is = rw e
+
+  pub verb-count : verb.Select ≡ verbIn w
+  unfolding verbIn
+  verb-count = rw e
+
+pub select-whole : {v : Verb} → v ≡ verb.Select → false ≡ leavesGaps (verbOf v)
+unfolding leavesGaps verbOf
+select-whole e = rw e
+
+pub blank-gaps : {v : Verb} → v ≡ verb.Blank → true ≡ leavesGaps (verbOf v)
+unfolding leavesGaps verbOf
+blank-gaps e = rw e
 
 module _ (q : Question) {n : ℕ} (e : n ≡ chosenCount (q .wanted)) where
   pub over-columns : 16 < n → false ≡ isBounded q
@@ -134,16 +162,22 @@ test-count s test.Always w = refl
 test-count s (test.When t n) w = ap length (first-of (conditionInForm (from s t))) ∙ w .number
 
 -- as many columns are selected as the answer says
-pub wanted-count : (s : List ℕ) (v : Wanted) → WantedWithin s v → length (Option·getD (wantedAt s v) []) ≡ chosenCount v
-unfolding WantedWithin wantedAt chosenCount
-wanted-count s (wanted.Select p n) w = w .number
+pub wanted-count : (s : List ℕ) (w : Wanted) → WantedWithin s w → length (selected (wantedAt s w)) ≡ chosenCount w
+unfolding WantedWithin wantedAt selected chosenCount
+wanted-count s (wanted.Rows v p n) w = w .number
 wanted-count s wanted.Count w = refl
 
--- columns are asked for as the answer says
-pub wanted-there : (s : List ℕ) (v : Wanted) → there (wantedAt s v) ≡ isSelect v
-unfolding wantedAt isSelect there
-wanted-there s (wanted.Select p n) = refl
-wanted-there s wanted.Count = refl
+-- rows are asked for as the answer says
+pub wanted-are : (s : List ℕ) (w : Wanted) → wantedAt s w ≡ cond (asksRows w) (form.rowsOf (verbOf (verbIn w)) (selected (wantedAt s w))) countsOnly
+unfolding wantedAt asksRows verbIn selected
+wanted-are s (wanted.Rows v p n) = refl
+wanted-are s wanted.Count = refl
+
+-- and gaps are left so
+pub gaps-are : (s : List ℕ) (w : Wanted) → hasGaps (wantedAt s w) ≡ leavesGaps (verbOf (verbIn w))
+unfolding wantedAt hasGaps verbIn verbOf leavesGaps
+gaps-are s (wanted.Rows v p n) = refl
+gaps-are s wanted.Count = refl
 
 -- so the query is within the bounds where the numbers of the question are
 form-bounds : (s : List ℕ) (q : Question) → Within s q → ifWithinBounds (formAt s q) ≡ cond (isBounded q) (some (formAt s q)) none

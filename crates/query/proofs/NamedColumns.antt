@@ -1,8 +1,8 @@
 -- The columns that a resolved query names. Assumes nothing.
 use Prim.Native.Nat.{ℕ}
-use mathlib.Core.Bool.{true}
+use mathlib.Core.Bool.{Bool, cond, false, true}
 use mathlib.Core.List.{List, [], _++_, _∷_, map}
-use mathlib.Core.Option.{Option, Option·getD, Option·map, none, some}
+use mathlib.Core.Option.{Option, Option·map, none, some}
 use mathlib.Core.Path.{_∙_, _≡_, ap, refl, sym}
 use Rattle.condition.proofs.CondLaws.{comparisonsIn-map}
 use Rattle.condition.specs.Comparison.{Comparison}
@@ -11,10 +11,11 @@ use Rattle.condition.specs.CondForm.{Compared}
 use Rattle.document.specs.Lookup.{columnOf, columnsOf, labellingAt, labellingOf, purposeOf}
 use Rattle.document.specs.Open.{columnOpen, labelOpen, tableOpen}
 use Rattle.document.specs.Policy.{Column, Policy}
-use Rattle.query.proofs.Sources.{named-columns, named-words-are, sources-known, withholding-named}
-use Rattle.query.specs.Query.{NamesParts, closedPart, columnComparison, openFor, resolved, selected, sourceOf, sources, unknownColumn, unknownParty, wantedOf}
-use Rattle.query.specs.QueryForm.{QueryForm, namedWords, selectedWords}
-use Rattle.lists.proofs.ListLaws.{all-at, map-append, map-map, there-some}
+use Rattle.query.proofs.Sources.{named-columns, named-words-are, sources-known, withholding-columns, withholding-words-are, withholdingWords}
+use Rattle.query.proofs.WantedLaws.{gaps-map, selected-map}
+use Rattle.query.specs.Query.{NamesParts, PartsOpen, closedPart, columnComparison, openFor, resolved, sourceOf, sources, tested, unknownColumn, unknownParty, wantedOf}
+use Rattle.query.specs.QueryForm.{QueryForm, Wanted, hasGaps, namedWords, selected, selectedWords}
+use Rattle.lists.proofs.ListLaws.{all-at, all-parts, map-append, map-map, there-some}
 use Rattle.text.proofs.OffendingLaws.{leftmost-head, leftmost-tail, missing-none, unless-none}
 use Rattle.lists.proofs.Tests.{and-left, and-right}
 use Rattle.lists.specs.Lists.{allOf, found, member, orZero, there}
@@ -24,10 +25,9 @@ use Rattle.text.specs.Words.{Word}
 abbrev pub columnNumber : List Column → Word → ℕ
 columnNumber cs w = orZero (columnOf cs w)
 
-selected-words : (cs : List Column) (o : Option (List Word)) → selected (wantedOf cs o) ≡ map (columnNumber cs) (Option·getD o [])
-unfolding selected wantedOf
-selected-words cs none = refl
-selected-words cs (some ws) = refl
+selected-words : (cs : List Column) (w : Wanted Word) → selected (wantedOf cs w) ≡ map (columnNumber cs) (selected w)
+unfolding wantedOf
+selected-words cs w = selected-map (columnNumber cs) w
 
 condition-words : (cs : List Column) (o : Option (Cond Compared))
     → map (λ (t : Comparison). t .of) (comparisonsIn (Option·map (mapCond (columnComparison cs)) o)) ≡ map (columnNumber cs) (map (λ (x : Compared). x .of) (comparisonsIn o))
@@ -48,21 +48,51 @@ pub named-words : (d : Policy) (q : QueryForm) → allOf (λ w. there (columnOf 
 unfolding resolved
 named-words d q h = named-columns d q ∙ found-known (columnsOf d (q .table)) (namedWords q) h
 
--- all of them withhold
-pub withholding-words : (d : Policy) (q : QueryForm) → allOf (λ w. there (columnOf (columnsOf d (q .table)) w)) (namedWords q) ≡ true
-    → resolved d q .source .withholding ≡ map (columnNumber (columnsOf d (q .table))) (namedWords q)
-unfolding resolved
-withholding-words d q h = withholding-named d q (q .table) ∙ named-words d q h
+-- all of the condition's words are known
+tested-known : (d : Policy) (q : QueryForm) → allOf (λ w. there (columnOf (columnsOf d (q .table)) w)) (namedWords q) ≡ true
+    → allOf (λ w. there (columnOf (columnsOf d (q .table)) w)) (map (λ (x : Compared). x .of) (comparisonsIn (q .condition))) ≡ true
+tested-known d q h = all-parts (λ w. there (columnOf (columnsOf d (q .table)) w)) (selectedWords q) _ (ap (allOf (λ w. there (columnOf (columnsOf d (q .table)) w))) (sym (named-words-are q)) ∙ h) .1
 
--- which are the selected columns, and then the condition's
-pub names-parts : (d : Policy) (q : QueryForm) → allOf (λ w. there (columnOf (columnsOf d (q .table)) w)) (namedWords q) ≡ true → NamesParts (resolved d q)
+-- the words that withhold stand for their columns
+pub withholding-words : (d : Policy) (q : QueryForm) → allOf (λ w. there (columnOf (columnsOf d (q .table)) w)) (namedWords q) ≡ true
+    → resolved d q .source .withholding ≡ map (columnNumber (columnsOf d (q .table))) (withholdingWords q)
+unfolding resolved
+withholding-words d q h = withholding-columns d q ∙ found-known (columnsOf d (q .table)) (withholdingWords q) (ap (allOf (λ w. there (columnOf (columnsOf d (q .table)) w))) (withholding-words-are q) ∙ go (hasGaps (q .wanted)))
+  where
+    go : (b : Bool) → allOf (λ w. there (columnOf (columnsOf d (q .table)) w)) (cond b (map (λ (x : Compared). x .of) (comparisonsIn (q .condition))) (namedWords q)) ≡ true
+    go true = tested-known d q h
+    go false = h
+
+-- the condition's columns by number
+tested-words : (d : Policy) (q : QueryForm) → tested (resolved d q) ≡ map (columnNumber (columnsOf d (q .table))) (map (λ (x : Compared). x .of) (comparisonsIn (q .condition)))
+unfolding tested resolved
+tested-words d q = condition-words (columnsOf d (q .table)) (q .condition)
+
+-- the named words by number are the selected columns, and then the condition's
+named-numbers : (d : Policy) (q : QueryForm) → map (columnNumber (columnsOf d (q .table))) (namedWords q) ≡ selected (resolved d q .wanted) ++ tested (resolved d q)
 unfolding resolved selectedWords
-names-parts d q h =
+named-numbers d q =
     let cs : List Column = columnsOf d (q .table) in
-    named-words d q h
-    ∙ ap (map (columnNumber cs)) (named-words-are q)
-    ∙ map-append (columnNumber cs) (Option·getD (q .columns) []) (map (λ x. x .of) (comparisonsIn (q .condition)))
-    ∙ (λ i. sym (selected-words cs (q .columns)) i ++ sym (condition-words cs (q .condition)) i)
+    ap (map (columnNumber cs)) (named-words-are q)
+    ∙ map-append (columnNumber cs) (selected (q .wanted)) (map (λ x. x .of) (comparisonsIn (q .condition)))
+    ∙ (λ i. sym (selected-words cs (q .wanted)) i ++ sym (tested-words d q) i)
+
+-- so a query of known columns names its parts
+pub names-parts : (d : Policy) (q : QueryForm) → allOf (λ w. there (columnOf (columnsOf d (q .table)) w)) (namedWords q) ≡ true → NamesParts (resolved d q)
+unfolding resolved wantedOf
+names-parts d q h = record {
+  named = named-words d q h ∙ named-numbers d q;
+  withholding =
+      withholding-words d q h ∙ ap (map (columnNumber cs)) (withholding-words-are q) ∙ go (hasGaps (q .wanted))
+      ∙ ap (λ b. cond b (tested (resolved d q)) (selected (resolved d q .wanted) ++ tested (resolved d q))) (sym (gaps-map (columnNumber cs) (q .wanted)));
+}
+  where
+    cs : List Column
+    cs = columnsOf d (q .table)
+
+    go : (b : Bool) → map (columnNumber cs) (cond b (map (λ (x : Compared). x .of) (comparisonsIn (q .condition))) (namedWords q)) ≡ cond b (tested (resolved d q)) (selected (resolved d q .wanted) ++ tested (resolved d q))
+    go true = sym (tested-words d q)
+    go false = named-numbers d q
 
 -- ---- a query that is not refused with 12, 15 or 17
 
@@ -74,10 +104,6 @@ module _ (d : Policy) (q : QueryForm) where
   pub source-known : unknownColumn d q ≡ none → sources d q ≡ resolved d q .source ∷ []
   unfolding unknownColumn resolved
   source-known h = sources-known d q (unless-none _ _ (leftmost-head _ _ h))
-
-  pub all-withhold : resolved d q .source .withholding ≡ resolved d q .source .named
-  unfolding resolved
-  all-withhold = withholding-named d q (q .table)
 
   pub columns-known : unknownColumn d q ≡ none → allOf (λ w. there (columnOf (columnsOf d (q .table)) w)) (namedWords q) ≡ true
   unfolding unknownColumn
@@ -94,3 +120,6 @@ module _ (d : Policy) (q : QueryForm) where
       all-at (columnNumber (columnsOf d (q .table))) (columnOpen (labelOpen d (orZero (purposeOf d (q .purpose)))) (labellingOf d (q .table))) (namedWords q)
       (missing-none _ _ (leftmost-head _ _ (leftmost-tail _ _ h)))
       k (sym (ap (member k) (named-words d q (columns-known u))) ∙ m)
+
+  pub parts-open : unknownColumn d q ≡ none → closedPart d q ≡ none → PartsOpen d (resolved d q)
+  parts-open u h = record { table = table-open h; columns = columns-open u h }

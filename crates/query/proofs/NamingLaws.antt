@@ -4,7 +4,7 @@ use Prim.Native.Nat.{_+_, _<_, _≤_, ℕ}
 use lib.ListN.{getD, length, length-append, length-map, length-set, set, take}
 use lib.Seq.{length-take-le, take-all, take-suc, take-suc-set}
 use mathlib.Core.List.{List, [], _++_, _∷_, append-assoc, append-nil, map}
-use mathlib.Core.Option.{Option·getD, Option·map}
+use mathlib.Core.Option.{Option·map}
 use mathlib.Core.Path.{_∙_, _≡_, ap, refl, subst, sym}
 use native.Mathlib.Numerals.{add-one}
 use native.Mathlib.Omega.{arith}
@@ -17,7 +17,7 @@ use Rattle.lists.proofs.ListLaws.{map-append}
 use Rattle.query.proofs.BodiesRead.{first-of, wanted-count}
 use Rattle.query.specs.Naming.{ComparedStored, NamesPlaced, PlacesStored, TestStored, TestsPlaced, wordsAt}
 use Rattle.query.proofs.Sources.{named-words-are}
-use Rattle.query.specs.QueryForm.{selectedWords}
+use Rattle.query.specs.QueryForm.{selected, selectedWords}
 use Rattle.query.specs.QueryPlaces.{IsQuery, TestWithin, chosenCount, comparisonCount, conditionAt, formAt, selectedFrom, wantedAt}
 use Rattle.text.specs.Reader.{from}
 use Rattle.text.specs.Walking.{nextWord, wordEndAt}
@@ -27,6 +27,7 @@ use Rattle.query.specs.declared.reading.Question.{Question}
 use Rattle.query.specs.declared.reading.Test.{Test}
 use Rattle.query.specs.declared.reading.Test.the-variants as test
 use Rattle.query.specs.declared.reading.Wanted.{Wanted}
+use Rattle.query.specs.declared.reading.Verb.{Verb}
 use Rattle.query.specs.declared.reading.Wanted.the-variants as wanted
 
 -- the column that a comparison names
@@ -174,14 +175,14 @@ module _ (s : List ℕ) {c : Read} {ops : List ℕ} where
 -- ---- columns that may not be asked for
 
 abbrev wantedWords : List ℕ → Wanted → List Word
-wantedWords s w = Option·getD (wantedAt s w) []
+wantedWords s w = selected (wantedAt s w)
 
-pub wanted-select : (s : List ℕ) {w : Wanted} {p n k : ℕ} {before after : List ℕ} → w ≡ wanted.Select p n → PlacesStored s (selectedFrom s p) k before after → PlacesStored s (wantedWords s w) k before after
-unfolding wantedAt
-wanted-select s {p} {k} {before} {after} e d = subst (λ v. PlacesStored s (wantedWords s v) k before after) (sym e) d
+pub wanted-rows : (s : List ℕ) {w : Wanted} {v : Verb} {p n k : ℕ} {before after : List ℕ} → w ≡ wanted.Rows v p n → PlacesStored s (selectedFrom s p) k before after → PlacesStored s (wantedWords s w) k before after
+unfolding wantedAt selected
+wanted-rows s {p} {k} {before} {after} e d = subst (λ v. PlacesStored s (wantedWords s v) k before after) (sym e) d
 
 none-wanted : (s before : List ℕ) → PlacesStored s (wantedWords s wanted.Count) 0 before before
-unfolding wantedAt
+unfolding wantedAt selected
 none-wanted s before = record { small = omega arith; same = refl; named = λ h. refl }
 
 pub wanted-none : (s : List ℕ) {w : Wanted} (before : List ℕ) → w ≡ wanted.Count → PlacesStored s (wantedWords s w) 0 before before

@@ -1,8 +1,8 @@
 -- Where the words of a query stand does not matter to what it names and what is wrong with it. Assumes nothing.
 use lib.ListN.{length-map}
-use mathlib.Core.Bool.{Bool}
+use mathlib.Core.Bool.{Bool, cond, false, true}
 use mathlib.Core.List.{List, [], _++_, _∷_, map}
-use mathlib.Core.Option.{Option, Option·getD, Option·map, none, some}
+use mathlib.Core.Option.{Option, Option·map, none, some}
 use mathlib.Core.Path.{_∙_, _≡_, ap, refl, sym}
 use Rattle.condition.proofs.CondLaws.{comparisonsIn-map, mapCond-map}
 use Rattle.condition.proofs.CondPlaces.{mistyped-placeless, placelessCompared}
@@ -13,8 +13,9 @@ use Rattle.condition.specs.Kinds.{Kind}
 use Rattle.document.specs.Lookup.{columnKind, columnOf, columnsOf, labellingOf, purposeOf, roleOf, tableOf}
 use Rattle.document.specs.Open.{columnOpen, tableOpen}
 use Rattle.document.specs.Policy.{Column, Policy}
-use Rattle.query.specs.Query.{closedPart, columnComparison, columnsIn, mistypedQuery, openFor, resolved, select, sourceOf, unknownColumn, unknownParty, wantedOf}
-use Rattle.query.specs.QueryForm.{QueryForm, Ref, namedRefs, namedWords, plainRef, selectedRefs, selectedWords, testedRefs, withholdingRefs, withinBounds}
+use Rattle.query.proofs.WantedLaws.{gaps-map, selected-map}
+use Rattle.query.specs.Query.{closedPart, columnComparison, columnsIn, mistypedQuery, openFor, resolved, sourceOf, unknownColumn, unknownParty, wantedOf}
+use Rattle.query.specs.QueryForm.{QueryForm, Ref, Wanted, countsOnly, hasGaps, mapWanted, namedRefs, namedWords, plainRef, rowsOf, selectedRefs, selectedWords, testedRefs, withholdingRefs, withinBounds}
 use Rattle.lists.proofs.KeptLaws.{keep-map}
 use Rattle.lists.proofs.ListLaws.{map-append, map-map}
 use Rattle.text.proofs.Places.{leftmost-placeless, unless-placeless}
@@ -30,7 +31,7 @@ placelessQuery q = record {
   role = placeless (q .role);
   purpose = placeless (q .purpose);
   table = placeless (q .table);
-  columns = Option·map (map placeless) (q .columns);
+  wanted = mapWanted placeless (q .wanted);
   condition = Option·map (mapCond placelessCompared) (q .condition);
 }
 
@@ -38,11 +39,7 @@ placelessQuery q = record {
 
 selected-placeless : (q : QueryForm) → selectedWords (placelessQuery q) ≡ map placeless (selectedWords q)
 unfolding selectedWords placelessQuery
-selected-placeless q = go (q .columns)
-  where
-    go : (o : Option (List Word)) → Option·getD (Option·map (map placeless) o) [] ≡ map placeless (Option·getD o [])
-    go none = refl
-    go (some ws) = refl
+selected-placeless q = selected-map placeless (q .wanted)
 
 comparisons-placeless : (q : QueryForm) → comparisonsIn (placelessQuery q .condition) ≡ map placelessCompared (comparisonsIn (q .condition))
 unfolding placelessQuery
@@ -52,13 +49,31 @@ comparisons-placeless q = comparisonsIn-map placelessCompared (q .condition)
 abbrev placelessRef : Ref → Ref
 placelessRef r = record { table = placeless (r .table); column = placeless (r .column) }
 
+picked-placeless : (q : QueryForm) → selectedRefs (placelessQuery q) ≡ map placelessRef (selectedRefs q)
+unfolding selectedRefs placelessQuery
+picked-placeless q =
+    ap (map (plainRef (placelessQuery q))) (selected-placeless q)
+    ∙ map-map (plainRef (placelessQuery q)) placeless (selectedWords q)
+    ∙ sym (map-map placelessRef (plainRef q) (selectedWords q))
+
+tested-placeless : (q : QueryForm) → testedRefs (placelessQuery q) ≡ map placelessRef (testedRefs q)
+unfolding testedRefs placelessQuery placelessCompared
+tested-placeless q =
+    ap (map (λ x. plainRef (placelessQuery q) (x .of))) (comparisons-placeless q)
+    ∙ map-map (λ (x : Compared). plainRef (placelessQuery q) (x .of)) placelessCompared (comparisonsIn (q .condition))
+    ∙ sym (map-map placelessRef (λ (x : Compared). plainRef q (x .of)) (comparisonsIn (q .condition)))
+
 refs-placeless : (q : QueryForm) → namedRefs (placelessQuery q) ≡ map placelessRef (namedRefs q)
-unfolding namedRefs selectedRefs testedRefs placelessQuery placelessCompared
-refs-placeless q =
-    (λ i. map (plainRef (placelessQuery q)) (selected-placeless q i) ++ map (λ x. plainRef (placelessQuery q) (x .of)) (comparisons-placeless q i))
-    ∙ (λ i. map-map (plainRef (placelessQuery q)) placeless (selectedWords q) i ++ map-map (λ (x : Compared). plainRef (placelessQuery q) (x .of)) placelessCompared (comparisonsIn (q .condition)) i)
-    ∙ sym (map-append placelessRef (selectedRefs q) (testedRefs q)
-    ∙ (λ i. map-map placelessRef (plainRef q) (selectedWords q) i ++ map-map placelessRef (λ (x : Compared). plainRef q (x .of)) (comparisonsIn (q .condition)) i))
+unfolding namedRefs
+refs-placeless q = (λ i. picked-placeless q i ++ tested-placeless q i) ∙ sym (map-append placelessRef (selectedRefs q) (testedRefs q))
+
+withholding-placeless : (q : QueryForm) → withholdingRefs (placelessQuery q) ≡ map placelessRef (withholdingRefs q)
+unfolding withholdingRefs placelessQuery
+withholding-placeless q = (λ i. cond (gaps-map placeless (q .wanted) i) (tested-placeless q i) (refs-placeless q i)) ∙ go (hasGaps (q .wanted))
+  where
+    go : (b : Bool) → cond b (map placelessRef (testedRefs q)) (map placelessRef (namedRefs q)) ≡ map placelessRef (cond b (testedRefs q) (namedRefs q))
+    go true = refl
+    go false = refl
 
 named-placeless : (q : QueryForm) → namedWords (placelessQuery q) ≡ map placeless (namedWords q)
 unfolding namedWords
@@ -112,10 +127,10 @@ module _ (d : Policy) (q : QueryForm) where
       ap (λ l. leftmost (map (λ (x : Compared). mistyped (f (x .of)) x) l)) (comparisons-placeless q)
       ∙ tests-placeless placelessCompared (λ x. mistyped (f (x .of)) x) (λ x. mistyped-placeless f (λ w. refl) x) (comparisonsIn (q .condition))
 
-wanted-placeless : (cs : List Column) (o : Option (List Word)) → wantedOf cs (Option·map (map placeless) o) ≡ wantedOf cs o
-unfolding wantedOf columnOf isCalled placeless plainWord
-wanted-placeless cs none = refl
-wanted-placeless cs (some ws) = ap select (map-map (λ w. orZero (columnOf cs w)) placeless ws)
+wanted-placeless : (cs : List Column) (w : Wanted Word) → wantedOf cs (mapWanted placeless w) ≡ wantedOf cs w
+unfolding wantedOf mapWanted columnOf isCalled placeless plainWord
+wanted-placeless cs (rowsOf v ws) = ap (rowsOf v) (map-map (λ w. orZero (columnOf cs w)) placeless ws)
+wanted-placeless cs countsOnly = refl
 
 condition-placeless : (cs : List Column) (o : Option (Cond Compared)) → Option·map (mapCond (columnComparison cs)) (Option·map (mapCond placelessCompared) o) ≡ Option·map (mapCond (columnComparison cs)) o
 unfolding columnComparison columnKind columnOf isCalled placeless plainWord placelessCompared
@@ -129,11 +144,12 @@ columns-placeless d t rs =
     ∙ ap found (map-map (λ (r : Ref). columnOf (columnsOf d t) (r .column)) placelessRef (keep (λ r. isCalled (r .table) (t .bytes)) rs))
 
 source-placeless : (d : Policy) (q : QueryForm) → sourceOf d (placelessQuery q) (placeless (q .table)) ≡ sourceOf d q (q .table)
-unfolding sourceOf withholdingRefs tableOf isCalled placeless plainWord
-source-placeless d q =
-    let same : columnsIn d (placeless (q .table)) (namedRefs (placelessQuery q)) ≡ columnsIn d (q .table) (namedRefs q) =
-    ap (columnsIn d (placeless (q .table))) (refs-placeless q) ∙ columns-placeless d (q .table) (namedRefs q) in
-    λ i. record { table = orZero (tableOf d (q .table)); named = same i; withholding = same i }
+unfolding sourceOf tableOf isCalled placeless plainWord
+source-placeless d q = λ i. record {
+  table = orZero (tableOf d (q .table));
+  named = (ap (columnsIn d (placeless (q .table))) (refs-placeless q) ∙ columns-placeless d (q .table) (namedRefs q)) i;
+  withholding = (ap (columnsIn d (placeless (q .table))) (withholding-placeless q) ∙ columns-placeless d (q .table) (withholdingRefs q)) i;
+}
 
 pub resolved-placeless : (d : Policy) (q : QueryForm) → resolved d (placelessQuery q) ≡ resolved d q
 unfolding resolved placelessQuery purposeOf tableOf columnsOf isCalled placeless plainWord
@@ -142,6 +158,6 @@ resolved-placeless d q =
     λ i. record {
       purpose = orZero (purposeOf d (q .purpose));
       source = source-placeless d q i;
-      wanted = wanted-placeless cs (q .columns) i;
+      wanted = wanted-placeless cs (q .wanted) i;
       condition = condition-placeless cs (q .condition) i;
     }

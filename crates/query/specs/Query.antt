@@ -1,24 +1,19 @@
 -- Meaning: queries resolved against a policy, and the faults 12 and 15 to 17 (01, "Queries" and "Asking").
 use Prim.Native.Nat.{ℕ}
-use mathlib.Core.Bool.{Bool}
+use mathlib.Core.Bool.{Bool, cond, true}
 use mathlib.Core.List.{List, [], _++_, _∷_, map}
-use mathlib.Core.Option.{Option, Option·map, none, some}
+use mathlib.Core.Option.{Option, Option·map}
 use mathlib.Core.Path.{_≡_}
 use Rattle.condition.specs.Comparison.{Comparison}
 use Rattle.condition.specs.Cond.{Cond, comparisonsIn, mapCond}
 use Rattle.condition.specs.CondForm.{Compared, mistyped}
-use Rattle.document.specs.Lookup.{columnKind, columnOf, columnsOf, labellingOf, purposeOf, roleOf, tableOf}
+use Rattle.document.specs.Lookup.{columnKind, columnOf, columnsOf, labellingAt, labellingOf, purposeOf, roleOf, tableOf}
 use Rattle.document.specs.Open.{columnOpen, labelOpen, tableOpen}
 use Rattle.document.specs.Policy.{Column, Policy}
-use Rattle.query.specs.QueryForm.{QueryForm, Ref, namedRefs, namedWords, withholdingRefs}
-use Rattle.lists.specs.Lists.{anyOf, found, keep, orZero, there}
+use Rattle.query.specs.QueryForm.{QueryForm, Ref, Wanted, hasGaps, mapWanted, namedRefs, namedWords, selected, withholdingRefs}
+use Rattle.lists.specs.Lists.{anyOf, found, keep, member, orZero, there}
 use Rattle.text.specs.Offending.{leftmost, missing, unless}
 use Rattle.text.specs.Words.{Word, isCalled}
-
--- what is asked for: the values of some columns of each passed row, or only the counts
-pub data Wanted : Type 0 where
-  select : List ℕ → Wanted
-  countsOnly : Wanted
 
 -- a table that a query reads: its number, the columns that the query names in it, and those whose closed cells withhold a row
 pub record Source : Type 0 where
@@ -30,17 +25,23 @@ pub record Source : Type 0 where
 pub record Query : Type 0 where
   pub purpose : ℕ
   pub source : Source
-  pub wanted : Wanted
+  pub wanted : Wanted ℕ
   pub condition : Option (Cond Comparison)
 
--- the selected columns
-unfoldable pub selected : Wanted → List ℕ
-selected (select cs) = cs
-selected countsOnly = []
+-- the columns in its condition, evaluated or not
+unfoldable pub tested : Query → List ℕ
+tested q = map (λ t. t .of) (comparisonsIn (q .condition))
 
--- the query names what it selects and what is in its condition, evaluated or not: every query that is not refused with 15 does
-abbrev pub NamesParts : Query → Type 0
-NamesParts q = q .source .named ≡ selected (q .wanted) ++ map (λ t. t .of) (comparisonsIn (q .condition))
+-- the query names what it selects and what is in its condition; the condition's columns withhold, and so do the selected ones unless
+-- gaps are left: so it is with every query that is not refused with 15
+pub record NamesParts (q : Query) : Type 0 where
+  pub named : q .source .named ≡ selected (q .wanted) ++ tested q
+  pub withholding : q .source .withholding ≡ cond (hasGaps (q .wanted)) (tested q) (selected (q .wanted) ++ tested q)
+
+-- its table is open to its purpose, and so is every column that it names: so it is with every query that is not refused with 17
+pub record PartsOpen (d : Policy) (q : Query) : Type 0 where
+  pub table : tableOpen (labelOpen d (q .purpose)) (labellingAt d (q .source .table)) ≡ true
+  pub columns : (c : ℕ) → member c (q .source .named) ≡ true → columnOpen (labelOpen d (q .purpose)) (labellingAt d (q .source .table)) c ≡ true
 
 -- 12: user, role or purpose unknown
 unfoldable pub unknownParty : Policy → QueryForm → Option Word
@@ -95,15 +96,14 @@ columnComparison cs x =
     record { of = orZero (columnOf cs (x .of)); kind = columnKind cs (x .of); op = x .op; value = x .value .bytes }
 
 -- what is asked for, columns by number
-unfoldable pub wantedOf : List Column → Option (List Word) → Wanted
-wantedOf cs none = countsOnly
-wantedOf cs (some ws) = select (map (λ w. orZero (columnOf cs w)) ws)
+unfoldable pub wantedOf : List Column → Wanted Word → Wanted ℕ
+wantedOf cs w = mapWanted (λ c. orZero (columnOf cs c)) w
 
 -- the query with its names resolved; all of them are known
 unfoldable pub resolved : Policy → QueryForm → Query
 resolved d q = record {
   purpose = orZero (purposeOf d (q .purpose));
   source = sourceOf d q (q .table);
-  wanted = wantedOf (columnsOf d (q .table)) (q .columns);
+  wanted = wantedOf (columnsOf d (q .table)) (q .wanted);
   condition = Option·map (mapCond (columnComparison (columnsOf d (q .table)))) (q .condition);
 }

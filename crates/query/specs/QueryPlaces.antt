@@ -11,6 +11,7 @@ use Rattle.condition.specs.Cond.{Cond}
 use Rattle.condition.specs.CondForm.{Compared, conditionInForm}
 use Rattle.form.specs.Walks.{namesAt}
 use Rattle.lists.specs.Lists.{there}
+use Rattle.query.specs.QueryForm as form
 use Rattle.query.specs.QueryForm.{QueryForm, queryOf}
 use Rattle.text.specs.Reader.{from}
 use Rattle.text.specs.Walking.{wordEndAt}
@@ -21,6 +22,8 @@ use Rattle.query.specs.declared.reading.Head.{Head}
 use Rattle.query.specs.declared.reading.Question.{Question}
 use Rattle.query.specs.declared.reading.Test.{Test}
 use Rattle.query.specs.declared.reading.Test.the-variants as test
+use Rattle.query.specs.declared.reading.Verb.{Verb}
+use Rattle.query.specs.declared.reading.Verb.the-variants as verb
 use Rattle.query.specs.declared.reading.Wanted.{Wanted}
 use Rattle.query.specs.declared.reading.Wanted.the-variants as wanted
 
@@ -29,14 +32,19 @@ unfoldable pub conditionAt : List ℕ → Test → Option (Cond Compared)
 conditionAt s test.Always = none
 conditionAt s (test.When t n) = Option·map (λ x. x .0) (conditionInForm (from s t))
 
--- the columns of a select, the first of them standing at a position
+-- the columns that are selected, the first of them standing at a position
 unfoldable pub selectedFrom : List ℕ → ℕ → List Word
 selectedFrom s p = wordOf s p ∷ namesAt s (wordEndAt s p)
 
--- the columns that are asked for, if any are
-unfoldable pub wantedAt : List ℕ → Wanted → Option (List Word)
-wantedAt s (wanted.Select p n) = some (selectedFrom s p)
-wantedAt s wanted.Count = none
+-- how rows are asked for
+unfoldable pub verbOf : Verb → form.Verb
+verbOf verb.Select = form.select
+verbOf verb.Blank = form.blank
+
+-- what is asked for
+unfoldable pub wantedAt : List ℕ → Wanted → form.Wanted Word
+wantedAt s (wanted.Rows v p n) = form.rowsOf (verbOf v) (selectedFrom s p)
+wantedAt s wanted.Count = form.countsOnly
 
 -- the query that a question stands for
 unfoldable pub formAt : List ℕ → Question → QueryForm
@@ -45,18 +53,23 @@ formAt s q = record {
   role = wordOf s (q .head .role);
   purpose = wordOf s (q .head .purpose);
   table = wordOf s (q .head .table);
-  columns = wantedAt s (q .wanted);
+  wanted = wantedAt s (q .wanted);
   condition = conditionAt s (q .test);
 }
 
--- whether columns are asked for
-unfoldable pub isSelect : Wanted → Bool
-isSelect (wanted.Select p n) = true
-isSelect wanted.Count = false
+-- whether rows are asked for
+unfoldable pub asksRows : Wanted → Bool
+asksRows (wanted.Rows v p n) = true
+asksRows wanted.Count = false
+
+-- how rows are asked for; a count withholds as a select does
+unfoldable pub verbIn : Wanted → Verb
+verbIn (wanted.Rows v p n) = v
+verbIn wanted.Count = verb.Select
 
 -- how many columns are selected
 unfoldable pub chosenCount : Wanted → ℕ
-chosenCount (wanted.Select p n) = n
+chosenCount (wanted.Rows v p n) = n
 chosenCount wanted.Count = 0
 
 -- how many comparisons the condition has
@@ -82,14 +95,14 @@ unfoldable pub TestWithin : List ℕ → Test → Type 0
 TestWithin s test.Always = Unit {0}
 TestWithin s (test.When t n) = Tests s t n
 
--- the first column of a select lies in the text, and there are as many columns as the code says
+-- the first selected column lies in the text, and there are as many columns as the code says
 pub record Selects (s : List ℕ) (p n : ℕ) : Type 0 where
   pub place : p ≤ length s
   pub number : length (selectedFrom s p) ≡ n
 
 -- the same for columns that may not be asked for
 unfoldable pub WantedWithin : List ℕ → Wanted → Type 0
-WantedWithin s (wanted.Select p n) = Selects s p n
+WantedWithin s (wanted.Rows v p n) = Selects s p n
 WantedWithin s wanted.Count = Unit {0}
 
 -- the places of a question lie in the text, and its numbers are right

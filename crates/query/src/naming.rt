@@ -7,12 +7,11 @@ use text::bytes::byte_at;
 use text::walking::next_word;
 use text::words::word_end;
 ghost use lib.ListN.{length};
-ghost use mathlib.Core.List.{[]};
-ghost use mathlib.Core.Option.{Option·getD};
 ghost use Rattle.query.specs.Naming.{ComparedStored, NamesPlaced, PlacesStored, TestStored};
+ghost use Rattle.query.specs.QueryForm.{selected};
 ghost use Rattle.query.specs.QueryPlaces.{IsQuery, selectedFrom, wantedAt};
 
-// Stores where the columns of a select stand, the first of them at p, as many as have room. Gives how many.
+// Stores where the selected columns stand, the first of them at p, as many as have room. Gives how many.
 fn store_selected(s: &[u8], p: usize, out: &mut [usize]) -> usize
     ensures { λ r. ⌜ PlacesStored (now (s .entry)) (selectedFrom (now (s .entry)) p) r (now (out .entry)) (now (out .exit)) ⌝ }
 {
@@ -32,10 +31,10 @@ fn store_selected(s: &[u8], p: usize, out: &mut [usize]) -> usize
 
 // The same for columns that may not be asked for.
 fn store_wanted(s: &[u8], w: Wanted, out: &mut [usize]) -> usize
-    ensures { λ r. ⌜ PlacesStored (now (s .entry)) (Option·getD (wantedAt (now (s .entry)) w) []) r (now (out .entry)) (now (out .exit)) ⌝ }
+    ensures { λ r. ⌜ PlacesStored (now (s .entry)) (selected (wantedAt (now (s .entry)) w)) r (now (out .entry)) (now (out .exit)) ⌝ }
 {
     match w {
-        Wanted::Select(p, _) => store_selected(s, p, out),
+        Wanted::Rows(_, p, _) => store_selected(s, p, out),
         Wanted::Count => 0,
     }
 }

@@ -2,10 +2,10 @@
 use Prim.Native.Nat.{_+_, _≤_, ℕ}
 use lib.ListN.{drop, length, length-append, length-map, take, take-append-drop}
 use lib.Seq.{drop-at, take-at}
-use mathlib.Core.Bool.{Bool, true}
+use mathlib.Core.Bool.{Bool, cond, false, true}
 use mathlib.Core.List.{List, [], _++_, _∷_, append-assoc, map}
-use mathlib.Core.Option.{Option, Option·getD, Option·map, none, some}
-use mathlib.Core.Path.{_∙_, _≡_, ap, subst, sym}
+use mathlib.Core.Option.{Option, Option·map, none, some}
+use mathlib.Core.Path.{_∙_, _≡_, ap, refl, subst, sym}
 use native.Mathlib.Omega.{arith}
 use Rattle.condition.specs.Cond.{comparisonsIn, mapCond}
 use Rattle.condition.specs.CondForm.{Compared, mistyped}
@@ -16,18 +16,19 @@ use Rattle.form.specs.Form.{Scheme}
 use Rattle.workspace.specs.Found.{FoundBelow, foundAs}
 use Rattle.relations.specs.Labels.{Opened}
 use Rattle.relations.specs.Tables.{Tables}
-use Rattle.judging.specs.Prepared.{Prepared, wantedBy}
+use Rattle.judging.specs.Prepared.{Prepared, firstWithholding, wantedBy}
 use Rattle.judging.specs.Reading.{Comparable, TestsRead, firstWrong}
 use Rattle.judging.specs.Tests.{Tested}
 use Rattle.lists.proofs.ListLaws.{all-map, all-parts, map-append, map-map}
 use Rattle.lists.specs.Lists.{allOf, orZero, there}
-use Rattle.query.proofs.BodiesRead.{wanted-count, wanted-there}
-use Rattle.query.proofs.NamedColumns.{columnNumber, names-parts, withholding-words}
-use Rattle.query.proofs.Sources.{named-words-are}
+use Rattle.query.proofs.BodiesRead as body
+use Rattle.query.proofs.BodiesRead.{gaps-are, wanted-count}
+use Rattle.query.proofs.NamedColumns.{columnNumber, names-parts, parts-open, withholding-words}
+use Rattle.query.proofs.Sources.{named-words-are, withholding-words-are, withholdingWords}
 use Rattle.query.specs.Naming.{NamesPlaced, TestsPlaced, wordsAt}
-use Rattle.query.specs.Query.{NamesParts, closedPart, columnComparison, mistypedQuery, openFor, resolved, select, sourceOf, unknownColumn, wantedOf}
-use Rattle.query.specs.QueryForm.{QueryForm, namedWords, selectedWords}
-use Rattle.query.specs.QueryPlaces.{IsQuery, chosenCount, comparisonCount, conditionAt, formAt, isSelect, wantedAt}
+use Rattle.query.specs.Query.{NamesParts, PartsOpen, closedPart, columnComparison, mistypedQuery, openFor, resolved, sourceOf, unknownColumn, wantedOf}
+use Rattle.query.specs.QueryForm.{QueryForm, countsOnly, hasGaps, leavesGaps, mapWanted, namedWords, rowsOf, selected, selectedWords}
+use Rattle.query.specs.QueryPlaces.{IsQuery, asksRows, chosenCount, comparisonCount, conditionAt, formAt, verbIn, verbOf, wantedAt}
 use Rattle.resolving.specs.Resolved.{Resolves}
 use Rattle.text.specs.CodeEnds.{offendingOf}
 use Rattle.stages.proofs.Chain.{no-word, number-found}
@@ -40,6 +41,7 @@ use Rattle.workspace.specs.declared.found.Found.{Found}
 use Rattle.workspace.specs.declared.found.Found.the-variants as found
 use Rattle.judging.specs.declared.sought.Sought.{Sought}
 use Rattle.query.specs.declared.reading.Question.{Question}
+use Rattle.query.specs.declared.reading.Verb.{Verb}
 use Rattle.text.specs.declared.offending.Offending.{Offending}
 use Rattle.text.specs.declared.offending.Offending.the-variants as offending
 
@@ -60,6 +62,10 @@ module _ {A : Type 0} (n k m : ℕ) (xs as′ bs : List A) (e : take n xs ≡ as
 
   all-of-both : take (k + m) xs ≡ as′ ++ bs
   all-of-both = ap (take (k + m)) joined ∙ take-at (as′ ++ bs) (drop n xs) (k + m) (omega (arith, length-append as′ bs, la, lb))
+
+  -- what is left of them behind the first
+  last-of-both : drop k (take (k + m) xs) ≡ bs
+  last-of-both = ap (drop k) all-of-both ∙ drop-at as′ bs k la
 
 -- ---- the table, by its number
 
@@ -126,10 +132,10 @@ module _ {d : Policy} {s : List ℕ} (q : Question) {t k n : ℕ} {places ops nu
   parts-judged e y o f = f (placed .small) o (r .numbered e) ∙ parts-are
 
 -- what is asked for, by the numbers of the columns
-wanted-by : (cs : Option (List Word)) (ys : List Column) (b : Bool) (ns : List ℕ) → there cs ≡ b → ns ≡ map (λ w. orZero (columnOf ys w)) (Option·getD cs []) → wantedOf ys cs ≡ wantedBy b ns
-unfolding wantedOf wantedBy there
-wanted-by none ys b ns e h = ap (λ v. wantedBy v ns) e
-wanted-by (some ws) ys b ns e h = ap select (sym h) ∙ ap (λ v. wantedBy v ns) e
+wanted-by : (ws : List Word) (ys : List Column) (b : Bool) (v : Verb) (ns : List ℕ) → ns ≡ map (λ w. orZero (columnOf ys w)) ws → wantedOf ys (cond b (rowsOf (verbOf v) ws) countsOnly) ≡ wantedBy b v ns
+unfolding wantedOf mapWanted wantedBy
+wanted-by ws ys true v ns h = ap (rowsOf (verbOf v)) (sym h)
+wanted-by ws ys false v ns h = refl
 
 -- ---- the query by its parts
 
@@ -146,7 +152,7 @@ module _ {d : Policy} {s : List ℕ} (q : Question) {t k : ℕ} {numbers ops : L
   m = comparisonCount (q .test)
 
   abbrev selected-words : List Word
-  selected-words = Option·getD (wantedAt s (q .wanted)) []
+  selected-words = selected (wantedAt s (q .wanted))
 
   abbrev comparisons : List Compared
   comparisons = comparisonsIn (conditionAt s (q .test))
@@ -175,6 +181,9 @@ module _ {d : Policy} {s : List ℕ} (q : Question) {t k : ℕ} {numbers ops : L
 
   both-numbers : take (chosen + m) numbers ≡ map K (namedWords (formAt s q))
   both-numbers = all-of-both (columns .number) chosen m numbers (map K selected-words) (map K compared-words) numbers-are chosen-many tests-many ∙ sym (map-append K selected-words compared-words) ∙ ap (map K) (sym words-are)
+
+  behind-numbers : drop chosen (take (chosen + m) numbers) ≡ map K compared-words
+  behind-numbers = last-of-both (columns .number) chosen m numbers (map K selected-words) (map K compared-words) numbers-are chosen-many tests-many
 
   all-there : allOf (λ x. there (columnOf (columnsAt d t) (x .of))) comparisons ≡ true
   all-there =
@@ -207,9 +216,11 @@ module _ {d : Policy} {s : List ℕ} (q : Question) {t k : ℕ} {numbers ops : L
       ∙ subst (λ g. TestsRead s g ws (columnsAt d (g .table))) e r .wrong
       ∙ types-are
 
-  wanted-are : wantedOf (columnsOf d (wordOf s (q .head .table))) (wantedAt s (q .wanted)) ≡ wantedBy (isSelect (q .wanted)) (take chosen numbers)
+  wanted-are : wantedOf (columnsOf d (wordOf s (q .head .table))) (wantedAt s (q .wanted)) ≡ wantedBy (asksRows (q .wanted)) (verbIn (q .wanted)) (take chosen numbers)
   unfolding formAt
-  wanted-are = ap (λ ys. wantedOf ys (wantedAt s (q .wanted))) (columns-are table) ∙ wanted-by (wantedAt s (q .wanted)) (columnsAt d t) (isSelect (q .wanted)) (take chosen numbers) (wanted-there s (q .wanted)) first-numbers
+  wanted-are =
+      (λ i. wantedOf (columns-are table i) (body.wanted-are s (q .wanted) i))
+      ∙ wanted-by selected-words (columnsAt d t) (asksRows (q .wanted)) (verbIn (q .wanted)) (take chosen numbers) first-numbers
 
   -- every named column is known
   all-known : allOf (λ w. there (columnOf (columnsOf d (formAt s q .table)) w)) (namedWords (formAt s q)) ≡ true
@@ -218,21 +229,35 @@ module _ {d : Policy} {s : List ℕ} (q : Question) {t k : ℕ} {numbers ops : L
   names-are : NamesParts (resolved d (formAt s q))
   names-are = names-parts d (formAt s q) all-known
 
-  withholding-are : take (chosen + m) numbers ≡ resolved d (formAt s q) .source .withholding
+  -- those that withhold stand from the condition's on, where gaps are left, and else from the first on
+  withholding-by : (b : Bool) → drop (cond b chosen 0) (take (chosen + m) numbers) ≡ map K (cond b compared-words (namedWords (formAt s q)))
+  withholding-by true = behind-numbers
+  withholding-by false = both-numbers
+
+  withholding-are : drop (cond (leavesGaps (verbOf (verbIn (q .wanted)))) chosen 0) (take (chosen + m) numbers) ≡ resolved d (formAt s q) .source .withholding
+  unfolding formAt
   withholding-are =
-      both-numbers
-      ∙ ap (λ ys. map (columnNumber ys) (namedWords (formAt s q))) (sym (columns-are table))
+      ap (λ b. drop (cond b chosen 0) (take (chosen + m) numbers)) (sym (gaps-are s (q .wanted)))
+      ∙ withholding-by (hasGaps (wantedAt s (q .wanted)))
+      ∙ ap (map K) (sym (withholding-words-are (formAt s q)))
+      ∙ ap (λ ys. map (columnNumber ys) (withholdingWords (formAt s q))) (sym (columns-are table))
       ∙ sym (withholding-words d (formAt s q) all-known)
 
   condition-is : Option·map (mapCond (columnComparison (columnsOf d (wordOf s (q .head .table))))) (conditionAt s (q .test)) ≡ Option·map (mapCond (columnComparison (columnsAt d t))) (conditionAt s (q .test))
   unfolding formAt
   condition-is = ap (λ ys. Option·map (mapCond (columnComparison ys)) (conditionAt s (q .test))) (columns-are table)
 
+-- what was judged with 15 and 17 is known and open
+pub parts-known : {d : Policy} (s : List ℕ) (q : Question) {x y : Offending} → x ≡ offending.Nothing → offendingOf s x ≡ unknownColumn d (formAt s q)
+    → y ≡ offending.Nothing → offendingOf s y ≡ closedPart d (formAt s q) → PartsOpen d (resolved d (formAt s q))
+parts-known {d} s q e known f opens = parts-open d (formAt s q) (sym (no-word s e known)) (sym (no-word s f opens))
+
 -- the query is prepared for the rows, once its comparisons are read
 module _ {text ts ws : List ℕ} {c : Counts} {os : List Bool} {s : List ℕ} (q : Question) {t : ℕ} {numbers ops rs : List ℕ} {d : Doc}
-    (h : Granted text ts ws c os s q d) (table : InTable (d .policy) (formAt s q) t (c .tables)) (columns : ColumnsKnown (d .policy) (formAt s q) t numbers) (tests : TestsPlaced s (q .test) ops) where
+    (h : Granted text ts ws c os s q d) (table : InTable (d .policy) (formAt s q) t (c .tables)) (columns : ColumnsKnown (d .policy) (formAt s q) t numbers) (tests : TestsPlaced s (q .test) ops)
+    (parts : PartsOpen (d .policy) (resolved (d .policy) (formAt s q))) where
   as-read : TestsRead s (soughtIn q t) rs (columnsAt (d .policy) (soughtIn q t .table)) → Prepared text ts ws (c .rows) os s (soughtIn q t) rs numbers d (resolved (d .policy) (formAt s q))
-  unfolding resolved sourceOf formAt soughtIn
+  unfolding resolved sourceOf formAt soughtIn firstWithholding
   as-read r = record {
     small = h .small;
     tableCount = c .tables;
@@ -244,6 +269,7 @@ module _ {text ts ws : List ℕ} {c : Counts} {os : List Bool} {s : List ℕ} (q
     fewChosen = h .query .few .columns;
     wanted = wanted-are q (h .query) table columns tests;
     named = names-are q (h .query) table columns tests;
+    parts = parts;
     withholding = withholding-are q (h .query) table columns tests;
     tested = subst (Tested s rs (comparisonCount (q .test))) (sym (condition-is q (h .query) table columns tests)) (r .tested);
   }

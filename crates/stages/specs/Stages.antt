@@ -15,7 +15,7 @@ use Rattle.relations.specs.Tables.{Tables}
 use Rattle.index.specs.Workspace.{Indexed}
 use Rattle.lists.specs.Lists.{allOf, orZero, there}
 use Rattle.query.specs.QueryForm.{QueryForm, namedWords}
-use Rattle.query.specs.QueryPlaces.{IsQuery, chosenCount, comparisonCount, formAt, isSelect}
+use Rattle.query.specs.QueryPlaces.{IsQuery, asksRows, chosenCount, comparisonCount, formAt, verbIn}
 use Rattle.index.specs.declared.counts.Counts.{Counts}
 use Rattle.judging.specs.declared.sought.Sought.{Sought}
 use Rattle.query.specs.declared.reading.Question.{Question}
@@ -50,4 +50,11 @@ pub record ColumnsKnown (d : Policy) (q : QueryForm) (t : ℕ) (numbers : List �
 
 -- what the question asks of the rows of table t
 unfoldable pub soughtIn : Question → ℕ → Sought
-soughtIn q t = record { table = t; test = q .test; tests = comparisonCount (q .test); select = isSelect (q .wanted); chosen = chosenCount (q .wanted) }
+soughtIn q t = record {
+  table = t;
+  test = q .test;
+  tests = comparisonCount (q .test);
+  lines = asksRows (q .wanted);
+  verb = verbIn (q .wanted);
+  chosen = chosenCount (q .wanted);
+}

@@ -10,9 +10,10 @@ use judging::tests::read_tests;
 use judging::types::mistyped_test;
 use query::naming::named_places;
 use query::reading::Question;
+use query::reading::asks_rows;
 use query::reading::chosen_count;
 use query::reading::comparison_count;
-use query::reading::is_select;
+use query::reading::verb_in;
 use relations::tables::find_table;
 use resolving::columns::NAMED;
 use resolving::columns::resolve_columns;
@@ -40,13 +41,15 @@ fn sought_in(q: Question, t: usize) -> Sought
     let wanted = q.wanted;
     let test = q.test;
     let tests = comparison_count(test);
-    let select = is_select(wanted);
+    let lines = asks_rows(wanted);
+    let verb = verb_in(wanted);
     let chosen = chosen_count(wanted);
     Sought {
         table: t,
         test,
         tests,
-        select,
+        lines,
+        verb,
         chosen,
     }
 }

@@ -28,6 +28,12 @@ returns-3 c = λ d q h. absurd (omega (arith, h .rows .few, c .before .if3 .take
 judge-rows-requires : tie.Need-judge-rows-requires
 judge-rows-requires c κs = search needs
 
+table-scheme-requires : tie.Need-table-scheme-requires
+table-scheme-requires c κs = search needs
+
+writes-gaps-requires : tie.Need-writes-gaps-requires
+writes-gaps-requires c κs = search needs
+
 put-measured-requires : tie.Need-put-measured-requires
 put-measured-requires c κs = search needs
 
@@ -37,8 +43,8 @@ same-length c = search needs
 returns-4 : tie.Need-returns-4
 returns-4 c =
     λ d q h.
-    subst (λ a. Writes a (c .before .before .before .before .before .before .before .before .before .before .before .before .before .before .args .out .now) (c .before .before .put-measured .last .0) (c .before .before .put-measured .result)) (sym (answer-is h (c .before .before .before .before .before .judge-rows .ensures d q h)))
-    (c .before .before .put-measured .ensures (d .rows) (h .rows))
+    subst (λ a. Writes a (c .before .before .before .before .before .before .before .before .before .before .before .before .before .before .before .before .args .out .now) (c .before .before .put-measured .last .0) (c .before .before .put-measured .result)) (sym (answer-is h (c .before .before .before .before .before .before .before .judge-rows .ensures d q h) (c .before .before .before .before .before .before .table-scheme .result) (c .before .before .before .before .before .before .table-scheme .ensures) (c .before .before .before .before .before .writes-gaps .ensures)))
+    (c .before .before .put-measured .ensures d (q .purpose) (h .opened) (h .rows))
 
 pub answer-rows-spec : {M : Type 1} → statement M
 answer-rows-spec =
@@ -51,6 +57,8 @@ answer-rows-spec =
     unmeasured-requires-3
     returns-3
     judge-rows-requires
+    table-scheme-requires
+    writes-gaps-requires
     put-measured-requires
     same-length
     returns-4)

@@ -1,6 +1,6 @@
 -- `answering::answers::put_answer` meets its contract. Assumes nothing.
 use borrow.Author.Needs.{needs}
-use Rattle.answering.proofs.Ending.{count-written, select-written}
+use Rattle.answering.proofs.Ending.{count-written, lines-written}
 use Rattle.answering.proofs.answers.put_answer.Statement.{statement}
 use Rattle.answering.proofs.answers.put_answer.Tie as tie
 
@@ -14,7 +14,9 @@ same-length : tie.Need-same-length
 same-length c = search needs
 
 returns : tie.Need-returns
-returns c = λ rs h. select-written (c .before .before .before .before .before .before .before .before .before .before .before .args .text .now) (c .before .before .before .before .before .before .before .before .before .before .before .args .rows .now) (c .before .before .before .before .before .before .before .before .before .before .before .args .columns .now) (c .before .before .before .before .before .before .before .before .before .before .before .args .marks .now) (c .before .before .before .before .before .before .before .before .before .before .before .args .chosen) (c .before .before .before .before .before .before .before .before .before .before .before .args .count) (c .before .before .before .before .before .before .before .before .before .before .before .args .passed) (c .before .before .before .before .before .before .before .before .before .before .before .args .withheld) (c .before .before .before .before .before .before .before .before .before .before .before .args .unmatched) (c .before .before .before .before .before .before .before .before .before .before .before .pre .0) (c .before .before .before .before .before .before .before .before .before .before .before .pre .1) (c .before .before .before .before .before .before .before .before .before .before .before .pre .2) (c .before .before .before .before .before .before .before .before .if1 .taken) (c .before .before .before .before .before .before .put-lines .ensures rs h) (c .before .before .put-end .ensures)
+returns c =
+    let a = c .before .before .before .before .before .before .before .before .before .before .before .args in
+    λ d p o h. lines-written (d .policy) p (a .text .now) (a .rows .now) (a .gaps) (a .columns .now) (a .marks .now) (a .chosen) (a .count) (a .tally) (c .before .before .before .before .before .before .before .before .before .before .before .pre .0) (c .before .before .before .before .before .before .before .before .before .before .before .pre .1) (c .before .before .before .before .before .before .before .before .before .before .before .pre .2) (c .before .before .before .before .before .before .before .before .if1 .taken) (c .before .before .before .before .before .before .put-lines .ensures d p o h) (c .before .before .put-end .ensures)
 
 put-end-requires-2 : tie.Need-put-end-requires-2
 put-end-requires-2 c κs = search needs
@@ -23,7 +25,9 @@ same-length-2 : tie.Need-same-length-2
 same-length-2 c = search needs
 
 returns-2 : tie.Need-returns-2
-returns-2 c = λ rs h. count-written (c .before .before .before .before .before .before .before .args .text .now) (c .before .before .before .before .before .before .before .args .rows .now) (c .before .before .before .before .before .before .before .args .columns .now) (c .before .before .before .before .before .before .before .args .marks .now) (c .before .before .before .before .before .before .before .args .chosen) (c .before .before .before .before .before .before .before .args .count) (c .before .before .before .before .before .before .before .args .passed) (c .before .before .before .before .before .before .before .args .withheld) (c .before .before .before .before .before .before .before .args .unmatched) (c .before .before .before .before .before .before .before .pre .0) (c .before .before .before .before .before .before .before .pre .1) (c .before .before .before .before .before .before .before .pre .2) (c .before .before .before .before .if1 .left) (c .before .before .put-end2 .ensures)
+returns-2 c =
+    let a = c .before .before .before .before .before .before .before .args in
+    λ d p o h. count-written (d .policy) p (a .text .now) (a .rows .now) (a .gaps) (a .columns .now) (a .marks .now) (a .chosen) (a .count) (a .tally) (c .before .before .before .before .before .before .before .pre .0) (c .before .before .before .before .before .before .before .pre .1) (c .before .before .before .before .before .before .before .pre .2) (c .before .before .before .before .if1 .left) (c .before .before .put-end2 .ensures)
 
 pub put-answer-spec : {M : Type 1} → statement M
 put-answer-spec =

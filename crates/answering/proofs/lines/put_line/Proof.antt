@@ -14,10 +14,14 @@ same-length : tie.Need-same-length
 same-length c = search needs
 
 returns : tie.Need-returns
-returns c = line-written (c .before .before .before .before .before .before .before .before .before .args .text .now) (c .before .before .before .before .before .before .before .before .before .args .rows .now) (c .before .before .before .before .before .before .before .before .before .args .columns .now) (c .before .before .before .before .before .before .before .before .before .args .r) (c .before .before .before .before .before .before .before .before .before .pre) (c .before .before .before .before .before .if1 .taken) (c .before .before .before .before .row-values .ensures) (c .before .before .put-row .ensures)
+returns c =
+    let a = c .before .before .before .before .before .before .before .before .before .args in
+    λ d p o n f. line-written d p (a .text .now) (a .rows .now) (a .gaps) (a .columns .now) (a .r) (c .before .before .before .before .before .before .before .before .before .pre) (c .before .before .before .before .before .if1 .taken) (c .before .before .before .before .row-values .ensures) (c .before .before .put-row .ensures d p o f) n
 
 returns-2 : tie.Need-returns-2
-returns-2 c = λ n. line-none (c .before .before .before .before .args .text .now) (c .before .before .before .before .args .rows .now) (c .before .before .before .before .args .columns .now) (c .before .before .before .before .args .r) (c .before .before .before .before .args .out .now) (c .before .before .before .before .args .at) (c .if1 .left)
+returns-2 c =
+    let a = c .before .before .before .before .args in
+    λ d p o n f. line-none d p (a .text .now) (a .rows .now) (a .gaps) (a .columns .now) (a .r) (a .out .now) (a .at) (c .if1 .left)
 
 pub put-line-spec : {M : Type 1} → statement M
 put-line-spec =

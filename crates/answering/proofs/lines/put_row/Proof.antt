@@ -12,8 +12,8 @@ slice-aggregate-put-bytes c = search needs
 put-bytes-requires : tie.Need-put-bytes-requires
 put-bytes-requires c κs = search needs
 
-put-values-requires : tie.Need-put-values-requires
-put-values-requires c κs = search needs
+put-shown-requires : tie.Need-put-shown-requires
+put-shown-requires c κs = search needs
 
 slice-aggregate-put-bytes-2 : tie.Need-slice-aggregate-put-bytes-2
 slice-aggregate-put-bytes-2 c = search needs
@@ -26,7 +26,7 @@ same-length c = search needs
 
 returns : tie.Need-returns
 unfolding rowLine spacedValues
-returns c = w.both (w.both (c .before .before .before .before .before .before .before .before .before .before .before .put-bytes .ensures) (c .before .before .before .before .before .before .before .put-values .ensures)) (c .before .before .put-bytes2 .ensures)
+returns c = λ d p o f. w.both (w.both (c .before .before .before .before .before .before .before .before .before .before .before .put-bytes .ensures) (c .before .before .before .before .before .before .before .put-shown .ensures d p o f)) (c .before .before .put-bytes2 .ensures)
 
 pub put-row-spec : {M : Type 1} → statement M
 put-row-spec =
@@ -34,7 +34,7 @@ put-row-spec =
     (tie.spec
     slice-aggregate-put-bytes
     put-bytes-requires
-    put-values-requires
+    put-shown-requires
     slice-aggregate-put-bytes-2
     put-bytes-requires-2
     same-length

@@ -1,9 +1,10 @@
--- `judging::fates::any_closed` meets its contract. The loop's invariant: no column gone through is closed. Assumes nothing.
+-- `judging::fates::any_closed` meets its contract. The loop's invariant: whether one of the columns from i on is
+-- closed is whether one of them all is. Assumes nothing.
 use Prim.Native.Nat.{_-_, _<_, _≤_, ℕ}
 use borrow.Author.Needs.{needs}
-use lib.ListN.{take}
-use mathlib.Core.Bool.{false, not}
-use mathlib.Core.Path.{_∙_, _≡_, ap, sym}
+use lib.ListN.{drop, take}
+use mathlib.Core.Bool.{not}
+use mathlib.Core.Path.{_∙_, _≡_, ap, refl, sym}
 use native.Mathlib.Omega.{arith}
 use Rattle.judging.proofs.OpenCells.{any-found, any-more, any-none}
 use Rattle.judging.specs.Judging.{openIn}
@@ -15,13 +16,13 @@ use Rattle.judging.proofs.fates.any_closed.Statement.{statement}
 use Rattle.judging.proofs.fates.any_closed.Tie as tie
 
 abbrev Inv-loop : tie.InvT-loop
-Inv-loop rows opened r columns n i₀ i = (i ≤ n) × ((d : Policy) (p : ℕ) → Opened d p opened → r < 1024 → labelCountIn rows r ≤ labelRoom → anyOf (λ k. not (openIn d p rows r k)) (take i columns) ≡ false)
+Inv-loop rows opened r columns first n i₀ i = ((d : Policy) (p : ℕ) → Opened d p opened → r < 1024 → labelCountIn rows r ≤ labelRoom → anyOf (λ k. not (openIn d p rows r k)) (drop i (take n columns)) ≡ anyOf (λ k. not (openIn d p rows r k)) (drop first (take n columns)))
 
 abbrev μ-loop : tie.MeasureT-loop
-μ-loop rows opened r columns n i₀ i = n - i
+μ-loop rows opened r columns first n i₀ i = n - i
 
 loop-holds : tie.Need-loop-holds Inv-loop μ-loop
-loop-holds c = (omega arith, λ d p o i f. any-none (λ k. not (openIn d p (c .before .args .rows .now) (c .before .args .r) k)) (c .before .args .columns .now))
+loop-holds c = λ d p o i f. refl
 
 mul-cell-open : tie.Need-mul-cell-open Inv-loop μ-loop
 mul-cell-open c = search needs
@@ -33,7 +34,10 @@ cell-open-requires : tie.Need-cell-open-requires Inv-loop μ-loop
 cell-open-requires c κs = search needs
 
 returns : tie.Need-returns Inv-loop μ-loop
-returns c = λ d p o i f. sym (any-found (λ k. not (openIn d p (c .before .before .before .before .before .before .args .rows .now) (c .before .before .before .before .before .before .args .r) k)) (c .before .before .before .before .before .before .args .columns .now) (c .before .before .before .before .loop .i) (c .before .before .before .before .before .before .args .n) (c .before .before .before .loop-test .taken) (omega arith) (ap not (sym (c .before .cell-open .ensures d p o i f)) ∙ c .if1 .taken))
+returns c =
+    let a = c .before .before .before .before .before .before .args in
+    let l = c .before .before .before .before .loop in
+    λ d p o i f. sym (any-found (λ k. not (openIn d p (a .rows .now) (a .r) k)) (a .columns .now) (a .n) (l .i) (c .before .before .before .loop-test .taken) (c .before .before .before .before .before .before .pre) (ap not (sym (c .before .cell-open .ensures d p o i f)) ∙ c .if1 .taken)) ∙ l .inv d p o i f
 
 add-i : tie.Need-add-i Inv-loop μ-loop
 add-i c = search needs
@@ -42,10 +46,15 @@ loop-less : tie.Need-loop-less Inv-loop μ-loop
 loop-less c = omega arith
 
 loop-again : tie.Need-loop-again Inv-loop μ-loop
-loop-again c = (omega arith, λ d p o i f. any-more (λ k. not (openIn d p (c .before .before .before .before .before .before .args .rows .now) (c .before .before .before .before .before .before .args .r) k)) (c .before .before .before .before .before .before .args .columns .now) (c .before .before .before .before .loop .i) (omega arith) (c .before .before .before .before .loop .inv .1 d p o i f) (ap not (sym (c .before .cell-open .ensures d p o i f)) ∙ c .if1 .left))
+loop-again c =
+    let a = c .before .before .before .before .before .before .args in
+    let l = c .before .before .before .before .loop in
+    λ d p o i f. sym (any-more (λ k. not (openIn d p (a .rows .now) (a .r) k)) (a .columns .now) (a .n) (l .i) (c .before .before .before .loop-test .taken) (c .before .before .before .before .before .before .pre) (ap not (sym (c .before .cell-open .ensures d p o i f)) ∙ c .if1 .left)) ∙ l .inv d p o i f
 
 returns-2 : tie.Need-returns-2 Inv-loop μ-loop
-returns-2 c = let e : c .before .loop .i ≡ c .before .before .before .args .n = omega arith in λ d p o i f. sym (c .before .loop .inv .1 d p o i f) ∙ ap (λ (k : ℕ). anyOf (λ k. not (openIn d p (c .before .before .before .args .rows .now) (c .before .before .before .args .r) k)) (take k (c .before .before .before .args .columns .now))) e
+returns-2 c =
+    let a = c .before .before .before .args in
+    λ d p o i f. sym (any-none (λ k. not (openIn d p (a .rows .now) (a .r) k)) (a .columns .now) (a .n) (c .before .loop .i) (c .loop-test .left)) ∙ c .before .loop .inv d p o i f
 
 pub any-closed-spec : {M : Type 1} → statement M
 any-closed-spec =

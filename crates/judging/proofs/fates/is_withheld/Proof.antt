@@ -1,5 +1,6 @@
 -- `judging::fates::is_withheld` meets its contract. Assumes nothing.
 use borrow.Author.Needs.{needs}
+use lib.ListN.{drop, take}
 use mathlib.Core.Logic.{inl, inr}
 use native.Mathlib.Omega.{arith}
 use Rattle.judging.proofs.OpenCells.{withheld-cell, withheld-none, withheld-row}
@@ -28,19 +29,19 @@ any-closed-requires : tie.Need-any-closed-requires
 any-closed-requires c κs = omega (arith, c .any-closed-arg .given .0)
 
 returns : tie.Need-returns
-returns c = λ d p l ls o i f. withheld-none d p l ls (c .before .before .args .rows .now) (c .before .before .args .columns .now) (c .before .before .args .r) (c .before .before .args .n) _ (inl (c .enum-told .given .1))
+returns c = λ d p l ls o i f. withheld-none d p l ls (c .before .before .args .rows .now) (drop (c .before .before .args .first) (take (c .before .before .args .n) (c .before .before .args .columns .now))) (c .before .before .args .r) _ (inl (c .enum-told .given .1))
 
 returns-2 : tie.Need-returns-2
-returns-2 c = λ d p l ls o i f. withheld-none d p l ls (c .before .before .args .rows .now) (c .before .before .args .columns .now) (c .before .before .args .r) (c .before .before .args .n) _ (inr (inl (c .enum-told2 .given .1)))
+returns-2 c = λ d p l ls o i f. withheld-none d p l ls (c .before .before .args .rows .now) (drop (c .before .before .args .first) (take (c .before .before .args .n) (c .before .before .args .columns .now))) (c .before .before .args .r) _ (inr (inl (c .enum-told2 .given .1)))
 
 returns-3 : tie.Need-returns-3
-returns-3 c = λ d p l ls o i f. withheld-none d p l ls (c .before .before .args .rows .now) (c .before .before .args .columns .now) (c .before .before .args .r) (c .before .before .args .n) _ (inr (inr (c .enum-told3 .given .1)))
+returns-3 c = λ d p l ls o i f. withheld-none d p l ls (c .before .before .args .rows .now) (drop (c .before .before .args .first) (take (c .before .before .args .n) (c .before .before .args .columns .now))) (c .before .before .args .r) _ (inr (inr (c .enum-told3 .given .1)))
 
 returns-4 : tie.Need-returns-4
-returns-4 c = λ d p l ls o i f. withheld-row d p l ls (c .before .before .before .args .rows .now) (c .before .before .before .args .columns .now) (c .before .before .before .args .r) (c .before .before .before .args .n) _ (c .before .enum-told4 .given .1) (c .cell-open .result) (c .cell-open .ensures d p o i f)
+returns-4 c = λ d p l ls o i f. withheld-row d p l ls (c .before .before .before .args .rows .now) (drop (c .before .before .before .args .first) (take (c .before .before .before .args .n) (c .before .before .before .args .columns .now))) (c .before .before .before .args .r) _ (c .before .enum-told4 .given .1) (c .cell-open .result) (c .cell-open .ensures d p o i f)
 
 returns-5 : tie.Need-returns-5
-returns-5 c = λ d p l ls o i f. withheld-cell d p l ls (c .before .before .before .before .args .rows .now) (c .before .before .before .before .args .columns .now) (c .before .before .before .before .args .r) (c .before .before .before .before .args .n) _ (c .before .before .enum-told5 .given .1) (c .any-closed .result) (c .any-closed .ensures d p o i f)
+returns-5 c = λ d p l ls o i f. withheld-cell d p l ls (c .before .before .before .before .args .rows .now) (drop (c .before .before .before .before .args .first) (take (c .before .before .before .before .args .n) (c .before .before .before .before .args .columns .now))) (c .before .before .before .before .args .r) _ (c .before .before .enum-told5 .given .1) (c .any-closed .result) (c .any-closed .ensures d p o i f)
 
 pub is-withheld-spec : {M : Type 1} → statement M
 is-withheld-spec =

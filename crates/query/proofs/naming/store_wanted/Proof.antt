@@ -1,5 +1,5 @@
 -- `query::naming::store_wanted` meets its contract. Assumes nothing.
-use Rattle.query.proofs.NamingLaws.{wanted-none, wanted-select}
+use Rattle.query.proofs.NamingLaws.{wanted-none, wanted-rows}
 use borrow.Author.Needs.{needs}
 use Rattle.query.proofs.naming.store_wanted.Statement.{statement}
 use Rattle.query.proofs.naming.store_wanted.Tie as tie
@@ -17,7 +17,7 @@ same-length : tie.Need-same-length
 same-length c = search needs
 
 returns : tie.Need-returns
-returns c = wanted-select (c .before .before .before .before .before .before .before .before .before .args .s .now) (c .before .before .before .before .before .w .given .1) (c .before .before .store-selected .ensures)
+returns c = wanted-rows (c .before .before .before .before .before .before .before .before .before .args .s .now) (c .before .before .before .before .before .w .given .1) (c .before .before .store-selected .ensures)
 
 returns-2 : tie.Need-returns-2
 returns-2 c = wanted-none (c .before .before .before .before .args .s .now) (c .before .before .before .before .args .out .now) (c .enum-told .given .1)

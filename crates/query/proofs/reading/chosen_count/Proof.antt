@@ -1,5 +1,5 @@
 -- `query::reading::chosen_count` meets its contract. Assumes nothing.
-use Rattle.query.proofs.BodiesRead.{chosen-none, chosen-select}
+use Rattle.query.proofs.BodiesRead.{chosen-none, chosen-rows}
 use borrow.Author.Needs.{needs}
 use Rattle.query.proofs.reading.chosen_count.Statement.{statement}
 use Rattle.query.proofs.reading.chosen_count.Tie as tie
@@ -11,7 +11,7 @@ enum-told : tie.Need-enum-told
 enum-told c = search needs
 
 returns : tie.Need-returns
-returns c = chosen-select (c .before .w .given .1)
+returns c = chosen-rows (c .before .w .given .1)
 
 returns-2 : tie.Need-returns-2
 returns-2 c = chosen-none (c .enum-told .given .1)

@@ -1,16 +1,16 @@
 -- `query::reading::count_body` meets its contract: the head, and perhaps a condition.
 -- Assumes nothing.
 use borrow.Author.Needs.{needs}
-use mathlib.Core.Option.{none}
 use mathlib.Core.Path.{subst}
 use Rattle.query.proofs.BodiesRead.{body-headless, count-read, count-wrong}
+use Rattle.query.specs.QueryForm.{countsOnly}
 use Rattle.query.specs.QueryPartPlaces.{ReadsHead, ReadsTest}
 use Rattle.text.specs.Reader.{give}
 use Rattle.query.proofs.reading.count_body.Statement.{statement}
 use Rattle.query.proofs.reading.count_body.Tie as tie
 
 returns : tie.Need-returns
-returns c = body-headless (c .before .before .before .before .args .s .now) (give none) (subst (ReadsHead (c .before .before .before .before .args .s .now) (c .before .before .before .before .args .at)) (c .enum-told .given .1) (c .before .before .query-head .ensures))
+returns c = body-headless (c .before .before .before .before .args .s .now) (give countsOnly) (subst (ReadsHead (c .before .before .before .before .args .s .now) (c .before .before .before .before .args .at)) (c .enum-told .given .1) (c .before .before .query-head .ensures))
 
 returns-2 : tie.Need-returns-2
 returns-2 c =

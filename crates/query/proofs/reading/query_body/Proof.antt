@@ -1,19 +1,22 @@
--- `query::reading::query_body` meets its contract: the keyword decides which of the two is read.
+-- `query::reading::query_body` meets its contract: the keyword decides which of the three is read.
 -- Assumes nothing.
 use borrow.Author.Needs.{needs}
 use mathlib.Core.Path.{_∙_, sym}
-use Rattle.query.proofs.BodiesRead.{at-count, at-neither, at-select}
+use Rattle.query.proofs.BodiesRead.{at-blank, at-count, at-none, at-select}
 use Rattle.query.proofs.reading.query_body.Statement.{statement}
 use Rattle.query.proofs.reading.query_body.Tie as tie
 
 returns : tie.Need-returns
-returns c = at-select (c .before .before .before .before .before .before .args .s .now) (c .before .before .before .before .before .before .args .at) (c .before .before .before .before .word-end .ensures) (sym (c .before .before .is-word .ensures) ∙ c .before .if1 .taken) (c .select-body .ensures)
+returns c = at-select (c .before .before .before .before .before .before .args .s .now) (c .before .before .before .before .before .before .args .at) (c .before .before .before .before .word-end .ensures) (sym (c .before .before .is-word .ensures) ∙ c .before .if1 .taken) (c .rows-body .ensures)
 
 returns-2 : tie.Need-returns-2
 returns-2 c = at-count (c .before .before .before .before .before .before .before .before .before .args .s .now) (c .before .before .before .before .before .before .before .before .before .args .at) (c .before .before .before .before .before .before .before .word-end .ensures) (sym (c .before .before .before .before .before .is-word .ensures) ∙ c .before .before .before .before .if1 .left) (sym (c .before .before .is-word2 .ensures) ∙ c .before .if2 .taken) (c .count-body .ensures)
 
 returns-3 : tie.Need-returns-3
-returns-3 c = at-neither (c .before .before .before .before .before .before .before .before .args .s .now) (c .before .before .before .before .before .before .before .before .args .at) (c .before .before .before .before .before .before .word-end .ensures) (sym (c .before .before .before .before .is-word .ensures) ∙ c .before .before .before .if1 .left) (sym (c .before .is-word2 .ensures) ∙ c .if2 .left)
+returns-3 c = at-blank (c .before .before .before .before .before .before .before .before .before .before .before .before .args .s .now) (c .before .before .before .before .before .before .before .before .before .before .before .before .args .at) (c .before .before .before .before .before .before .before .before .before .before .word-end .ensures) (sym (c .before .before .before .before .before .before .before .before .is-word .ensures) ∙ c .before .before .before .before .before .before .before .if1 .left) (sym (c .before .before .before .before .before .is-word2 .ensures) ∙ c .before .before .before .before .if2 .left) (sym (c .before .before .is-word3 .ensures) ∙ c .before .if3 .taken) (c .rows-body2 .ensures)
+
+returns-4 : tie.Need-returns-4
+returns-4 c = at-none (c .before .before .before .before .before .before .before .before .before .before .before .args .s .now) (c .before .before .before .before .before .before .before .before .before .before .before .args .at) (c .before .before .before .before .before .before .before .before .before .word-end .ensures) (sym (c .before .before .before .before .before .before .before .is-word .ensures) ∙ c .before .before .before .before .before .before .if1 .left) (sym (c .before .before .before .before .is-word2 .ensures) ∙ c .before .before .before .if2 .left) (sym (c .before .is-word3 .ensures) ∙ c .if3 .left)
 
 word-end-requires : tie.Need-word-end-requires
 word-end-requires c κs = search needs
@@ -24,8 +27,8 @@ slice-aggregate-is-word c = search needs
 is-word-requires : tie.Need-is-word-requires
 is-word-requires c κs = search needs
 
-select-body-requires : tie.Need-select-body-requires
-select-body-requires c κs = search needs
+rows-body-requires : tie.Need-rows-body-requires
+rows-body-requires c κs = search needs
 
 slice-aggregate-is-word-2 : tie.Need-slice-aggregate-is-word-2
 slice-aggregate-is-word-2 c = search needs
@@ -36,6 +39,15 @@ is-word-requires-2 c κs = search needs
 count-body-requires : tie.Need-count-body-requires
 count-body-requires c κs = search needs
 
+slice-aggregate-is-word-3 : tie.Need-slice-aggregate-is-word-3
+slice-aggregate-is-word-3 c = search needs
+
+is-word-requires-3 : tie.Need-is-word-requires-3
+is-word-requires-3 c κs = search needs
+
+rows-body-requires-2 : tie.Need-rows-body-requires-2
+rows-body-requires-2 c κs = search needs
+
 pub query-body-spec : {M : Type 1} → statement M
 query-body-spec =
     tie.close
@@ -43,10 +55,14 @@ query-body-spec =
     word-end-requires
     slice-aggregate-is-word
     is-word-requires
-    select-body-requires
+    rows-body-requires
     returns
     slice-aggregate-is-word-2
     is-word-requires-2
     count-body-requires
     returns-2
-    returns-3)
+    slice-aggregate-is-word-3
+    is-word-requires-3
+    rows-body-requires-2
+    returns-3
+    returns-4)

@@ -3,7 +3,7 @@
 use Rattle.document.specs.Lookup.{tableOf}
 use Rattle.query.specs.QueryPlaces.{formAt}
 use Rattle.stages.proofs.Chain.{gives-refused, gives-same, known-passes, known-refused, nothing-found, open-passes, open-refused, table-refused, typed-passes, typed-refused}
-use Rattle.stages.proofs.Preparing.{comparable, parts-judged, prepared, resolves-known, resolves-unknown, table-found, table-unknown, types-judged}
+use Rattle.stages.proofs.Preparing.{comparable, parts-judged, parts-known, prepared, resolves-known, resolves-unknown, table-found, table-unknown, types-judged}
 use borrow.Author.Needs.{needs}
 use mathlib.Core.Path.{_∙_}
 use Rattle.stages.proofs.granted.ask_granted.Statement.{statement}
@@ -124,7 +124,7 @@ returns-5 c d held =
     let types = types-judged (a .q) (held .query) table columns (placed .tests) (c .before .before .before .before .before .before .before .before .before .before .before .before .before .mistyped-test .result) (c .before .before .before .before .before .before .before .before .before .before .before .before .before .before .before .before .before .before .before .sought-in .ensures) read (c .before .before .before .before .before .before .before .before .before .before .before .before .before .mistyped-test .ensures (a .query .now)) in
     let closed = parts-judged (a .q) table placed resolves (c .before .before .before .before .before .before .before .before .before .before .before .before .before .before .before .before .before .before .before .before .enum-told2 .given .1) (c .before .before .before .before .before .before .before .before .closed-part .result) (held .opened) (c .before .before .before .before .before .before .before .before .closed-part .ensures (d .policy) (a .text .now) _ _ (held .tables) (held .notes) (table .inside)) in
     gives-same (known-passes d _ _ (a .query .now) (c .before .before .before .before .before .before .before .before .before .before .before .before .before .before .before .before .before .before .before .before .enum-told2 .given .1) (resolves-unknown (a .q) table placed resolves) ∙ typed-passes d _ _ (a .query .now) (c .before .before .before .before .before .before .before .before .before .before .before .enum-told3 .given .1) types ∙ open-passes d _ _ (a .query .now) (c .before .before .before .before .before .before .enum-told4 .given .1) closed)
-    (c .before .before .ask-rows .ensures d (formAt (a .query .now) (a .q)) (prepared (a .q) held table columns (placed .tests) (c .before .before .before .before .before .before .before .before .before .before .before .before .before .before .before .before .before .before .before .sought-in .ensures) read))
+    (c .before .before .ask-rows .ensures d (formAt (a .query .now) (a .q)) (prepared (a .q) held table columns (placed .tests) (parts-known (a .query .now) (a .q) (c .before .before .before .before .before .before .before .before .before .before .before .before .before .before .before .before .before .before .before .before .enum-told2 .given .1) (resolves-unknown (a .q) table placed resolves) (c .before .before .before .before .before .before .enum-told4 .given .1) closed) (c .before .before .before .before .before .before .before .before .before .before .before .before .before .before .before .before .before .before .before .sought-in .ensures) read))
 
 pub ask-granted-spec : {M : Type 1} → statement M
 ask-granted-spec =
