@@ -29,8 +29,10 @@ pub struct Request<'q, 'p> {
     pub table: usize,
     /// The selected columns; none for a count.
     pub selected: Option<Vec<usize>>,
-    /// The named columns, selected or in the condition.
-    pub named: Vec<usize>,
+    /// The columns whose closed cells withhold a row.
+    pub withholding: Vec<usize>,
+    /// 02, Q-10: whether a closed cell that is selected is written `-`.
+    pub blanks: bool,
     pub condition: Option<&'q Condition<'p>>,
 }
 
@@ -69,15 +71,16 @@ fn fate<'p>(policy: &Policy<'p>, request: &Request<'_, 'p>, row: &Row<'p>) -> Fa
 
 /// 01: "Scheme row withholds a row whose label is closed ..  Scheme cell withholds a row with a closed named cell."
 fn withheld(policy: &Policy, request: &Request, labelling: Labelling, row: &Row) -> bool {
-    let closed = |label: Option<usize>| match label {
-        Some(label) => !label_open(policy, label, request.purpose),
-        None => false,
-    };
     match labelling {
         Labelling::None | Labelling::Table(_) | Labelling::Column => false,
-        Labelling::Row => closed(row.label),
-        Labelling::Cell => request.named.iter().any(|&column| closed(row.cells[column].label)),
+        Labelling::Row => closed(policy, request, row.label),
+        Labelling::Cell => request.withholding.iter().any(|&column| closed(policy, request, row.cells[column].label)),
     }
+}
+
+/// Whether a row's or a cell's own label is closed to the request's purpose; where there is none it isn't.
+fn closed(policy: &Policy, request: &Request, label: Option<usize>) -> bool {
+    label.is_some_and(|label| !label_open(policy, label, request.purpose))
 }
 
 /// The value of a row in the column of a name.
@@ -96,7 +99,8 @@ pub fn write<'p>(policy: &Policy<'p>, request: &Request<'_, 'p>) -> Written {
             Fate::Passed => {
                 written.passed += 1;
                 if let Some(selected) = &request.selected {
-                    write_row(&mut written.text, row, selected);
+                    let blank = |column: usize| request.blanks && closed(policy, request, row.cells[column].label);
+                    write_row(&mut written.text, row, selected, &blank);
                 }
             }
         }
@@ -118,7 +122,7 @@ fn whole(policy: &Policy, table: usize) -> Vec<u8> {
     let rows: Vec<&Row> = policy.rows.iter().filter(|row| row.table == table).collect();
     let mut text = Vec::new();
     for row in &rows {
-        write_row(&mut text, row, &columns);
+        write_row(&mut text, row, &columns, &|_| false);
     }
     write_end(&mut text, rows.len(), 0, 0);
     text
@@ -129,11 +133,15 @@ fn write_end(text: &mut Vec<u8>, passed: usize, withheld: usize, unmatched: usiz
     text.extend_from_slice(format!("(end {passed} {withheld} {unmatched})\n").as_bytes());
 }
 
-/// `(row v ..)` with the selected values, and a line feed.
-fn write_row(text: &mut Vec<u8>, row: &Row, selected: &[usize]) {
+/// `(row v ..)` with the selected values, and a line feed. 02, Q-10: "A closed cell that is only selected is written `-`".
+fn write_row(text: &mut Vec<u8>, row: &Row, selected: &[usize], blank: &dyn Fn(usize) -> bool) {
     text.extend_from_slice(b"(row");
     for &column in selected {
         text.push(b' ');
+        if blank(column) {
+            text.push(b'-');
+            continue;
+        }
         match row.cells[column].value {
             Value::Name(name) => text.extend_from_slice(name.written()),
             Value::Number(number) => text.extend_from_slice(number.to_string().as_bytes()),

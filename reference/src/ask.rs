@@ -5,7 +5,7 @@ use crate::check::read_document;
 use crate::clock::Clock;
 use crate::forms::Word;
 use crate::policy::{Labelling, Policy, User};
-use crate::query::{read_query, Query};
+use crate::query::{read_query, Query, Verb};
 use crate::refusal::{leftmost, of_query, Refusal};
 use crate::text::{Name, Span};
 
@@ -40,7 +40,7 @@ fn answered(doc: &[u8], query: &[u8], clock: Clock) -> Result<(Written, usize), 
         return Err(of_query(10, at_start));
     }
 
-    // "11 query not one form of the two shapes, or over a bound".
+    // "11 query not one form of the two shapes, or over a bound"; 02, Q-3: "in later query forms 11 admits the form".
     let Some(parsed) = read_query(query) else { return Err(of_query(11, whole_query)) };
 
     // "12 user, role or purpose unknown", the leftmost of them.
@@ -85,7 +85,8 @@ fn answered(doc: &[u8], query: &[u8], clock: Clock) -> Result<(Written, usize), 
         purpose,
         table,
         selected: parsed.columns.as_ref().map(|columns| places(columns)),
-        named: places(&named),
+        withholding: places(&parsed.withholding_columns()),
+        blanks: parsed.verb == Verb::Blank,
         condition: parsed.condition.as_ref(),
     };
     Ok((write(&policy, &request), grant))

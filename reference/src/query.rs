@@ -1,4 +1,4 @@
-//! 01, "Queries": a query text as one of the two shapes.
+//! 01, "Queries": a query text as one of the two shapes, or as the blank of 02, Q-10.
 
 use crate::condition::{read_condition, Condition};
 use crate::forms::{bracket, word, Word};
@@ -8,9 +8,19 @@ use crate::text::{read_form, Item, Kind};
 /// 01: "query 4,096" bytes.
 pub const LONGEST_QUERY: usize = 4_096;
 
-/// A query; `columns` is there for a select and not for a count.
+/// What a query asks for: its first word.
+#[derive(Clone, Copy, Debug, PartialEq, Eq)]
+pub enum Verb {
+    Select,
+    Count,
+    /// 02, Q-10.
+    Blank,
+}
+
+/// A query; `columns` is there unless it is a count.
 #[derive(Debug)]
 pub struct Query<'a> {
+    pub verb: Verb,
     pub user: Word<'a>,
     pub role: Word<'a>,
     pub purpose: Word<'a>,
@@ -19,7 +29,7 @@ pub struct Query<'a> {
     pub condition: Option<Condition<'a>>,
 }
 
-/// 01, 11: "query not one form of the two shapes, or over a bound" gives none.
+/// 01, 11: "query not one form of the two shapes, or over a bound" gives none; a shape of 02, Q-10 is one more.
 pub fn read_query(text: &[u8]) -> Option<Query<'_>> {
     if text.len() > LONGEST_QUERY {
         return None;
@@ -27,13 +37,18 @@ pub fn read_query(text: &[u8]) -> Option<Query<'_>> {
     let items = read_form(text, 0)?;
     let [head, user, role, purpose, table, rest @ ..] = &items[..] else { return None };
     let Kind::Name(keyword) = head.kind else { return None };
-    let (columns, rest) = match &keyword.small()[..] {
-        b"select" => {
+    let verb = match &keyword.small()[..] {
+        b"select" => Verb::Select,
+        b"count" => Verb::Count,
+        b"blank" => Verb::Blank,
+        _ => return None,
+    };
+    let (columns, rest) = match verb {
+        Verb::Select | Verb::Blank => {
             let (columns, rest) = rest.split_first()?;
             (Some(selected(columns)?), rest)
         }
-        b"count" => (None, rest),
-        _ => return None,
+        Verb::Count => (None, rest),
     };
     let condition = match rest {
         [] => None,
@@ -43,7 +58,7 @@ pub fn read_query(text: &[u8]) -> Option<Query<'_>> {
     if condition.as_ref().is_some_and(|c| c.over_bound()) {
         return None;
     }
-    Some(Query { user: word(user)?, role: word(role)?, purpose: word(purpose)?, table: word(table)?, columns, condition })
+    Some(Query { verb, user: word(user)?, role: word(role)?, purpose: word(purpose)?, table: word(table)?, columns, condition })
 }
 
 /// 01: "1 to 16 columns, repeats allowed".
@@ -59,9 +74,23 @@ impl<'a> Query<'a> {
     /// 01: "Named columns are those selected and every one in the condition, evaluated or not."
     pub fn named_columns(&self) -> Vec<Word<'a>> {
         let mut named = self.columns.clone().unwrap_or_default();
-        if let Some(condition) = &self.condition {
-            named.extend(condition.comparisons().iter().map(|comparison| comparison.subject));
-        }
+        named.extend(self.condition_columns());
         named
+    }
+
+    /// The columns in the condition, evaluated or not.
+    fn condition_columns(&self) -> Vec<Word<'a>> {
+        match &self.condition {
+            Some(condition) => condition.comparisons().iter().map(|comparison| comparison.subject).collect(),
+            None => Vec::new(),
+        }
+    }
+
+    /// The columns whose closed cells withhold a row: 01, "a closed named cell"; 02, Q-10, "a closed cell named in the condition".
+    pub fn withholding_columns(&self) -> Vec<Word<'a>> {
+        match self.verb {
+            Verb::Select | Verb::Count => self.named_columns(),
+            Verb::Blank => self.condition_columns(),
+        }
     }
 }

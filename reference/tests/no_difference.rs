@@ -55,6 +55,12 @@ fn exempt_cells_make_no_difference() {
         ("(row e (9 open) (z shut))", "(row e (9 open) (Z shut))", &["(select u r leaf e (b))", "(select u r leaf e (a))", "(count u r side E (ne B z))"][..]),
         // 02, Q-2: an undeclared table, its columns named, in whatever way: 17, 16 and 15 alike.
         ("(row m 1 x)", "(row m 11 Xx)", &["(select u r leaf m (a b))", "(select u r root m (a) (eq b x))", "(count u r side m)", "(count u r leaf m (gt a 5))", "(count u r leaf m (eq a x))", "(count u r leaf m (eq d 1))"][..]),
+        // 02, Q-10: a closed cell that is only selected, in a row that is passed; and a row withheld for one in the condition.
+        ("(row e (8 nomid) (y open))", "(row e (-9223372036854775808 nomid) (y open))", &["(blank u r leaf e (a b))", "(blank u r mid e (a) (eq b y))", "(blank u r leaf e (b) (gt a 8))", "(blank u r leaf e (a b) (eq a 8))"][..]),
+        ("(row e (9 open) (z shut))", "(row e (9 open) (Longer shut))", &["(blank u r leaf e (b a))", "(blank u r side e (b b) (ge a 9))"][..]),
+        ("(row e (9 open) (z shut))", "(row e (-9 open) (z shut))", &["(blank u r leaf e (a) (eq b z))", "(blank u r leaf e (b))"][..]),
+        ("(row r nomid 6)", "(row r nomid -7)", &["(blank u r leaf r (a))", "(blank u r leaf r (a) (lt a 0))"][..]),
+        ("(row c 3 4)", "(row c 3 44)", &["(blank u r leaf c (a b))", "(blank u r leaf c (a))"][..]),
         // Texts that are no query, and purposes unknown.
         ("(row n 1 x)", "(row n 10 y)", &["(select", "", "(count u r nosuch n)"][..]),
     ] {
@@ -77,6 +83,11 @@ fn open_cells_do_make_a_difference() {
     for purpose in ["root", "mid", "leaf", "side"] {
         let query = format!("(select u r {purpose} n (b))");
         assert_ne!(outcome(&doc, &query), outcome(&changed, &query), "{purpose}");
+    }
+    // 02, Q-10: an open cell beside a blank, and an open one of the condition.
+    let changed = doc.replace("(row e (9 open) (z shut))", "(row e (10 open) (z shut))");
+    for query in ["(blank u r leaf e (a b))", "(blank u r leaf e (b) (eq a 9))"] {
+        assert_ne!(outcome(&doc, query), outcome(&changed, query), "{query}");
     }
     // 02, Q-8: another case of an open value "may be printed".
     let changed = doc.replace("(row e (8 nomid) (y open))", "(row e (8 nomid) (Y open))");
