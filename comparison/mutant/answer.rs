@@ -1,4 +1,4 @@
-//! A copy of the reference's `answer`, with blunders 1, 3, 6, 7, 8, 30, 31, 36 and 41 to 43.
+//! A copy of the reference's `answer`, with blunders 1, 3, 6, 7, 8, 30, 31, 36, 41 to 43 and 45 to 48.
 
 use std::cell::RefCell;
 
@@ -32,8 +32,10 @@ pub struct Request<'q, 'p> {
     pub table: usize,
     /// The selected columns; none for a count.
     pub selected: Option<Vec<usize>>,
-    /// The named columns, selected or in the condition.
-    pub named: Vec<usize>,
+    /// The columns whose closed cells withhold a row.
+    pub withholding: Vec<usize>,
+    /// 02, Q-10: whether a closed cell that is selected is written `-`.
+    pub blanks: bool,
     pub condition: Option<&'q Condition<'p>>,
 }
 
@@ -87,16 +89,19 @@ fn fate<'p>(policy: &Policy<'p>, request: &Request<'_, 'p>, row: &Row<'p>) -> Fa
 
 /// 01: "Scheme row withholds a row whose label is closed ..  Scheme cell withholds a row with a closed named cell."
 fn withheld(policy: &Policy, request: &Request, labelling: Labelling, row: &Row) -> bool {
-    let closed = |label: Option<usize>| match label {
-        Some(label) => !label_open(policy, label, request.purpose),
-        None => false,
-    };
+    let unnamed = request.selected.is_none() && request.condition.is_none();
     match labelling {
         Labelling::None | Labelling::Table(_) | Labelling::Column => false,
-        Labelling::Row if on(7) => !request.named.is_empty() && closed(row.label),
-        Labelling::Row => closed(row.label),
-        Labelling::Cell => request.named.iter().any(|&column| closed(row.cells[column].label)),
+        Labelling::Row if on(7) => !unnamed && closed(policy, request, row.label),
+        Labelling::Row if on(47) && request.blanks => false,
+        Labelling::Row => closed(policy, request, row.label),
+        Labelling::Cell => request.withholding.iter().any(|&column| closed(policy, request, row.cells[column].label)),
     }
+}
+
+/// Whether a row's or a cell's own label is closed to the request's purpose; where there is none it isn't.
+fn closed(policy: &Policy, request: &Request, label: Option<usize>) -> bool {
+    label.is_some_and(|label| !label_open(policy, label, request.purpose))
 }
 
 /// Blunder 31: `eq` and `ne` tell cases apart.
@@ -114,7 +119,8 @@ fn holds_by_bytes<'p>(condition: &Condition<'p>, value_of: &dyn Fn(Name) -> Opti
 
 /// Blunder 6: only the selected cells and those that the condition reads.
 fn reached_closed<'p>(policy: &Policy<'p>, request: &Request<'_, 'p>, table: &Table, row: &Row<'p>) -> bool {
-    let reached = RefCell::new(request.selected.clone().unwrap_or_default());
+    let selected = if request.blanks { Vec::new() } else { request.selected.clone().unwrap_or_default() };
+    let reached = RefCell::new(selected);
     if let Some(condition) = request.condition {
         condition.holds(&|name| {
             reached.borrow_mut().extend(table.columns.iter().position(|column| column.name == name));
@@ -141,7 +147,8 @@ pub fn write<'p>(policy: &Policy<'p>, request: &Request<'_, 'p>) -> Written {
             Fate::Passed => {
                 written.passed += 1;
                 if let Some(selected) = &request.selected {
-                    write_row(&mut written.text, row, selected);
+                    let blank = |column: usize| request.blanks && closed(policy, request, row.cells[column].label);
+                    write_row(&mut written.text, row, selected, &blank);
                 }
             }
         }
@@ -165,7 +172,7 @@ fn whole(policy: &Policy, table: usize) -> Vec<u8> {
     let rows: Vec<&Row> = policy.rows.iter().filter(|row| row.table == table).collect();
     let mut text = Vec::new();
     for row in &rows {
-        write_row(&mut text, row, &columns);
+        write_row(&mut text, row, &columns, &|_| false);
         if let (true, Some(label)) = (on(43), row.label) {
             text.push(b' ');
             text.extend_from_slice(policy.label_names[label].written());
@@ -182,11 +189,17 @@ fn write_end(text: &mut Vec<u8>, passed: usize, withheld: usize, unmatched: usiz
     text.extend_from_slice(format!("(end {passed} {withheld} {unmatched})\n").as_bytes());
 }
 
-/// `(row v ..)` with the selected values, and a line feed.
-fn write_row(text: &mut Vec<u8>, row: &Row, selected: &[usize]) {
+/// `(row v ..)` with the selected values, and a line feed. 02, Q-10: "A closed cell that is only selected is written `-`".
+fn write_row(text: &mut Vec<u8>, row: &Row, selected: &[usize], blank: &dyn Fn(usize) -> bool) {
     text.extend_from_slice(b"(row");
-    for &column in selected {
+    for (place, &column) in selected.iter().enumerate() {
         text.push(b' ');
+        let again = on(48) && selected[..place].contains(&column);
+        if blank(column) && !on(45) && !again {
+            let length = if on(46) { written_length(row, column) } else { 1 };
+            text.extend(std::iter::repeat_n(b'-', length));
+            continue;
+        }
         match row.cells[column].value {
             Value::Name(name) if on(30) => text.extend_from_slice(&name.small()),
             Value::Name(name) => text.extend_from_slice(name.written()),
@@ -194,4 +207,12 @@ fn write_row(text: &mut Vec<u8>, row: &Row, selected: &[usize]) {
         }
     }
     text.extend_from_slice(b")\n");
+}
+
+/// Blunder 46: as many `-` as the value has bytes.
+fn written_length(row: &Row, column: usize) -> usize {
+    match row.cells[column].value {
+        Value::Name(name) => name.written().len(),
+        Value::Number(number) => number.to_string().len(),
+    }
 }

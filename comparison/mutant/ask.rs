@@ -1,4 +1,4 @@
-//! A copy of the reference's `ask`, with blunders 2, 4, 5, 8, 9, 10, 16, 29, 33 to 36 and 40.
+//! A copy of the reference's `ask`, with blunders 2, 4, 5, 8, 9, 10, 16, 29, 33 to 36, 40, 44 and 49 to 51.
 
 use crate::answer::{label_open, write, Answer, Request};
 use crate::check::read_document;
@@ -6,7 +6,7 @@ use crate::clock::Clock;
 use crate::forms::Word;
 use crate::on;
 use crate::policy::{Grant, Labelling, Policy, User};
-use crate::query::{read_query, Query};
+use crate::query::{read_query, Query, Verb};
 use crate::refusal::{leftmost, of_query, Refusal};
 use crate::text::{Name, Span};
 
@@ -23,9 +23,10 @@ pub fn ask(doc: &[u8], query: &[u8], clock: Clock, out: &mut [u8]) -> Result<Ans
         return Err(of_query(10, at_start));
     }
 
-    // "11 query not one form of the two shapes, or over a bound".
+    // "11 query not one form of the two shapes, or over a bound"; 02, Q-3: "in later query forms 11 admits the form".
     let Some(parsed) = read_query(query) else { return Err(of_query(11, whole_query)) };
-    if on(33) && !query.starts_with(b"(select ") && !query.starts_with(b"(count ") {
+    let known: [&[u8]; 3] = [b"(select ", b"(count ", b"(blank "];
+    if on(33) && !known.iter().any(|word| query.starts_with(word)) {
         return Err(of_query(11, whole_query));
     }
 
@@ -69,9 +70,20 @@ pub fn ask(doc: &[u8], query: &[u8], clock: Clock, out: &mut [u8]) -> Result<Ans
         }
     }
 
-    let named = if on(2) { parsed.columns.clone().unwrap_or_default() } else { named };
+    let blanks = parsed.verb == Verb::Blank;
+    let selected = || parsed.columns.clone().unwrap_or_default();
+    let withholding = match parsed.verb {
+        Verb::Blank if on(2) => Vec::new(),
+        _ if on(2) => selected(),
+        Verb::Blank if on(44) => named.clone(),
+        Verb::Blank if on(49) => selected(),
+        Verb::Blank if on(50) => unselected(&parsed),
+        _ => parsed.withholding_columns(),
+    };
+    let named = if on(2) { selected() } else { named };
+    let named = if on(51) && blanks { withholding.clone() } else { named };
     let by_bytes = |word: &Word| policy.tables[table].columns.iter().any(|column| column.name.written() == word.text.written());
-    let named = if on(34) { named.into_iter().filter(by_bytes).collect() } else { named };
+    let [named, withholding] = [named, withholding].map(|words| if on(34) { words.into_iter().filter(by_bytes).collect() } else { words });
 
     // "17 table or column closed".
     if let Some(part) = leftmost(&closed_parts(&policy, &parsed, table, &named, purpose)) {
@@ -84,7 +96,8 @@ pub fn ask(doc: &[u8], query: &[u8], clock: Clock, out: &mut [u8]) -> Result<Ans
         purpose,
         table,
         selected: parsed.columns.as_ref().map(|columns| places(columns)),
-        named: places(&named),
+        withholding: places(&withholding),
+        blanks,
         condition: parsed.condition.as_ref(),
     };
     let written = write(&policy, &request);
@@ -124,6 +137,13 @@ fn belongs(policy: &Policy, user: &User, cond_role: usize, clock: Clock) -> bool
             Some(value) => Some(value),
             None => user.values.iter().find(|(attribute, _)| *attribute == name).map(|(_, value)| *value),
         })
+}
+
+/// Blunder 50: the condition's columns that aren't selected too.
+fn unselected<'a>(query: &Query<'a>) -> Vec<Word<'a>> {
+    let selected = query.columns.clone().unwrap_or_default();
+    let only = |word: &Word| !selected.iter().any(|column| column.text == word.text);
+    query.withholding_columns().into_iter().filter(only).collect()
 }
 
 /// The place of a column of a table.

@@ -35,7 +35,7 @@ pub use import::{import, measure_import};
 pub use refusal::{Refusal, Source};
 
 /// What each mutant does wrong, counted from 1.
-pub const BLUNDERS: [&str; 43] = [
+pub const BLUNDERS: [&str; 51] = [
     "a denied purpose closes downwards only",
     "labels tested for selected columns only",
     "withheld counted only where the condition holds",
@@ -79,6 +79,14 @@ pub const BLUNDERS: [&str; 43] = [
     "the reserve without the end line",
     "the reserve of the last table, not of the longest answer",
     "a row's label counted in the reserve",
+    "a blank withheld for a closed cell that is only selected",
+    "a closed cell printed by a blank",
+    "a blank as long as its value",
+    "scheme row withholds nothing from a blank",
+    "a closed cell selected again printed by a blank",
+    "a blank withheld for its selected cells, not for those of its condition",
+    "a cell in a blank's condition that is selected too doesn't withhold",
+    "a closed column that a blank only selects not refused",
 ];
 
 /// These blunders are of importing.

@@ -2,13 +2,13 @@
 
 use crate::documents::{condition, Builder};
 use crate::model::*;
-use crate::pairs::may_differ;
-use crate::queries::{self, Query};
+use crate::pairs::{blanked, may_differ};
+use crate::queries::{self, Query, Verb};
 use crate::random::Random;
 use crate::recase::{self, listed, same};
 
 /// What a cell may be to a query. A run has to see each of them, most as the one reason for which the cell may differ.
-const SITUATIONS: [&str; 27] = [
+const SITUATIONS: [&str; 31] = [
     "no query",
     "unknown purpose, public table",
     "unknown purpose, undeclared table",
@@ -36,6 +36,10 @@ const SITUATIONS: [&str; 27] = [
     "closed by a label in spite of a public line",
     "bound, in other cases",
     "closed or withheld, in other cases",
+    "closed, written as a blank",
+    "closed, selected and in a blank's condition",
+    "open, in a row withheld for a cell of a blank's condition",
+    "bound, beside a blank",
 ];
 
 /// Two to five purposes, one to three tables with two to six rows, and what these need; at times a user with a grant.
@@ -54,7 +58,7 @@ fn small(random: &mut Random) -> Model {
     }
     for _ in 0..builder.random.between(1, 3) {
         let label = builder.random.below(builder.model.labels.len());
-        let scheme = *builder.random.pick(&[Scheme::None, Scheme::None, Scheme::Table(label), Scheme::Column, Scheme::Row, Scheme::Cell]);
+        let scheme = *builder.random.pick(&[Scheme::None, Scheme::None, Scheme::Table(label), Scheme::Column, Scheme::Row, Scheme::Cell, Scheme::Cell]);
         let columns = builder.random.between(1, 3);
         builder.table_of(scheme, columns);
     }
@@ -78,6 +82,7 @@ fn query(random: &mut Random, model: &Model) -> Query {
     let table = &model.tables[table];
     let subjects: Vec<(String, Type)> = table.columns.iter().map(|column| (column.name.clone(), column.kind)).collect();
     let mut query = Query {
+        verb: *random.pick(&[Verb::Select, Verb::Blank]),
         user: "ana".to_string(),
         role: "desk".to_string(),
         purpose: random.pick(&model.purposes).name.clone(),
@@ -174,12 +179,17 @@ fn reason(model: &Model, query: &Query, row: &Row, column: usize, purpose: usize
     let table = &model.tables[row.table];
     let in_table = same(&table.name, &query.table);
     let open = model.cell_open(row, column, purpose);
-    let withheld = model.row_withheld(row, &query.named(), purpose);
+    let withheld = model.row_withheld(row, &query.withholding(), purpose);
+    let condition = query.is_blank() && listed(&query.withholding(), &table.columns[column].name);
+    let selected = query.columns.iter().flatten().any(|name| same(name, &table.columns[column].name));
     Some(match (in_table, is_named(model, query, row, column), open, withheld) {
         (true, true, true, false) => return None,
+        (true, true, true, true) if query.is_blank() => "open, in a row withheld for a cell of a blank's condition",
         (true, true, true, true) => "open, in a row withheld for another cell",
         (true, true, false, _) => match table.scheme {
             Scheme::None => "closed, undeclared table",
+            Scheme::Cell if blanked(model, Some(query), row, column) => "closed, written as a blank",
+            Scheme::Cell if condition && selected => "closed, selected and in a blank's condition",
             _ if table.public => "closed by a label in spite of a public line",
             Scheme::Table(_) => "closed by the table's label",
             Scheme::Column => "closed by the column's label",
@@ -207,6 +217,9 @@ fn bound(model: &Model, query: &Query, row: &Row, column: usize) -> Vec<&'static
     }
     if names_unknown(query, table) {
         seen.push("bound, another column being unknown");
+    }
+    if (0..row.cells.len()).any(|other| blanked(model, Some(query), row, other)) {
+        seen.push("bound, beside a blank");
     }
     seen
 }

@@ -139,6 +139,11 @@ impl Buffers {
         Ok(ours)
     }
 
+    /// The first bytes that the gate left in its buffer.
+    pub fn given(&self, length: usize) -> &[u8] {
+        &self.one[FENCE..FENCE + length]
+    }
+
     /// 01, "The no-difference claim": one question to two documents; the outcome, and whether they are equal.
     pub fn ask_pair(&mut self, subject: Subject, doc: &[u8], alike: &[u8], question: &Question) -> Result<(Asked, bool), Difference> {
         let Question { query, clock, buffer } = question;
@@ -204,11 +209,11 @@ pub fn check(second: Second, doc: &[u8]) -> Result<Checked, Difference> {
     Ok(ours)
 }
 
-/// Whether an answered query is a select whose column bracket repeats no column.
+/// Whether an answered query is a select or a blank (02, Q-10) whose column bracket repeats no column.
 pub fn repeats_no_column(query: &[u8]) -> bool {
     // 02, Q-8: without case, so that `who` and `Who` are one column.
     let text = String::from_utf8_lossy(query).to_ascii_lowercase();
-    let Some(rest) = text.strip_prefix("(select ") else { return false };
+    let Some(rest) = ["(select ", "(blank "].iter().find_map(|word| text.strip_prefix(word)) else { return false };
     let Some((_, columns)) = rest.split_once('(') else { return false };
     let Some((columns, _)) = columns.split_once(')') else { return false };
     let columns: Vec<&str> = columns.split(' ').collect();

@@ -6,9 +6,9 @@ use crate::recase::{self, listed, same};
 
 /// Names for every kind: few, so that kinds share them; keywords, some in several cases, and names that differ in length or last
 /// byte alone.
-const NAMES: [&str; 34] = [
+const NAMES: [&str; 35] = [
     "all", "bill", "ads", "post", "care", "desk", "boss", "a", "b", "C", "x-1", "y_2", "row", "table", "cell", "none", "num",
-    "name", "allow", "deny", "select", "count", "eq", "and", "not", "purpose", "public", "Ads", "aDs", "abcdefgh", "abcdefghi",
+    "name", "allow", "deny", "select", "count", "eq", "and", "not", "purpose", "public", "blank", "Ads", "aDs", "abcdefgh", "abcdefghi",
     "abcdefghijklmnop", "abcdefghijklmnopqrstuvwx", "abcdefghijklmnopqrstuvwy",
 ];
 const USERS: [&str; 8] = ["ana", "bob", "eve", "row", "user", "A", "an", "abcdefghijklmnopqrstuvwx"];

@@ -131,6 +131,10 @@ fn compare_all(options: &Options) -> ExitCode {
         println!("FAILED: too few pairs over tables without labels");
         return ExitCode::FAILURE;
     }
+    if options.texts > 0 && options.pairs > 0 && [tally.dashes, pairs.blanked, pairs.told_apart_blank].contains(&0) {
+        println!("FAILED: too few blanks");
+        return ExitCode::FAILURE;
+    }
     println!("no difference");
     ExitCode::SUCCESS
 }
@@ -148,6 +152,7 @@ fn summary(options: &Options, tally: &Tally, pairs: &PairTally) {
     let recased = &tally.recased;
     println!("recased:           {} texts, accepted {}; {} queries, answered {}; {} pairs alike", recased.texts, recased.accepted, recased.queries, recased.answered, pairs.recased);
     println!("in case alone:     {} pairs alike; {} not alike, told apart {}", pairs.case_alone, pairs.unlike_case, pairs.told_apart_case);
+    println!("blanks:            {} answered, {} with a blanked value; {} pairs alike that differ in one; {} pairs not alike told apart", tally.blanks, tally.dashes, pairs.blanked, pairs.told_apart_blank);
     println!("without labels:    {} pairs alike that differ in an undeclared table; {} told apart in a public one", pairs.undeclared, pairs.told_apart_public);
 }
 

@@ -333,13 +333,14 @@ impl Model {
     }
 
     /// 01: "Scheme row withholds a row whose label is closed, even if no column is named. Scheme cell withholds a row with a closed named cell."
-    pub fn row_withheld(&self, row: &Row, named: &[&str], p: usize) -> bool {
+    /// 02, Q-10: of a blank, "a closed cell named in the condition"; `withholding` has the names that count.
+    pub fn row_withheld(&self, row: &Row, withholding: &[&str], p: usize) -> bool {
         let table = &self.tables[row.table];
         match table.scheme {
             Scheme::None | Scheme::Table(_) | Scheme::Column => false,
             Scheme::Row => !self.open(row.label, p),
             Scheme::Cell => (0..table.columns.len())
-                .any(|column| listed(named, &table.columns[column].name) && !self.open(row.cells[column].1, p)),
+                .any(|column| listed(withholding, &table.columns[column].name) && !self.open(row.cells[column].1, p)),
         }
     }
 

@@ -26,6 +26,9 @@ pub struct PairTally {
     /// Pairs alike that differ in an undeclared table, the query naming it; pairs not alike told apart in a public one (02, Q-2).
     pub undeclared: u64,
     pub told_apart_public: u64,
+    /// Pairs alike that differ in a cell which the answer writes as a blank; pairs not alike that a blank tells apart (02, Q-10).
+    pub blanked: u64,
+    pub told_apart_blank: u64,
 }
 
 /// What is said of a pair that is not alike, where another case of values changes more than letters: no break of the claim.
@@ -58,7 +61,30 @@ pub fn may_differ(model: &Model, query: Option<&Query>, row: &Row, column: usize
     !model.cell_open(row, column, purpose)
         || !same(&table.name, &query.table)
         || !listed(&named, &table.columns[column].name)
-        || model.row_withheld(row, &named, purpose)
+        || model.row_withheld(row, &query.withholding(), purpose)
+}
+
+/// 02, Q-10: whether the query is a blank that writes `-` for this cell, if it gives the cell's row.
+pub fn blanked(model: &Model, query: Option<&Query>, row: &Row, column: usize) -> bool {
+    let Some(query) = query.filter(|query| query.is_blank()) else { return false };
+    let Some(purpose) = model.purpose(&query.purpose) else { return false };
+    let table = &model.tables[row.table];
+    let selected = query.columns.iter().flatten().any(|name| same(name, &table.columns[column].name));
+    table.scheme == Scheme::Cell
+        && same(&table.name, &query.table)
+        && selected
+        && !model.cell_open(row, column, purpose)
+        && !model.row_withheld(row, &query.withholding(), purpose)
+}
+
+/// Whether the condition holds of a row, or is absent.
+fn matched(model: &Model, query: Option<&Query>, row: &Row) -> bool {
+    let table = &model.tables[row.table];
+    let value_of = |name: &str| {
+        let column = table.columns.iter().position(|column| same(&column.name, name))?;
+        Some(row.cells[column].0.clone())
+    };
+    query.and_then(|query| query.condition.as_ref()).is_none_or(|condition| condition.holds(&value_of))
 }
 
 /// The place of a table without labels that the query names; none where it names no such table.
@@ -136,6 +162,10 @@ pub fn run(random: &mut Random, subject: Subject, buffers: &mut Buffers, tally: 
         model.rows.iter().zip(&alike.rows).any(|(one, other)| one.table == place && one.cells != other.cells)
     };
     let undeclared = unlabelled.is_some_and(|place| !model.tables[place].public && differs(place));
+    let in_blanks = model.rows.iter().zip(&alike.rows).any(|(one, other)| {
+        let changed = |column: usize| one.cells[column].0 != other.cells[column].0 && blanked(&model, query.as_ref(), one, column);
+        matched(&model, query.as_ref(), one) && (0..one.cells.len()).any(changed)
+    });
     let recasing = Recasing::any(random);
     let (doc, alike) = (recasing.turn(&model.text()), recasing.turn(&alike.text()));
     let (text, other) = recase::any(random, text);
@@ -159,6 +189,7 @@ pub fn run(random: &mut Random, subject: Subject, buffers: &mut Buffers, tally: 
     match asked {
         Asked::Answered { length, .. } => {
             tally.answered += 1;
+            tally.blanked += u64::from(in_blanks);
             let length = length as usize;
             put(length, buffers)?;
             put(length - 1, buffers)?;
@@ -182,6 +213,7 @@ pub fn run(random: &mut Random, subject: Subject, buffers: &mut Buffers, tally: 
         tally.unlike += 1;
         tally.told_apart += u64::from(!equal);
         tally.told_apart_public += u64::from(!equal && unlabelled.is_some());
+        tally.told_apart_blank += u64::from(!equal && query.as_ref().is_some_and(|query| query.is_blank()));
     }
     if let Some(unlike) = changed(random, &model, &bound, true, Change::Case) {
         let unlike = recasing.turn(&unlike.text());

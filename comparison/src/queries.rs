@@ -6,8 +6,31 @@ use crate::random::Random;
 use crate::recase::same;
 use reference::Clock;
 
+/// The word of a query that has columns.
+#[derive(Clone, Copy, Debug, PartialEq, Eq)]
+pub enum Verb {
+    Select,
+    /// 02, Q-10.
+    Blank,
+}
+
+impl Verb {
+    fn word(self) -> &'static str {
+        match self {
+            Verb::Select => "select",
+            Verb::Blank => "blank",
+        }
+    }
+
+    fn any(random: &mut Random) -> Verb {
+        *random.pick(&[Verb::Select, Verb::Select, Verb::Blank])
+    }
+}
+
 #[derive(Clone, Debug)]
 pub struct Query {
+    /// Of a query with columns; without them it is a count.
+    pub verb: Verb,
     pub user: String,
     pub role: String,
     pub purpose: String,
@@ -19,7 +42,7 @@ pub struct Query {
 
 impl Query {
     pub fn text(&self) -> Vec<u8> {
-        let word = if self.columns.is_some() { "select" } else { "count" };
+        let word = if self.columns.is_some() { self.verb.word() } else { "count" };
         let mut text = format!("({word} {} {} {} {}", self.user, self.role, self.purpose, self.table);
         if let Some(columns) = &self.columns {
             text += &format!(" ({})", columns.join(" "));
@@ -33,10 +56,26 @@ impl Query {
     /// 01: "Named columns are those selected and every one in the condition, evaluated or not."
     pub fn named(&self) -> Vec<&str> {
         let mut named: Vec<&str> = self.columns.iter().flatten().map(|column| column.as_str()).collect();
-        if let Some(condition) = &self.condition {
-            named.extend(condition.subjects());
-        }
+        named.extend(self.subjects());
         named
+    }
+
+    /// The columns in the condition.
+    fn subjects(&self) -> Vec<&str> {
+        self.condition.as_ref().map(|condition| condition.subjects()).unwrap_or_default()
+    }
+
+    pub fn is_blank(&self) -> bool {
+        self.columns.is_some() && self.verb == Verb::Blank
+    }
+
+    /// The columns whose closed cells withhold a row; 02, Q-10: of a blank "a closed cell named in the condition".
+    pub fn withholding(&self) -> Vec<&str> {
+        if self.is_blank() {
+            self.subjects()
+        } else {
+            self.named()
+        }
     }
 
     /// 01, 11: within the bounds of a query, its names and numbers being right by construction.
@@ -81,6 +120,7 @@ fn random_below(random: &mut Random, bound: u64) -> u64 {
 /// A query that the document mostly answers.
 pub fn good(random: &mut Random, model: &Model, clock: Clock) -> Query {
     let mut query = Query {
+        verb: Verb::any(random),
         user: "ana".to_string(),
         role: "desk".to_string(),
         purpose: "all".to_string(),
@@ -316,7 +356,7 @@ pub fn no_query(random: &mut Random, model: &Model, query: &Query) -> Vec<u8> {
         None => vec![("who".to_string(), Type::Name)],
     };
     let text = query.text();
-    match random.below(13) {
+    match random.below(14) {
         0 => {
             query.columns = Some(vec![columns[0].0.clone(); 17]);
             query.text()
@@ -362,6 +402,13 @@ pub fn no_query(random: &mut Random, model: &Model, query: &Query) -> Vec<u8> {
             text[place] ^= 32;
             text
         }
-        _ => b"(select)".to_vec(),
+        12 => {
+            // The word of a query with columns, and none.
+            query.columns = None;
+            query.condition = None;
+            let word = query.verb.word();
+            String::from_utf8_lossy(&query.text()).replacen("count", word, 1).into_bytes()
+        }
+        _ => random.pick(&["(select)", "(blank)", "(blanks)", "(blank"]).as_bytes().to_vec(),
     }
 }

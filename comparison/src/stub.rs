@@ -19,7 +19,7 @@ unsafe fn refuse(refusal: Refusal, figures: *mut u64) -> u64 {
 pub unsafe fn gate_check(doc: *const u8, doc_len: usize, figures: *mut u64) -> u64 {
     match reference::check(slice::from_raw_parts(doc, doc_len)) {
         Ok(accepted) => {
-            slice::from_raw_parts_mut(figures, 5).copy_from_slice(&[accepted.lines as u64, 60_021, 0, 0, 0]);
+            slice::from_raw_parts_mut(figures, 5).copy_from_slice(&[accepted.lines as u64, accepted.reserve as u64, 0, 0, 0]);
             0
         }
         Err(refusal) => refuse(refusal, figures),

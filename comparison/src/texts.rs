@@ -33,6 +33,9 @@ pub struct Tally {
     pub asked: u64,
     /// Texts and queries in another case than the generator wrote them; of these, those accepted and answered.
     pub recased: Recased,
+    /// Blanks answered, and those of them with a `-` for a value (02, Q-10).
+    pub blanks: u64,
+    pub dashes: u64,
     /// By refusal number.
     pub refusals: [u64; 19],
 }
@@ -209,6 +212,10 @@ impl Run {
         };
         self.tally.answered += 1;
         let length = length as usize;
+        if query.to_ascii_lowercase().starts_with(b"(blank ") {
+            self.tally.blanks += 1;
+            self.tally.dashes += u64::from(has_dash(self.buffers.given(length)));
+        }
         if repeats_no_column(query) && reserve.is_some_and(|reserve| length > reserve) {
             return Err(self.smaller_reserve(doc, question));
         }
@@ -265,6 +272,11 @@ impl Run {
             Err(difference) => Err(smaller_ask(self.second, &mut self.buffers, difference)),
         }
     }
+}
+
+/// Whether an answer has a `-` where a value would stand.
+fn has_dash(answer: &[u8]) -> bool {
+    answer.windows(3).any(|bytes| bytes == b" - " || bytes == b" -)")
 }
 
 /// What the gate gave that is wrong by itself.
