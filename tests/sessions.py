@@ -160,6 +160,22 @@ MIXED = SAMPLE[:4] + ASKER + ["(grant all any)", "(table names none (k name))", 
     f"(row names {name})" for name in ["ada", "Ada", "ADA", "ad", "ada-", "ada_", "ada0", "adA-z"]
 ]
 
+# blanks (02, Q-10): to `post` the label noads is closed and free open, to `bill` both are open; shut is closed to all
+BLANKS = SAMPLE[:4] + ASKER + [
+    "(grant all any)",
+    "(label free (allow all) (deny))",
+    "(label noads (allow all) (deny ads))",
+    "(label shut (allow) (deny))",
+    "(table neg cell (k num) (n num))",
+    "(row neg (-1 free) (-2 noads))",
+    "(row neg (-3 noads) (-4 free))",
+    "(row neg (-9223372036854775808 noads) (0 free))",
+    "(table dark cell (a num) (b name))",
+    "(row dark (7 shut) (x shut))",
+    "(row dark (-7 shut) (y noads))",
+    "(table bare cell (a num))",
+]
+
 DAY = "(clock 2026 100 10)"
 NIGHT = "(clock 2026 100 21)"
 LEAP = "(clock 2028 366 10)"
@@ -183,8 +199,15 @@ def wide(n):
     return SAMPLE[:11] + ["(table long none (who name))", "(public long)"] + ["(row long " + "a" * 24 + ")"] * n
 
 
+def dashed(long, blank):
+    """A policy with so many rows of a name of 24 bytes, and so many closed ones."""
+    shut = ["(label shut (allow) (deny))", "(table long cell (who name))"]
+    return SAMPLE[:11] + shut + ["(row long (" + "a" * 24 + " free))"] * long + ["(row long (" + "b" * 24 + " shut))"] * blank
+
+
 SIXTEEN = " ".join(["who"] * 16)
 LONG_ROW = "(row" + (" " + "a" * 24) * 16 + ")"
+DASHES = "(row" + " -" * 16 + ")"
 MANY = "(and " + " ".join(["(ge due 0)"] * 64) + ")"
 TOO_MANY = "(and " + " ".join(["(ge due 0)"] * 65) + ")"
 SAMPLE_QUERY = "(select ana desk post sub (who) (gt due 50))"
@@ -337,6 +360,61 @@ SESSIONS = [
     one("cell, count", "(count ana desk post sub (ge due 50))", [end(1, 2, 1)]),
     one("cell, a branch not reached", "(count ana desk post sub (or (ge due 0) (eq who Ida)))", [end(1, 3, 0)]),
     one("cell, another purpose", "(select ana desk bill sub (who due))", ["(row Ida 40)", "(row Bo 75)", "(row Cy 60)", end(3, 1, 0)]),
+    # blanks instead of missing rows (02, Q-10)
+    one("blank", "(blank ana desk post sub (who due))", ["(row Ida 40)", "(row Bo -)", "(row - 60)", "(row Dot -)", end(4, 0, 0)]),
+    one("blank, the sample", "(blank ana desk post sub (who due))", ["(row Ida 40)", "(row Bo -)", "(row Cy 60)", end(3, 0, 0)], LEAP, SAMPLE),
+    one("blank, the sample's condition", "(blank ana desk post sub (who) (gt due 50))", ["(row Cy)", end(1, 1, 1)], LEAP, SAMPLE),
+    one("blank, another purpose", "(blank ana desk bill sub (who due))", ["(row Ida 40)", "(row Bo 75)", "(row Cy 60)", "(row Dot -)", end(4, 0, 0)]),
+    one("blank, open columns alone", "(blank ana desk bill sub (who))", ["(row Ida)", "(row Bo)", "(row Cy)", "(row Dot)", end(4, 0, 0)]),
+    one("blank, a condition", "(blank ana desk post sub (who) (gt due 50))", ["(row -)", end(1, 2, 1)]),
+    one("blank, a condition on the other column", "(blank ana desk post sub (due) (ne who Ida))", ["(row -)", "(row -)", end(2, 1, 1)]),
+    one("blank, a cell selected and in the condition", "(blank ana desk post sub (who due) (ge due 50))", ["(row - 60)", end(1, 2, 1)]),
+    one("blank, both selected and in the condition", "(blank ana desk post sub (who due) (and (ge due 0) (ne who Bo)))", ["(row Ida 40)", end(1, 3, 0)]),
+    one("blank, a branch not reached", "(blank ana desk post sub (who) (or (ge due 0) (eq who Ida)))", ["(row Ida)", end(1, 3, 0)]),
+    one("blank, withheld whatever the condition says", "(blank ana desk post sub (who) (gt due 100))", [end(0, 2, 2)]),
+    one("blank, no row matches", "(blank ana desk bill sub (due) (eq who Zoe))", [end(0, 0, 4)]),
+    one("blank beside negative numbers", "(blank ana desk post neg (k n))", ["(row -1 -)", "(row - -4)", "(row - 0)", end(3, 0, 0)], DAY, BLANKS),
+    one("blank, the same numbers open", "(blank ana desk bill neg (k n))", ["(row -1 -2)", "(row -3 -4)", "(row -9223372036854775808 0)", end(3, 0, 0)], DAY, BLANKS),
+    one("blank, a column again", "(blank ana desk post neg (n k n))", ["(row - -1 -)", "(row -4 - -4)", "(row 0 - 0)", end(3, 0, 0)], DAY, BLANKS),
+    one("blank, a column again in another case", "(blank ana desk post neg (n N))", ["(row - -)", "(row -4 -4)", "(row 0 0)", end(3, 0, 0)], DAY, BLANKS),
+    one("blank, every cell closed", "(blank ana desk post dark (a b))", ["(row - -)", "(row - -)", end(2, 0, 0)], DAY, BLANKS),
+    one("blank, every cell closed and one in the condition", "(blank ana desk post dark (b) (gt a 0))", [end(0, 2, 0)], DAY, BLANKS),
+    one("blank, every cell closed but one", "(blank ana desk bill dark (a b) (eq b Y))", ["(row - y)", end(1, 1, 0)], DAY, BLANKS),
+    one("blank, sixteen columns", "(blank ana desk post dark (" + " ".join(["a", "b"] * 8) + "))", [DASHES, DASHES, end(2, 0, 0)], DAY, BLANKS),
+    one("blank, no rows", "(blank ana desk post bare (a))", [end(0, 0, 0)], DAY, BLANKS),
+    one("select where a blank has gaps", "(select ana desk post dark (a b))", [end(0, 2, 0)], DAY, BLANKS),
+    # blank over the other schemes
+    one("blank, undeclared", "(blank ana desk post plain (due who))", (17, "plain"), DAY, UNDECLARED),
+    one("blank, public", "(blank ana desk post plain (due who))", ["(row 40 Ida)", "(row -75 Bo)", end(2, 0, 0)]),
+    one("blank, table closed", "(blank ana desk post led (who))", (17, "led")),
+    one("blank, table open", "(blank ana desk bill led (who due) (eq who cy))", ["(row Cy 1)", end(1, 0, 0)]),
+    one("blank, a closed column that is only selected", "(blank ana desk post cols (who tag due))", (17, "tag")),
+    one("blank, a closed column in the condition", "(blank ana desk post cols (who) (gt due 7))", (17, "due")),
+    one("blank, open columns", "(blank ana desk post cols (who) (ne who dee))", ["(row Eve)", end(1, 0, 1)]),
+    one("blank, rows closed", "(blank ana desk post recs (who due))", ["(row Fay 10)", end(1, 3, 0)]),
+    one("blank, rows closed whatever the condition says", "(blank ana desk post recs (who) (gt due 15))", [end(0, 3, 1)]),
+    one("blank, rows of another purpose", "(blank ana desk bill recs (due who))", ["(row 10 Fay)", "(row 20 Gus)", "(row 30 Hal)", end(3, 1, 0)]),
+    # blank refused as a select is, and in other cases
+    one("blank without columns", "(blank ana desk post sub ())", (11, WHOLE)),
+    one("blank without a column bracket", "(blank ana desk post sub)", (11, WHOLE)),
+    one("blank of 17 columns", "(blank ana desk post sub (" + SIXTEEN + " who))", (11, WHOLE)),
+    one("blank of 65 comparisons", "(blank ana desk post sub (who) " + TOO_MANY + ")", (11, WHOLE)),
+    one("blank with two conditions", "(blank ana desk post sub (who) (gt due 0) (gt due 0))", (11, WHOLE)),
+    one("a blank is no column", "(blank ana desk post sub (-))", (11, WHOLE)),
+    one("a blank is no value", "(blank ana desk post sub (who) (eq who -))", (11, WHOLE)),
+    one("blanks, a longer word", "(blanks ana desk post sub (who))", (11, WHOLE)),
+    one("blank, unknown user", "(blank zed desk post sub (who))", (12, "zed")),
+    one("blank, a role that is not the user's", "(blank ana night post sub (who))", (13, "night")),
+    one("blank, a purpose not granted", "(blank ana desk all sub (who))", (14, "all")),
+    one("blank, unknown table", "(blank ana desk post nowhere (who))", (15, "nowhere")),
+    one("blank, unknown column", "(blank ana desk post sub (who what))", (15, "what")),
+    one("blank, unknown column in the condition", "(blank ana desk post sub (who) (not (eq what 1)))", (15, "what")),
+    one("blank, an order of names", "(blank ana desk post sub (due) (lt who Ida))", (16, "lt")),
+    one("blank, 16 before 17", "(blank ana desk post led (who) (eq due x))", (16, "x")),
+    one("blank in capitals", "(BLANK ANA DESK POST SUB (WHO DUE) (NE WHO IDA))", ["(row Bo -)", "(row Dot -)", end(2, 1, 1)]),
+    one("blank in mixed case", "(Blank ana desk post sub (Who due) (Gt Due 50))", ["(row - 60)", end(1, 2, 1)]),
+    one("blank, an answer of 60,000 bytes", "(blank ana desk post long (" + SIXTEEN + "))", [LONG_ROW] * 147 + [DASHES] * 8 + [end(155, 0, 0)], DAY, dashed(147, 8)),
+    one("blank, an answer of 60,038 bytes", "(blank ana desk post long (" + SIXTEEN + "))", (18, None), DAY, dashed(147, 9)),
     # names without case (02, Q-8)
     one("user, role, purpose and table in another case", "(count Ana DESK Post SUB)", [end(4, 0, 0)]),
     one("a purpose in another case than its definition, grant and label", "(select ana desk ADS Recs (who))", ["(row Fay)", end(1, 1, 0)], DAY, TWO_CASES),
