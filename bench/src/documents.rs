@@ -159,18 +159,25 @@ fn row_line(scheme: Scheme, sequence: &mut Sequence, number: usize) -> String {
     line
 }
 
-/// A document, the two queries that it is asked with, and what it is called.
+/// A document, the three queries that it is asked with, and what it is called.
 pub struct Case {
     pub scheme: &'static str,
     pub size: &'static str,
     pub text: Vec<u8>,
     pub select: String,
+    /// The same as a blank (02, Q-10).
+    pub blank: String,
     pub count: String,
     /// Queries that are refused before a row is looked at, and with which number.
     pub refused: Vec<(u64, String)>,
 }
 
 impl Case {
+    fn new(scheme: &'static str, size: &'static str, text: Vec<u8>, select: String, count: String) -> Case {
+        let blank = select.replacen("(select ", "(blank ", 1);
+        Case { scheme, size, text, select, blank, count, refused: Vec::new() }
+    }
+
     /// How many row lines it has.
     pub fn rows(&self) -> usize {
         self.text.split(|&byte| byte == b'\n').filter(|line| line.starts_with(b"(row ")).count()
@@ -222,7 +229,8 @@ pub fn cases() -> Vec<Case> {
     let mut cases = Vec::new();
     for scheme in SCHEMES {
         for (size, bytes) in SIZES {
-            cases.push(Case { scheme: scheme.word(), size, text: document(scheme, bytes), select: SELECT.into(), count: COUNT.into(), refused: refused(scheme) });
+            let case = Case::new(scheme.word(), size, document(scheme, bytes), SELECT.into(), COUNT.into());
+            cases.push(Case { refused: refused(scheme), ..case });
         }
     }
     cases
@@ -238,14 +246,9 @@ pub fn chain(size: &'static str, purposes: usize) -> Case {
     }
     text.push_str("(role desk)\n(user ana desk)\n(cond-role any desk (ge hour 0))\n");
     text.push_str(&format!("(grant {} any)\n(table sub none (c00 num) (c01 num))\n(public sub)\n", purpose(0)));
-    Case {
-        scheme: CHAIN,
-        size,
-        text: text.into_bytes(),
-        select: format!("(select ana desk {} sub (c00 c01) (gt c00 0))", purpose(purposes - 1)),
-        count: format!("(count ana desk {} sub (gt c00 0))", purpose(purposes - 1)),
-        refused: Vec::new(),
-    }
+    let asked = purpose(purposes - 1);
+    let select = format!("(select ana desk {asked} sub (c00 c01) (gt c00 0))");
+    Case::new(CHAIN, size, text.into_bytes(), select, format!("(count ana desk {asked} sub (gt c00 0))"))
 }
 
 /// The names of purposes are of one length.
@@ -254,7 +257,7 @@ fn purpose(number: usize) -> String {
 }
 
 /// The cases that are made to be bad, which the goals leave out.
-pub const BAD: [&str; 9] = ["full", "turns", "dear", "front", "mixed", "nots", "cased", "alike", "wide"];
+pub const BAD: [&str; 10] = ["full", "turns", "dear", "front", "mixed", "nots", "cased", "alike", "wide", "gaps"];
 
 /// Lookups that are dear: 64 labels of 24 bytes that differ in the last two, each of 16 cells in a row with the last of them.
 pub fn dear_lookups() -> Case {
@@ -293,14 +296,22 @@ fn lookups(scheme: &'static str, named: fn(usize) -> String, used: fn(String) ->
     while text.len() + row.len() <= 60_000 {
         text.push_str(&row);
     }
-    Case {
-        scheme,
-        size: "60",
-        text: text.into_bytes(),
-        select: "(select ana desk all sub (c00 c01) (and (gt c14 0) (ne c15 7)))".into(),
-        count: "(count ana desk all sub (and (gt c14 0) (ne c15 7)))".into(),
-        refused: Vec::new(),
+    let select = "(select ana desk all sub (c00 c01) (and (gt c14 0) (ne c15 7)))";
+    Case::new(scheme, "60", text.into_bytes(), select.into(), "(count ana desk all sub (and (gt c14 0) (ne c15 7)))".into())
+}
+
+/// Sixteen columns, in turns open and closed, all of them selected: a select gives no row, a blank each with eight gaps (02, Q-10).
+pub fn gaps() -> Case {
+    let mut text = String::from("(purpose all)\n(role desk)\n(user ana desk)\n(cond-role any desk (ge hour 0))\n(grant all any)\n");
+    text.push_str("(label a (allow all) (deny))\n(label b (allow) (deny))\n(table sub cell");
+    let columns: Vec<String> = (0..16).map(|column| format!("c{column:02}")).collect();
+    text.push_str(&columns.iter().map(|column| format!(" ({column} num)")).collect::<String>());
+    text.push_str(")\n");
+    let row = format!("(row sub{})\n", " (1 a) (2 b)".repeat(8));
+    while text.len() + row.len() <= 60_000 {
+        text.push_str(&row);
     }
+    Case::new("gaps", "60", text.into_bytes(), format!("(select ana desk all sub ({}))", columns.join(" ")), "(count ana desk all sub)".into())
 }
 
 /// A full document asked with a full condition: 64 comparisons, which come out alike in most rows.
@@ -315,14 +326,8 @@ pub fn turning_condition() -> Case {
 
 fn condition(scheme: &'static str, joined: &str, compared: fn(usize) -> String) -> Case {
     let compared: String = (0..64).map(compared).collect();
-    Case {
-        scheme,
-        size: "60",
-        text: document(Scheme::None, 60_000),
-        select: format!("(select ana desk post sub (who due) ({joined}{compared}))"),
-        count: format!("(count ana desk post sub ({joined}{compared}))"),
-        refused: Vec::new(),
-    }
+    let select = format!("(select ana desk post sub (who due) ({joined}{compared}))");
+    Case::new(scheme, "60", document(Scheme::None, 60_000), select, format!("(count ana desk post sub ({joined}{compared}))"))
 }
 
 /// A policy without conditions or labels, and one table of these columns with 1,024 rows of these values.
@@ -337,14 +342,8 @@ fn plain_rows(columns: &str, values: &str) -> Vec<u8> {
 const LONG: &str = "value-with-a-long-name-x";
 
 fn plain(scheme: &'static str, columns: &str, values: &str, selected: &str, condition: &str) -> Case {
-    Case {
-        scheme,
-        size: "60",
-        text: plain_rows(columns, values),
-        select: format!("(select ana desk all sub ({selected}) {condition})"),
-        count: format!("(count ana desk all sub {condition})"),
-        refused: Vec::new(),
-    }
+    let select = format!("(select ana desk all sub ({selected}) {condition})");
+    Case::new(scheme, "60", plain_rows(columns, values), select, format!("(count ana desk all sub {condition})"))
 }
 
 /// 64 comparisons below five `not`s each, every one of which is met in every row.

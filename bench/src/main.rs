@@ -38,15 +38,16 @@ const BUFFER: usize = 500_000;
 const IN_A_ROW: usize = 3;
 const SECONDS: u64 = 45;
 
-/// The three calls.
+/// The four calls.
 #[derive(Clone, Copy, PartialEq, Eq)]
 pub enum Call {
     Check,
     Select,
     Count,
+    Blank,
 }
 
-pub const CALLS: [Call; 3] = [Call::Check, Call::Select, Call::Count];
+pub const CALLS: [Call; 4] = [Call::Check, Call::Select, Call::Count, Call::Blank];
 
 impl Call {
     pub fn word(self) -> &'static str {
@@ -54,6 +55,7 @@ impl Call {
             Call::Check => "check",
             Call::Select => "select",
             Call::Count => "count",
+            Call::Blank => "blank",
         }
     }
 
@@ -62,6 +64,7 @@ impl Call {
             Call::Check => "",
             Call::Select => &case.select,
             Call::Count => &case.count,
+            Call::Blank => &case.blank,
         }
     }
 
@@ -117,7 +120,7 @@ impl Times {
 /// The times of one document.
 #[derive(Default)]
 pub struct Measured {
-    pub calls: [Times; 3],
+    pub calls: [Times; 4],
     pub pass: Samples,
     pub pass_nine: Samples,
     /// Of each query that is refused, on the loaded document.
@@ -293,6 +296,7 @@ fn main() -> std::io::Result<()> {
     cases.push(documents::cased_names());
     cases.push(documents::alike_names());
     cases.push(documents::wide_answer());
+    cases.push(documents::gaps());
     let words: Vec<String> = std::env::args().skip(1).collect();
     let words: Vec<&str> = words.iter().map(String::as_str).collect();
     let named = |wanted: &str| cases.iter().find(|case| key(case) == wanted).expect("a key that `bench keys` prints");

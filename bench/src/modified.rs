@@ -309,12 +309,20 @@ impl Document {
         let [kind, _, _, purpose, name, rest @ ..] = form.list() else { panic!("a query has a table") };
         let (purpose, name) = (purpose.word(), name.word());
         let table = self.tables.iter().find(|table| table.name == name).expect("a table of the document");
-        let (selected, rest) = if kind.word() == "select" { (rest[0].list(), &rest[1..]) } else { (&[][..], rest) };
+        let blank = kind.word() == "blank";
+        let (selected, rest) = if kind.word() == "count" { (&[][..], rest) } else { (rest[0].list(), &rest[1..]) };
         let selected: Vec<String> = selected.iter().map(|column| column.word().to_string()).collect();
-        let mut named = selected.clone();
-        let condition = rest.first().map(|form| condition(form, self.compared, &mut named));
-        named.sort();
-        named.dedup();
+        let mut tested = Vec::new();
+        let condition = rest.first().map(|form| condition(form, self.compared, &mut tested));
+        let mut named = [selected.clone(), tested.clone()].concat();
+        // 02, Q-10: a row of a blank is withheld for the cells of its condition alone.
+        let mut withholding = if blank { tested } else { named.clone() };
+        for names in [&mut named, &mut withholding] {
+            names.sort();
+            names.dedup();
+        }
+        let gaps = blank && table.scheme == "cell";
+        let given = |column: &String| if gaps { format!("CASE WHEN {} THEN {column} END", self.opened(purpose, column)) } else { column.clone() };
         let closed = |among: String| format!("SELECT count(*) FROM {LABELS} WHERE of_table = '{name}' AND {among} AND NOT ({})", by_masks("", self.around(purpose)));
         let quoted: Vec<String> = named.iter().map(|column| format!("'{column}'")).collect();
         let holds_numbers = |name: &String| table.columns.iter().any(|column| column.name == *name && column.holds_numbers);
@@ -327,12 +335,14 @@ impl Document {
             },
             opened: match table.scheme.as_str() {
                 "row" => Some(self.opened(purpose, ROW)),
-                "cell" => Some(named.iter().map(|column| self.opened(purpose, column)).collect::<Vec<_>>().join(" AND ")),
+                "cell" if withholding.is_empty() => None,
+                "cell" => Some(withholding.iter().map(|column| self.opened(purpose, column)).collect::<Vec<_>>().join(" AND ")),
                 _ => None,
             },
             holds_numbers: selected.iter().map(holds_numbers).collect(),
             table: name.into(),
-            selected,
+            selected: selected.iter().map(given).collect(),
+            gaps,
             condition,
         }
     }
@@ -371,7 +381,9 @@ pub struct Modified {
     pub opened: Option<String>,
     pub condition: Option<String>,
     pub table: String,
+    /// The selected columns; of a blank over cells, NULL for a closed one.
     pub selected: Vec<String>,
+    pub gaps: bool,
     /// Which of the selected columns hold numbers.
     pub holds_numbers: Vec<bool>,
 }

@@ -23,6 +23,7 @@ extern "C" {
     fn sqlite3_reset(program: *mut Program) -> c_int;
     fn sqlite3_bind_int64(program: *mut Program, place: c_int, value: i64) -> c_int;
     fn sqlite3_bind_text(program: *mut Program, place: c_int, text: *const c_char, len: c_int, free: *const c_void) -> c_int;
+    fn sqlite3_column_type(program: *mut Program, place: c_int) -> c_int;
     fn sqlite3_column_int64(program: *mut Program, place: c_int) -> i64;
     fn sqlite3_column_text(program: *mut Program, place: c_int) -> *const u8;
     fn sqlite3_column_bytes(program: *mut Program, place: c_int) -> c_int;
@@ -31,6 +32,8 @@ extern "C" {
 const OK: c_int = 0;
 const ROW: c_int = 100;
 const DONE: c_int = 101;
+/// The type of a value that is missing.
+const NULL: c_int = 5;
 /// Readable, writable, made if it isn't there; no locks, since one thread alone uses it: the cheapest way that there is.
 const FLAGS: c_int = 0x2 | 0x4 | 0x8000;
 
@@ -120,10 +123,17 @@ impl Statement {
         unsafe { sqlite3_column_int64(self.0, place as c_int) }
     }
 
+    fn is_null(&self, place: usize) -> bool {
+        unsafe { sqlite3_column_type(self.0, place as c_int) == NULL }
+    }
+
     /// Sound as long as the row stands, which is until the next step.
     fn name(&self, place: usize) -> &[u8] {
         unsafe {
             let text = sqlite3_column_text(self.0, place as c_int);
+            if text.is_null() {
+                return &[];
+            }
             std::slice::from_raw_parts(text, sqlite3_column_bytes(self.0, place as c_int) as usize)
         }
     }
@@ -151,6 +161,8 @@ struct Query {
     withheld: Option<Statement>,
     all: Statement,
     holds_numbers: Vec<bool>,
+    /// Whether values may be missing: those of a blank over cells.
+    gaps: bool,
 }
 
 impl Query {
@@ -163,6 +175,7 @@ impl Query {
             all: prepare(modified.all()),
             closed: modified.closed.map(prepare),
             holds_numbers: modified.holds_numbers,
+            gaps: modified.gaps,
         }
     }
 
@@ -194,7 +207,9 @@ impl Query {
             out.bytes(b"(row");
             for (place, &holds_numbers) in self.holds_numbers.iter().enumerate() {
                 out.byte(b' ');
-                if holds_numbers {
+                if self.gaps && rows.is_null(place) {
+                    out.byte(b'-');
+                } else if holds_numbers {
                     out.number(rows.number(place));
                 } else {
                     out.bytes(rows.name(place));
@@ -217,9 +232,10 @@ impl Query {
     }
 }
 
-/// A document's rows in one form, and its two queries.
+/// A document's rows in one form, and its three queries.
 struct Form {
     select: Query,
+    blank: Query,
     count: Query,
     _database: Database,
     document: Document,
@@ -230,15 +246,16 @@ impl Form {
         let document = Document::read(&case.text, held, Compared::Collated);
         let database = Database::load(&document);
         let select = Query::new(&database, document.modify(&case.select));
+        let blank = Query::new(&database, document.modify(&case.blank));
         let count = Query::new(&database, document.modify(&case.count));
-        Form { select, count, _database: database, document }
+        Form { select, blank, count, _database: database, document }
     }
 
     fn query(&self, call: Call) -> &Query {
-        if call == Call::Select {
-            &self.select
-        } else {
-            &self.count
+        match call {
+            Call::Select => &self.select,
+            Call::Blank => &self.blank,
+            Call::Check | Call::Count => &self.count,
         }
     }
 }

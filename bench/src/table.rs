@@ -63,7 +63,8 @@ fn explain(turns: usize, in_a_row: usize) {
     println!("chain: no rows, 64 and 256 purposes, each below the one before it; growth is that of the second over the first.");
     println!("Bad inputs. full: scheme none, a condition of 64 comparisons that come out alike in most rows; turns: that come out otherwise in nearly every row.");
     println!("dear: 64 labels of 24 bytes alike but for the last two; front: but for the first two; mixed: as dear, used in another case than defined.");
-    println!("nots: 64 comparisons below five nots each; alike: 64 of names that are the same; cased: the same but for their case; wide: one column selected sixteen times.\n");
+    println!("nots: 64 comparisons below five nots each; alike: 64 of names that are the same; cased: the same but for their case; wide: one column selected sixteen times.");
+    println!("gaps: sixteen columns selected, every other cell closed, so that a select gives no row and a blank eight gaps in each.\n");
 }
 
 /// Asking from the text, and its goals.
