@@ -62,7 +62,7 @@ enum gate_outcome {
 
     /* of the query, by gate_ask and, but for 18, by gate_measure */
     GATE_CLOCK_OUT_OF_RANGE = 10,  /* clock out of range; part: empty, at the start */
-    GATE_NOT_A_QUERY = 11,         /* query not one form of the two shapes, or over a bound; part: the whole query */
+    GATE_NOT_A_QUERY = 11,         /* query not one form of a known shape, or over a bound; part: the whole query */
     GATE_UNKNOWN_PARTY = 12,       /* user, role or purpose unknown; part: that name */
     GATE_ROLE_NOT_GIVEN = 13,      /* role not given to the user; part: the role */
     GATE_NOT_AUTHORISED = 14,      /* purpose not authorised; part: the purpose */
@@ -90,7 +90,7 @@ enum gate_source {
 enum gate_checked_figure {         /* gate_check, accepted */
     GATE_LINES = 0,                /* how many lines the document has */
     GATE_RESERVE = 1               /* how long the longest answer among tables is, each with all its columns once and all its rows; no
-                                      answer to a select whose column bracket repeats no column is longer */
+                                      answer to a select or blank whose column bracket repeats no column is longer */
 };
 enum gate_answered_figure {        /* gate_ask, accepted; of gate_measure, gate_import and gate_measure_import the first alone */
     GATE_LENGTH = 0,               /* how many bytes of the buffer the answer or the lines fill, from the first on */
