@@ -123,7 +123,7 @@ pub struct Clock {
 }
 
 /// An accepted document: its lines, and how long the longest answer among tables is, each with all its columns once and all its rows,
-/// which no answer to a select exceeds that repeats no column.
+/// which no answer to a select or blank exceeds that repeats no column.
 pub struct Checked {
     pub lines: usize,
     pub reserve: usize,
