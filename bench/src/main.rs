@@ -223,7 +223,7 @@ fn turn_sqlite(measured: &mut Measured, sqlite: &Sqlite, out: &mut [u8]) {
     for (call, times) in CALLS.into_iter().zip(&mut measured.calls).filter(|(call, _)| *call != Call::Check) {
         times.bare.add(taken(|| sqlite.bare(call)));
         times.counted.add(taken(|| sqlite.counted(call, out)));
-        if sqlite.has_labels() {
+        if sqlite.has_labels(call) {
             times.labels_first.add(taken(|| sqlite.labels_first(call)));
             times.numbered.add(taken(|| sqlite.numbered(call)));
         }

@@ -285,9 +285,9 @@ impl Sqlite {
         Database::load(&self.masks.document)
     }
 
-    /// Whether rows or cells have labels.
-    pub fn has_labels(&self) -> bool {
-        self.numbers.is_some()
+    /// Whether the query tests labels of rows or cells.
+    pub fn has_labels(&self, call: Call) -> bool {
+        self.masks.query(call).labels_first.is_some()
     }
 
     /// The bare query, the condition first.

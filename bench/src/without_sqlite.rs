@@ -18,7 +18,7 @@ impl Sqlite {
         match *self {}
     }
 
-    pub fn has_labels(&self) -> bool {
+    pub fn has_labels(&self, _: Call) -> bool {
         match *self {}
     }
 
