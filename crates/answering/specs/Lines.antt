@@ -8,7 +8,7 @@ use mathlib.Core.Path.{_≡_}
 use Rattle.answer.specs.Answer.{Answer, counted, rowLine}
 use Rattle.answer.specs.Exactly.{withGaps}
 use Rattle.answer.specs.Seen.{gap}
-use Rattle.document.specs.Policy.{Policy}
+use Rattle.document.specs.Policy.{Doc, Policy}
 use Rattle.form.specs.declared.lines.Scheme.the-variants as scheme
 use Rattle.form.specs.declared.lines.Scheme.{Scheme}
 use Rattle.judging.specs.Judging.{openIn}
@@ -16,7 +16,8 @@ use Rattle.judging.specs.declared.tally.Tally.{Tally}
 use Rattle.query.specs.QueryForm.{leavesGaps}
 use Rattle.query.specs.QueryPlaces.{verbOf}
 use Rattle.query.specs.declared.reading.Verb.{Verb}
-use Rattle.relations.specs.Rows.{valueCountIn, valueIn}
+use Rattle.relations.specs.Labels.{Opened}
+use Rattle.relations.specs.Rows.{Rows, valueCountIn, valueIn}
 use Rattle.workspace.specs.Tabulated.{tabulated}
 use Rattle.text.specs.Numbers.{Value}
 
@@ -73,3 +74,8 @@ linesMarked shown columns marks k = flatten (tabulated (λ r. lineMarked shown c
 -- the answer of the marked rows: their lines, if they are asked for, and the end line with these counts
 unfoldable pub answerMarked : (ℕ → List Value) → List ℕ → List Bool → ℕ → Bool → Tally → Answer
 answerMarked shown columns marks k asked x = counted (cond asked (linesMarked shown columns marks k) []) (x .passed) (x .withheld) (x .unmatched)
+
+-- of that answer something holds, where the arrays hold the rows of a document d, and the truths os say what is open to a purpose p
+abbrev pub OfMarked : (text ws : List ℕ) → List Bool → Bool → List ℕ → List Bool → ℕ → Bool → Tally → (Answer → Type 0) → Type 0
+OfMarked text ws os gaps columns marks k asked x holds =
+    (d : Doc) (p : ℕ) → Opened (d .policy) p os → Rows text ws k (d .rows) → holds (answerMarked (rowShown (d .policy) p text ws gaps) columns marks k asked x)

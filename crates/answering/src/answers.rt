@@ -20,11 +20,9 @@ ghost use mathlib.Core.Path.{_≡_};
 ghost use Rattle.answer.specs.Answer.{answerTo};
 ghost use Rattle.answer.specs.Seen.{seenRows};
 ghost use Rattle.answering.specs.Answering.{Writes};
-ghost use Rattle.answering.specs.Lines.{answerMarked, gapsBy, labelsCells, rowShown};
+ghost use Rattle.answering.specs.Lines.{OfMarked, gapsBy, labelsCells};
 ghost use Rattle.judging.specs.Prepared.{Prepared};
 ghost use Rattle.document.specs.Policy.{Doc};
-ghost use Rattle.relations.specs.Labels.{Opened};
-ghost use Rattle.relations.specs.Rows.{Rows};
 ghost use Rattle.query.specs.Query.{Query};
 ghost use Rattle.writing.specs.Write.{Stored};
 
@@ -76,7 +74,7 @@ fn put_answer(
     tally: Tally,
 ) -> usize
     requires { ⌜ (length (now text) ≤ 60000) × (chosen ≤ 16) × (count ≤ 1024) ⌝ }
-    ensures { λ x. ⌜ ((d : Doc) (p : ℕ) → Opened (d .policy) p (now (opened .entry)) → Rows (now (text .entry)) (now (rows .entry)) count (d .rows) → Stored (now (out .entry)) 0 (answerMarked (rowShown (d .policy) p (now (text .entry)) (now (rows .entry)) gaps) (take chosen (now (columns .entry))) (now (marks .entry)) count lines tally .bytes) (now (out .exit)) x) ⌝ }
+    ensures { λ x. ⌜ OfMarked (now (text .entry)) (now (rows .entry)) (now (opened .entry)) gaps (take chosen (now (columns .entry))) (now (marks .entry)) count lines tally (λ a. Stored (now (out .entry)) 0 (a .bytes) (now (out .exit)) x) ⌝ }
 {
     let passed = tally.passed;
     let withheld = tally.withheld;
@@ -102,7 +100,7 @@ fn measure_answer(
     tally: Tally,
 ) -> usize
     requires { ⌜ (length (now text) ≤ 60000) × (chosen ≤ 16) × (count ≤ 1024) ⌝ }
-    ensures { λ n. ⌜ ((d : Doc) (p : ℕ) → Opened (d .policy) p (now (opened .entry)) → Rows (now (text .entry)) (now (rows .entry)) count (d .rows) → n ≡ length (answerMarked (rowShown (d .policy) p (now (text .entry)) (now (rows .entry)) gaps) (take chosen (now (columns .entry))) (now (marks .entry)) count lines tally .bytes)) ⌝ }
+    ensures { λ n. ⌜ OfMarked (now (text .entry)) (now (rows .entry)) (now (opened .entry)) gaps (take chosen (now (columns .entry))) (now (marks .entry)) count lines tally (λ a. n ≡ length (a .bytes)) ⌝ }
 {
     let mut nothing = [0u8; 1];
     put_answer(
@@ -135,7 +133,7 @@ fn put_measured(
     tally: Tally,
 ) -> Measured
     requires { ⌜ (length (now text) ≤ 60000) × (chosen ≤ 16) × (count ≤ 1024) ⌝ }
-    ensures { λ x. ⌜ ((d : Doc) (p : ℕ) → Opened (d .policy) p (now (opened .entry)) → Rows (now (text .entry)) (now (rows .entry)) count (d .rows) → Writes (answerMarked (rowShown (d .policy) p (now (text .entry)) (now (rows .entry)) gaps) (take chosen (now (columns .entry))) (now (marks .entry)) count lines tally) (now (out .entry)) (now (out .exit)) x) ⌝ }
+    ensures { λ x. ⌜ OfMarked (now (text .entry)) (now (rows .entry)) (now (opened .entry)) gaps (take chosen (now (columns .entry))) (now (marks .entry)) count lines tally (λ a. Writes a (now (out .entry)) (now (out .exit)) x) ⌝ }
 {
     let len = measure_answer(
         text,
