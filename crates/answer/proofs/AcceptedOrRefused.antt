@@ -1,4 +1,4 @@
--- Asking is refused with the lowest number whose condition holds, and accepted when none holds. Assumes nothing.
+-- Asking is refused with the first number whose condition holds, and accepted when none holds. Assumes nothing.
 use Prim.Native.Nat.{_≤_, ℕ}
 use borrow.Author.Tests.{le-ltb, ltb-false}
 use lib.Dec.{ltb}
@@ -10,6 +10,7 @@ use mathlib.Core.Path.{_∙_, _≡_, ap, refl, subst, sym}
 use Rattle.answer.specs.Answer.{answerTo}
 use Rattle.answer.specs.Ask.{Answered, answerForm, ask, askUnbounded, ifFits}
 use Rattle.answer.specs.Faults.{Fault, askFaults, firstFault, formAnswer, formFaults, queryFaults, refusalNumber}
+use Rattle.answer.specs.Ranged.{rangedColumn}
 use Rattle.answer.specs.Seen.{seenRows}
 use Rattle.document.specs.Check.{Accepted, check}
 use Rattle.document.specs.Lookup.{purposeOf, userOf}
@@ -81,7 +82,7 @@ module _ {A : Type 0} (fs : List Fault) where
 -- ---- a query as read
 
 module _ (d : Doc) (c : Clock) (q : QueryForm) where
-  -- a query is refused with the lowest of 12 to 17 whose condition holds
+  -- a query is refused with the first of 12 to 16, 27 and 17 whose condition holds
   form-number : refusalNumber (answerForm d c q) ≡ firstFault (formFaults d c q)
   unfolding answerForm formFaults pointing orZero
   form-number =
@@ -90,9 +91,10 @@ module _ (d : Doc) (c : Clock) (q : QueryForm) where
       rw is-u (need-number _ _ _ _ (λ g _.
       at-number _ _ _ _ _ (
       at-number _ _ _ _ _ (
-      at-number _ _ _ _ _ (accepted-number _)))))))
+      at-number _ _ _ _ _ (
+      at-number _ _ _ _ _ (accepted-number _))))))))
 
--- none of 12 to 17 holds, and this is the answer
+-- none of 12 to 17 and 27 holds, and this is the answer
 pub record Answers (d : Doc) (c : Clock) (q : QueryForm) (r : Answered) : Type 0 where
   pub user : ℕ
   pub grant : ℕ
@@ -101,6 +103,7 @@ pub record Answers (d : Doc) (c : Clock) (q : QueryForm) (r : Answered) : Type 0
   pub authorised : firstGrant (d .policy) c user (orZero (purposeOf (d .policy) (q .purpose))) ≡ some grant
   pub columns : unknownColumn (d .policy) q ≡ none
   pub types : mistypedQuery (d .policy) q ≡ none
+  pub ranges : rangedColumn d q ≡ none
   pub parts : closedPart (d .policy) q ≡ none
   pub is : r ≡ record { answer = answerTo (resolved (d .policy) q) (seenRows d (resolved (d .policy) q)); grant = grant }
 
@@ -113,6 +116,7 @@ answered d c q r h =
     let h4 = then-accepted _ _ _ (h3 .2) in
     let h5 = then-accepted _ _ _ (h4 .2) in
     let h6 = then-accepted _ _ _ (h5 .2) in
+    let h7 = then-accepted _ _ _ (h6 .2) in
     record {
       user = h2 .0;
       grant = h3 .0;
@@ -121,13 +125,14 @@ answered d c q r h =
       authorised = need-accepted _ _ _ (h3 .1);
       columns = refuseAt-accepted 15 query _ (h4 .1);
       types = refuseAt-accepted 16 query _ (h5 .1);
-      parts = refuseAt-accepted 17 query _ (h6 .1);
-      is = sym (accepted-same (h6 .2));
+      ranges = refuseAt-accepted 27 query _ (h6 .1);
+      parts = refuseAt-accepted 17 query _ (h7 .1);
+      is = sym (accepted-same (h7 .2));
     }
 
 pub is-answered : (d : Doc) (c : Clock) (q : QueryForm) (r : Answered) → Answers d c q r → answerForm d c q ≡ accepted r
 unfolding answerForm refuseAt need _>>_ _>>=_
-is-answered d c q r a = rw (a .party, a .has-role, a .authorised, a .columns, a .types, a .parts) (ap {B = Result Answered} accepted (sym (a .is)))
+is-answered d c q r a = rw (a .party, a .has-role, a .authorised, a .columns, a .types, a .ranges, a .parts) (ap {B = Result Answered} accepted (sym (a .is)))
 
 -- ---- asking
 
@@ -140,8 +145,8 @@ ask-steps doc text c room =
     then-bind (refuseIf (not (inRange c)) (pointingNowhere 10 query)) _ _ ∙ then-cong (refuseIf (not (inRange c)) (pointingNowhere 10 query)) _ _ (λ _ _.
     bind-bind (need (queryOf text) (pointingAll 11 query text)) _ _))
 
--- Asking about an accepted document is refused with the lowest number of 10 to 18 whose condition holds, and accepted when
--- none holds.
+-- Asking about an accepted document is refused with the first of 10 to 18 and 27, in their order, whose condition holds,
+-- and accepted when none holds.
 pub lowest-refused : (doc text : List ℕ) (A : Accepted) → check doc ≡ accepted A → (c : Clock) (room : ℕ)
     → refusalNumber (ask doc text c room) ≡ firstFault (askFaults (A .doc) text c room)
 unfolding ask askUnbounded ifFits _>>=_ askFaults queryFaults formAnswer pointingAll pointingNowhere

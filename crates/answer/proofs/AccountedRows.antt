@@ -9,12 +9,13 @@ use mathlib.Core.List.{List, [], _++_, _∷_, flatten, map}
 use mathlib.Core.Option.{Option, none, some}
 use mathlib.Core.Path.{_∙_, _≡_, ap, refl, subst, sym}
 use native.Mathlib.Omega.{arith}
-use Rattle.answer.specs.Answer.{Answer, answerTo, counted, endLine, isPassed, isUnmatched, isWithheld, lineOf, matches, rowLine, rowLines}
+use Rattle.answer.specs.Answer.{Answer, answerTo, counted, endLine, isPassed, isUnmatched, isWithheld, lineOf, matches, rowLine, rowLines, satisfies}
 use Rattle.answer.specs.Exactly.{GivesExactly, gappedValues, isGiven, isUnmatchedRow, isWithheldRow, withGaps}
 use Rattle.answer.specs.Seen.{Seen, gap, rowsIn, seenIn, seenRow, seenRows, seenValue, seenValues, shown, withheld}
-use Rattle.condition.proofs.HoldsLaws.{holds-agree}
-use Rattle.condition.specs.Comparison.{Comparison, meets}
+use Rattle.condition.proofs.TwoLaws.{two-agree}
+use Rattle.condition.specs.Comparison.{Comparison}
 use Rattle.condition.specs.Cond.{Cond, comparisonsIn}
+use Rattle.condition.specs.Ranges.{Mode, meetsIn, other, passesIn}
 use Rattle.document.proofs.OpenLaws.{shown-open}
 use Rattle.document.specs.Lookup.{labellingAt}
 use Rattle.document.specs.Open.{cellOpen, labelOpen, rowWithheld}
@@ -25,7 +26,7 @@ use Rattle.lists.proofs.ListLaws.{map-map}
 use Rattle.lists.specs.Lists.{allOf, anyOf, countOf, keep, member, orZero}
 use Rattle.query.proofs.NamedAll.{all-withhold, condition-withholds, selected-named, withholding-named}
 use Rattle.query.specs.Query.{NamesParts, PartsOpen, Query}
-use Rattle.query.specs.QueryForm.{Verb, Wanted, countsOnly, hasGaps, leavesGaps, rowsOf, selected}
+use Rattle.query.specs.QueryForm.{Verb, Wanted, countsOnly, hasGaps, leavesGaps, modeIn, rowsOf, selected}
 use Rattle.text.specs.Bytes.{ascii}
 use Rattle.text.specs.Numbers.{Value}
 
@@ -71,11 +72,14 @@ open-whole o i (v ∷ vs) (suc k) c e m = open-whole o (suc i) vs k c (omega (ar
 
 -- a condition over columns that are named and open holds of what is seen exactly when it holds of the row's own values
 matches-seen : (f o : ℕ → Bool) (ns : List ℕ) → ((c : ℕ) → f c ≡ true → member c ns ≡ true) → ((c : ℕ) → f c ≡ true → o c ≡ true)
-    → (t : Option (Cond Comparison)) → allOf (λ t. f (t .of)) (comparisonsIn t) ≡ true → (vs : List Value) → matches t (seenValues o ns 0 vs) ≡ matches t vs
-unfolding matches comparisonsIn
-matches-seen f o ns named opened none h vs = refl
-matches-seen f o ns named opened (some c) h vs =
-    holds-agree (λ t. f (t .of)) _ _ (λ t m. ap (meets t) (named-seen o ns 0 vs (t .of) (t .of) (omega arith) (named (t .of) m) ∙ open-whole o 0 vs (t .of) (t .of) (omega arith) (opened (t .of) m))) c h
+    → (m : Mode) (t : Option (Cond Comparison)) → allOf (λ t. f (t .of)) (comparisonsIn t) ≡ true → (vs : List Value) → matches m t (seenValues o ns 0 vs) ≡ matches m t vs
+unfolding matches comparisonsIn passesIn
+matches-seen f o ns named opened m none h vs = refl
+matches-seen f o ns named opened m (some c) h vs =
+    two-agree (λ t. f (t .of)) _ _ _ _ (λ t k. ap (meetsIn m t) (own (t .of) k)) (λ t k. ap (meetsIn (other m) t) (own (t .of) k)) c h
+  where
+    own : (i : ℕ) → f i ≡ true → getD (seenValues o ns 0 vs) i [] ≡ getD vs i []
+    own i k = named-seen o ns 0 vs i i (omega arith) (named i k) ∙ open-whole o 0 vs i i (omega arith) (opened i k)
 
 -- a line is the same of values that agree in its columns
 pub line-agree : (f : ℕ → Bool) (cs : List ℕ) → allOf f cs ≡ true → (vs ws : List Value) → ((c : ℕ) → f c ≡ true → getD vs c [] ≡ getD ws c []) → rowLine cs vs ≡ rowLine cs ws
@@ -143,24 +147,24 @@ module _ (d : Doc) (q : Query) (parts : NamesParts q) (open-parts : PartsOpen (d
       shown-open isOpen scheme (q .source .withholding) (r .labels) (open-parts .table) (λ k n. open-parts .columns k (withholding-named q parts k n)) w c m
 
   -- the condition holds of what is seen of a row that is not withheld exactly when it holds of the row's own values
-  own-values : (r : Row) → isWithheldRow d q r ≡ false → matches (q .condition) (visible r) ≡ matches (q .condition) (r .values)
+  own-values : (r : Row) → isWithheldRow d q r ≡ false → satisfies q (visible r) ≡ satisfies q (r .values)
   own-values r w =
-      matches-seen (λ c. member c (q .source .withholding)) (opened r) (q .source .named) (withholding-named q parts) (withholding-open r w) (q .condition) (condition-withholds q parts) (r .values)
+      unfold satisfies in matches-seen (λ c. member c (q .source .withholding)) (opened r) (q .source .named) (withholding-named q parts) (withholding-open r w) (modeIn (q .wanted)) (q .condition) (condition-withholds q parts) (r .values)
 
   -- a row is seen as withheld exactly when it is withheld
   withheld-rows : (r : Row) → isWithheld (seen r) ≡ isWithheldRow d q r
   unfolding seenRow isWithheldRow
-  withheld-rows r = told-withheld (matches (q .condition)) (visible r) (isWithheldRow d q r)
+  withheld-rows r = told-withheld (satisfies q) (visible r) (isWithheldRow d q r)
 
   -- a row passes exactly when it is given
-  given-rows : (r : Row) → isPassed (matches (q .condition)) (seen r) ≡ isGiven d q r
+  given-rows : (r : Row) → isPassed (satisfies q) (seen r) ≡ isGiven d q r
   unfolding seenRow isWithheldRow isGiven
-  given-rows r = told-passed (matches (q .condition)) (visible r) (isWithheldRow d q r) ∙ not-withheld (isWithheldRow d q r) _ _ (own-values r)
+  given-rows r = told-passed (satisfies q) (visible r) (isWithheldRow d q r) ∙ not-withheld (isWithheldRow d q r) _ _ (own-values r)
 
   -- a row is seen as unmatched exactly when it is unmatched
-  unmatched-rows : (r : Row) → isUnmatched (matches (q .condition)) (seen r) ≡ isUnmatchedRow d q r
+  unmatched-rows : (r : Row) → isUnmatched (satisfies q) (seen r) ≡ isUnmatchedRow d q r
   unfolding seenRow isWithheldRow isUnmatchedRow
-  unmatched-rows r = told-unmatched (matches (q .condition)) (visible r) (isWithheldRow d q r) ∙ not-withheld (isWithheldRow d q r) _ _ (λ w. ap not (own-values r w))
+  unmatched-rows r = told-unmatched (satisfies q) (visible r) (isWithheldRow d q r) ∙ not-withheld (isWithheldRow d q r) _ _ (λ w. ap not (own-values r w))
 
   module _ (v : Verb) (cs : List ℕ) (is : q .wanted ≡ rowsOf v cs) where
     -- the columns that are asked for are named
@@ -182,19 +186,19 @@ module _ (d : Doc) (q : Query) (parts : NamesParts q) (open-parts : PartsOpen (d
 
     -- a row has its line exactly when it is given
     given-line : (values : Row → List Value) → ((r : Row) → isWithheldRow d q r ≡ false → rowLine cs (visible r) ≡ rowLine cs (values r))
-        → (r : Row) → lineOf (matches (q .condition)) cs (seen r) ≡ cond (isGiven d q r) (rowLine cs (values r)) []
+        → (r : Row) → lineOf (satisfies q) cs (seen r) ≡ cond (isGiven d q r) (rowLine cs (values r)) []
     unfolding seenRow isWithheldRow isGiven
     given-line values same r =
-        told-line (matches (q .condition)) (visible r) cs (isWithheldRow d q r)
+        told-line (satisfies q) (visible r) cs (isWithheldRow d q r)
         ∙ line-told (isWithheldRow d q r) _ _ _ _ (own-values r) (same r)
 
     -- so the lines are those of the rows given
     lines-given : (values : Row → List Value) → ((r : Row) → isWithheldRow d q r ≡ false → rowLine cs (visible r) ≡ rowLine cs (values r))
-        → rowLines (matches (q .condition)) (q .wanted) (seenRows d q) ≡ flatten (map (λ r. rowLine cs (values r)) (keep (isGiven d q) (rowsIn (q .source .table) (d .rows))))
+        → rowLines (satisfies q) (q .wanted) (seenRows d q) ≡ flatten (map (λ r. rowLine cs (values r)) (keep (isGiven d q) (rowsIn (q .source .table) (d .rows))))
     unfolding rowLines seenRows seenIn
     lines-given values same =
-        ap (λ w. rowLines (matches (q .condition)) w (seenRows d q)) is
-        ∙ ap flatten (map-map (lineOf (matches (q .condition)) cs) seen (rowsIn (q .source .table) (d .rows)))
+        ap (λ w. rowLines (satisfies q) w (seenRows d q)) is
+        ∙ ap flatten (map-map (lineOf (satisfies q) cs) seen (rowsIn (q .source .table) (d .rows)))
         ∙ ap (λ f. flatten (map f (rowsIn (q .source .table) (d .rows)))) (λ i r. given-line values same r i)
         ∙ flatten-keep (isGiven d q) (λ r. rowLine cs (values r)) (rowsIn (q .source .table) (d .rows))
 
@@ -214,7 +218,7 @@ gives-exactly d q parts open-parts = record {
   unmatched = count-seen (seen d q parts open-parts) _ (isUnmatchedRow d q) (unmatched-rows d q parts open-parts) (rowsIn (q .source .table) (d .rows));
   selects = λ v cs e h. ap (λ l. l ++ last) (lines-given d q parts open-parts v cs e (λ r. r .values) (λ r w. gapped-line d q parts open-parts v cs e r ∙ whole-line d q parts open-parts v cs e h r w));
   blanks = λ v cs e h. ap (λ l. l ++ last) (lines-given d q parts open-parts v cs e (gappedValues d q) (λ r w. gapped-line d q parts open-parts v cs e r));
-  counts = λ e. ap (λ w. rowLines (matches (q .condition)) w (seenRows d q) ++ last) e;
+  counts = λ e. ap (λ w. rowLines (satisfies q) w (seenRows d q) ++ last) e;
 }
   where
     last : List ℕ
@@ -225,7 +229,7 @@ pub counts-add-up : (d : Doc) (q : Query) (a : Answer) → GivesExactly d q a �
 unfolding isGiven isUnmatchedRow
 counts-add-up d q a g =
     (λ i. g .passed i + g .withheld i + g .unmatched i)
-    ∙ count-three (isWithheldRow d q) (λ r. matches (q .condition) (r .values)) (rowsIn (q .source .table) (d .rows))
+    ∙ count-three (isWithheldRow d q) (λ r. satisfies q (r .values)) (rowsIn (q .source .table) (d .rows))
 
 -- There is only one such answer.
 pub only-answer : (d : Doc) (q : Query) (a b : Answer) → GivesExactly d q a → GivesExactly d q b → a ≡ b

@@ -4,7 +4,7 @@ use Prim.Native.Nat.{suc, zero, ℕ}
 use borrow.Author.Tests.{eqb-true}
 use lib.Dec.{eqb}
 use lib.ListN.{getElem?, length}
-use mathlib.Core.Bool.{Bool, _&&_, _||_, false, true}
+use mathlib.Core.Bool.{Bool, Bool·beq, _&&_, _||_, false, true}
 use mathlib.Core.List.{List, [], _∷_}
 use mathlib.Core.Logic.{_⊎_, inl, inr}
 use mathlib.Core.Option.{Option, Option·none-ne-some, Option·some-injective, bind, bind-eq-some-iff, none, some}
@@ -24,6 +24,7 @@ use Rattle.answer.specs.AlikeRead.{ReadAlike, SameBut}
 use Rattle.answer.specs.AlikeTest.{alike?, bothAlike, bothRows, labelTexts, linesAlike, rowInForm, sameBytes, sameOrFree, sameOrRows, sameRow, sameTexts}
 use Rattle.lists.proofs.Tests.{and-both, and-left, and-right, eqb-self, or-cases, or-left, or-right, true-not-false}
 use Rattle.query.specs.QueryForm.{QueryForm, queryOf}
+use Rattle.text.specs.Amounts.{isRange}
 use Rattle.text.specs.Numbers.{Value}
 use Rattle.text.specs.Refusal.{Result, accepted, refused}
 use Rattle.text.specs.Words.{Word, plainWord}
@@ -54,6 +55,16 @@ unfolding sameTexts
 texts-same [] = refl
 texts-same (s ∷ ss) = and-both (sameBytes s s) _ (bytes-same s) (texts-same ss)
 
+same-bools : (a b : Bool) → Bool·beq a b ≡ true → a ≡ b
+same-bools true true h = refl
+same-bools true false h = true-not-false h refl
+same-bools false true h = true-not-false h refl
+same-bools false false h = refl
+
+bools-same : (a b : Bool) → a ≡ b → Bool·beq a b ≡ true
+bools-same true b e = ap (Bool·beq true) (sym e)
+bools-same false b e = ap (Bool·beq false) (sym e)
+
 module _ (f : ℕ → Bool) where
   values-read : (c : ℕ) (vs ws : List Value) → sameOrFree f c vs ws ≡ true → SameOrFree f c vs ws
   unfolding sameOrFree
@@ -61,16 +72,18 @@ module _ (f : ℕ → Bool) where
   values-read c [] (w ∷ ws) h = true-not-false h refl
   values-read c (v ∷ vs) [] h = true-not-false h refl
   values-read c (v ∷ vs) (w ∷ ws) h =
-      let rest : SameOrFree f (suc c) vs ws = values-read (suc c) vs ws (and-right (sameBytes v w || f c) _ h) in
-      or-cases (sameBytes v w) (f c) (and-left (sameBytes v w || f c) _ h)
+      let kept : Bool = f c && Bool·beq (isRange v) (isRange w) in
+      let rest : SameOrFree f (suc c) vs ws = values-read (suc c) vs ws (and-right (sameBytes v w || kept) _ h) in
+      or-cases (sameBytes v w) kept (and-left (sameBytes v w || kept) _ h)
       (λ e. subst (λ (u : Value). SameOrFree f c (v ∷ vs) (u ∷ ws)) (same-bytes v w e) (same v rest))
-      (λ e. differs v w e rest)
+      (λ e. differs v w (and-left (f c) _ e) (same-bools (isRange v) (isRange w) (and-right (f c) _ e)) rest)
 
   values-tested : {c : ℕ} {vs ws : List Value} → SameOrFree f c vs ws → sameOrFree f c vs ws ≡ true
   unfolding sameOrFree
   values-tested done = refl
-  values-tested {c} (same v r) = and-both (sameBytes v v || f c) _ (or-left (sameBytes v v) (f c) (bytes-same v)) (values-tested r)
-  values-tested {c} (differs v w e r) = and-both (sameBytes v w || f c) _ (or-right (sameBytes v w) (f c) e) (values-tested r)
+  values-tested {c} (same v r) = and-both (sameBytes v v || (f c && Bool·beq (isRange v) (isRange v))) _ (or-left (sameBytes v v) _ (bytes-same v)) (values-tested r)
+  values-tested {c} (differs v w e k r) =
+      and-both (sameBytes v w || (f c && Bool·beq (isRange v) (isRange w))) _ (or-right (sameBytes v w) _ (and-both (f c) _ e (bools-same (isRange v) (isRange w) k))) (values-tested r)
 
 -- ---- row lines
 

@@ -60,7 +60,7 @@ row-kept d e k t ls vs h g = λ i. record {
 pub same-length : {f : ℕ → Bool} {c : ℕ} {vs ws : List Value} → SameOrFree f c vs ws → length vs ≡ length ws
 same-length done = refl
 same-length (same v r) = ap suc (same-length r)
-same-length (differs v w e r) = ap suc (same-length r)
+same-length (differs v w e k r) = ap suc (same-length r)
 
 same-values : {f : ℕ → Bool} (c : ℕ) (vs : List Value) → SameOrFree f c vs vs
 same-values c [] = done

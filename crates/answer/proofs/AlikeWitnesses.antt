@@ -1,4 +1,4 @@
--- Pairs of documents that pin which values may differ (01, "The no-difference claim"; 02, Q-2, Q-8, Q-10), by computation, both ways: for each
+-- Pairs of documents that pin which values may differ (01, "The no-difference claim"; 02, Q-2, Q-8, Q-10, Q-12), by computation, both ways: for each
 -- reason that lets a value differ a pair that is alike for that reason alone, and pairs that are not alike. The claim itself
 -- does not pin the reasons: it gets easier where fewer values are free.
 use Prim.Native.Nat.{ℕ}
@@ -114,6 +114,10 @@ freeValues =
     ∷ alikeFor cells "(blank ana desk ads t (a b))" "(row t (1 open) (2 shut))\n" "(row t (1 open) (-3 shut))\n"
     ∷ alikeFor cells "(blank ana desk ads t (a) (eq b 2))" "(row t (1 open) (2 shut))\n" "(row t (3 open) (4 shut))\n"
     ∷ alikeFor rows "(blank ana desk ads t (a))" "(row t shut 1)\n" "(row t shut 2)\n"
+    -- either end of a range (02, Q-12): closed, in a withheld row, not named; in a query that takes ranges and in one that is 27
+    ∷ alikeFor shutTable "(select ana desk ads t (a))" "(row t (1 2))\n" "(row t (-3 4))\n"
+    ∷ alikeFor cells "(sure ana desk ads t (a b) (gt b 1))" "(row t ((1 5) open) ((2 3) shut))\n" "(row t ((1 9) open) ((0 3) shut))\n"
+    ∷ alikeFor plain "(possible ana desk ads t (a))" "(row t 1 (5 5))\n" "(row t 1 (1 9))\n"
     ∷ []
 
 -- what may not differ
@@ -162,6 +166,13 @@ fixedValues =
     -- a blank's (02, Q-10): open beside a gap, which does not withhold the row; open in the condition, beside a gap
     ∷ unlikeFor cells "(blank ana desk ads t (a b))" "(row t (1 open) (2 shut))\n" "(row t (3 open) (2 shut))\n"
     ∷ unlikeFor cells "(blank ana desk ads t (a) (eq b 2))" "(row t (1 shut) (2 open))\n" "(row t (1 shut) (3 open))\n"
+    -- a range that becomes a number, and a number that becomes a range (02, Q-12), though the cell is closed, not named or in a withheld row
+    ∷ unlikeFor shutTable "(select ana desk ads t (a))" "(row t (1 1))\n" "(row t 1)\n"
+    ∷ unlikeFor plain "(select ana desk ads t (a))" "(row t 1 2)\n" "(row t 1 (2 2))\n"
+    ∷ unlikeFor cells "(sure ana desk ads t (a b))" "(row t (1 open) (2 shut))\n" "(row t (1 open) ((2 3) shut))\n"
+    -- an end of an open range in a named column: selected, in the condition
+    ∷ unlikeFor plain "(sure ana desk ads t (b))" "(row t 1 (2 3))\n" "(row t 1 (2 4))\n"
+    ∷ unlikeFor plain "(possible ana desk ads t (a) (gt b 3))" "(row t 1 (2 3))\n" "(row t 1 (1 3))\n"
     -- a refused document: the second, the first, both
     ∷ unlikeFor plain "" "(row t 1 2)\n" "(row t 1 x)\n"
     ∷ unlikeFor plain "" "(row t 1 x)\n" "(row t 1 2)\n"

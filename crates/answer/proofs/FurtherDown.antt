@@ -13,8 +13,9 @@ use Rattle.document.specs.Open.{cellOpen, columnOpen, labelOpen, rowWithheld, t
 use Rattle.document.specs.Policy.{Doc, Row, treeOf}
 use Rattle.form.specs.Form.{Scheme}
 use Rattle.answer.proofs.AcceptedOrRefused.{answered, is-answered}
-use Rattle.answer.specs.Answer.{answerTo, counted, isWithheld, lineOf, matches, rowLine, rowLines}
+use Rattle.answer.specs.Answer.{answerTo, counted, isWithheld, lineOf, rowLine, rowLines, satisfies}
 use Rattle.answer.specs.Ask.{Answered, answerForm}
+use Rattle.answer.specs.Ranged.{rangedColumn, rangedWord}
 use Rattle.answer.specs.Seen.{Seen, gap, rowsIn, seenIn, seenRow, seenRows, seenValue, seenValues, shown, withheld}
 use Rattle.lists.proofs.Tests.{true-not-false}
 use Rattle.lists.specs.Lists.{countOf, member, orZero}
@@ -137,10 +138,10 @@ module _ (d : Doc) (q : QueryForm) (w : Word) (p : ℕ) (is-p : purposeOf (d .po
   -- Where no gaps are left, Q's answer has P's rows in the same order, perhaps with others between, and withholds no more rows.
   pub further-down : hasGaps (q .wanted) ≡ false → (c : Clock) (r : Answered) → answerForm d c q ≡ accepted r
       → (s : Answered) × (answerForm d c (forPurpose w q) ≡ accepted s)
-      × Sublistᴰ (passedRows (matches (resolved (d .policy) q .condition)) (seenRows d (resolved (d .policy) q)))
-      (passedRows (matches (resolved (d .policy) q .condition)) (seenRows d (resolved (d .policy) (forPurpose w q))))
+      × Sublistᴰ (passedRows (satisfies (resolved (d .policy) q)) (seenRows d (resolved (d .policy) q)))
+      (passedRows (satisfies (resolved (d .policy) q)) (seenRows d (resolved (d .policy) (forPurpose w q))))
       × (s .answer .withheld ≤ r .answer .withheld)
-  unfolding answerTo counted forPurpose unknownColumn mistypedQuery namedWords namedRefs selectedRefs testedRefs selectedWords orZero
+  unfolding answerTo counted forPurpose unknownColumn mistypedQuery namedWords namedRefs selectedRefs testedRefs selectedWords orZero rangedColumn rangedWord
   further-down whole c r h =
       let a = answered d c q r h in
       let parts = names-parts (d .policy) q (columns-known (d .policy) q (a .columns)) in
@@ -157,9 +158,10 @@ module _ (d : Doc) (q : QueryForm) (w : Word) (p : ℕ) (is-p : purposeOf (d .po
           authorised = ap (λ x. firstGrant (d .policy) c (a .user) (orZero x)) is-p ∙ g .1;
           columns = a .columns;
           types = a .types;
+          ranges = a .ranges;
           parts = parts-down (d .policy) q w p is-p below (a .parts);
           is = refl;
         }),
-        rw (resolved-down (d .policy) q w p is-p below) (further-rows (matches (resolved (d .policy) q .condition)) f),
+        rw (resolved-down (d .policy) q w p is-p below) (further-rows (satisfies (resolved (d .policy) q)) f),
         rw (resolved-down (d .policy) q w p is-p below, a .is) (further-withheld f),
       )

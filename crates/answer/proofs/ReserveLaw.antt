@@ -19,7 +19,7 @@ use Rattle.form.specs.Form.{Scheme}
 use Rattle.answer.proofs.EndLines.{end-cost, end-short}
 use Rattle.answer.proofs.RowLines.{AllBelow, Distinct, row-cost, whole-length}
 use Rattle.answer.proofs.ValuesFilled.{accepted-filled, filled, rowsFilled}
-use Rattle.answer.specs.Answer.{answerTo, counted, endLine, isPassed, isUnmatched, isWithheld, lineOf, matches, rowLine, rowLines}
+use Rattle.answer.specs.Answer.{answerTo, counted, endLine, isPassed, isUnmatched, isWithheld, lineOf, rowLine, rowLines, satisfies}
 use Rattle.answer.specs.Ask.{Answered, answerForm, ask, askUnbounded, ifFits}
 use Rattle.answer.specs.Reserve.{IsReserve, SelectsOnce, greatest, larger, reserveOf, wholeLength, wholeLengths, wholeLine}
 use Rattle.answer.specs.Seen.{Seen, rowsIn, seenIn, seenRow, seenRows, seenValues, shown, withheld}
@@ -272,7 +272,7 @@ answer-cost : (d : Doc) (q : Query) (v : Verb) (cs : List ℕ) → q .wanted ≡
     → AllFit (d .policy .tables) (d .rows) → rowsFilled (d .rows) ≡ true → length (answerTo q (seenRows d q) .bytes) ≤ reserveOf d
 unfolding answerTo seenRows seenIn reserveOf wholeLengths
 answer-cost d q v cs w inside u b h g =
-    let f : List Value → Bool = matches (q .condition) in
+    let f : List Value → Bool = satisfies q in
     let see : Row → Seen = seenRow (labelOpen (d .policy) (q .purpose)) (labellingAt (d .policy) (q .source .table)) (q .source .withholding) (q .source .named) in
     let rs : List Row = rowsIn (q .source .table) (d .rows) in
     le-trans
@@ -316,7 +316,8 @@ reserve-covers doc x is = (go, reserve-short (x .doc) (rows .short))
         let f14 = bind-accepted _ _ _ (f13 .2) in
         let f15 = then-accepted _ _ _ (f14 .2) in
         let f16 = then-accepted _ _ _ (f15 .2) in
-        let f17 = then-accepted _ _ _ (f16 .2) in
+        let f27 = then-accepted _ _ _ (f16 .2) in
+        let f17 = then-accepted _ _ _ (f27 .2) in
         let one-form : s .0 ≡ b11 .0 = Option·some-injective _ _ (sym (s .3) ∙ need-accepted _ _ _ (b11 .1)) in
         let one-doc : c .0 .doc ≡ x .doc = ap (λ (y : Accepted). y .doc) (accepted-same (sym (c .1) ∙ is)) in
         subst (λ (y : Answered). length (y .answer .bytes) ≤ reserveOf (x .doc)) (accepted-same (f17 .2) ∙ accepted-same (b18 .2))

@@ -2,33 +2,36 @@
 use Prim.Native.Nat.{_≤_, ℕ}
 use borrow.Author.Tests.{le-leb}
 use lib.ListN.{length}
-use mathlib.Core.Bool.{true}
+use mathlib.Core.Bool.{Bool, cond, false, not, true}
 use mathlib.Core.List.{List, _++_, map}
 use mathlib.Core.Option.{Option, Option·map, Option·some-ne-none, none, some}
 use mathlib.Core.Path.{_∙_, _≡_, ap, refl, subst, sym}
 use Rattle.document.specs.Check.{Accepted, check}
-use Rattle.document.specs.Lookup.{columnsOf, purposeOf, roleOf, userOf}
+use Rattle.document.specs.Lookup.{columnOf, columnsOf, purposeOf, roleOf, tableOf, userOf}
 use Rattle.document.specs.Policy.{Doc, treeOf}
 use Rattle.answer.proofs.AcceptedOrRefused.{Answers, answered, ask-answered, ask-is, is-answered}
 use Rattle.answer.proofs.FurtherDown.{further-down, passedRows, rows-printed}
 use Rattle.answer.proofs.SelectReading.{IsSelect, is-select, other, other-query}
-use Rattle.answer.specs.Answer.{answerTo, counted, endLine, matches, rowLines}
+use Rattle.answer.specs.Answer.{answerTo, counted, endLine, rowLines, satisfies}
 use Rattle.answer.specs.Ask.{Answered, ask}
 use Rattle.answer.specs.Further.{Contains, GivenFurtherDown, Prints, SelectsBelow, selectText}
+use Rattle.answer.specs.Ranged.{rangedColumn, rangedWord}
 use Rattle.answer.specs.Seen.{Seen, seenRows}
 use Rattle.answer.specs.Session.{answers}
 use Rattle.lists.specs.Lists.{orZero}
 use Rattle.purpose.specs.Compliance.{descends}
 use Rattle.query.proofs.Below.{forPurpose}
 use Rattle.query.proofs.NamedColumns.{columnNumber}
-use Rattle.query.proofs.QueryPlaceless.{closed-placeless, column-placeless, party-placeless, placelessQuery, resolved-placeless, types-placeless}
+use Rattle.query.proofs.QueryPlaceless.{closed-placeless, column-placeless, missing-placeless, named-placeless, party-placeless, placelessQuery, resolved-placeless, types-placeless}
+use Rattle.query.proofs.WantedLaws.{ranges-map}
 use Rattle.query.specs.Authority.{Clock}
 use Rattle.query.specs.Query.{Query, resolved, wantedOf}
-use Rattle.query.specs.QueryForm.{QueryForm, hasGaps, leavesGaps, mapWanted, rowsOf, select}
+use Rattle.query.specs.QueryForm.{QueryForm, admitsRanges, hasGaps, leavesGaps, mapWanted, namedWords, rowsOf, select}
 use Rattle.text.proofs.ReadBack.{placeless}
 use Rattle.text.proofs.RefusalLaws.{accepted-same}
 use Rattle.text.specs.Bytes.{ascii}
 use Rattle.text.specs.Names.{Name, isName, sameName}
+use Rattle.text.specs.Offending.{missing}
 use Rattle.text.specs.Refusal.{accepted}
 use Rattle.text.specs.Words.{Word, isCalled, plainWord}
 
@@ -40,6 +43,21 @@ none-map o e = rw e
 map-none : (o : Option Word) → Option·map placeless o ≡ none → o ≡ none
 map-none none e = refl
 map-none (some w) e = absurd (Option·some-ne-none _ e)
+
+ranged-placeless : (d : Doc) (q : QueryForm) → rangedColumn d (placelessQuery q) ≡ Option·map placeless (rangedColumn d q)
+unfolding rangedColumn
+ranged-placeless d q = ap (λ b. cond b none (missing (λ w. not (rangedWord d (placelessQuery q) w)) (namedWords (placelessQuery q)))) admits ∙ go (admitsRanges (q .wanted))
+  where
+    admits : admitsRanges (placelessQuery q .wanted) ≡ admitsRanges (q .wanted)
+    admits = unfold placelessQuery in ranges-map placeless (q .wanted)
+
+    words : missing (λ w. not (rangedWord d (placelessQuery q) w)) (namedWords (placelessQuery q)) ≡ Option·map placeless (missing (λ w. not (rangedWord d q w)) (namedWords q))
+    words = unfold rangedWord tableOf columnsOf columnOf isCalled placeless plainWord placelessQuery in
+        ap (missing (λ w. not (rangedWord d q w))) (named-placeless q) ∙ missing-placeless (λ w. not (rangedWord d q w)) (λ w. refl) (namedWords q)
+
+    go : (b : Bool) → cond b none (missing (λ w. not (rangedWord d (placelessQuery q) w)) (namedWords (placelessQuery q))) ≡ Option·map placeless (cond b none (missing (λ w. not (rangedWord d q w)) (namedWords q)))
+    go true = refl
+    go false = words
 
 -- the answer to a resolved query
 abbrev answerOf : Doc → ℕ → Query → Answered
@@ -55,6 +73,7 @@ answers-placeless d c q r a = record {
   authorised = a .authorised;
   columns = column-placeless (d .policy) q ∙ none-map _ (a .columns);
   types = types-placeless (d .policy) q ∙ none-map _ (a .types);
+  ranges = ranged-placeless d q ∙ none-map _ (a .ranges);
   parts = closed-placeless (d .policy) q ∙ none-map _ (a .parts);
   is = a .is ∙ ap (answerOf d (a .grant)) (sym (resolved-placeless (d .policy) q));
 }
@@ -69,23 +88,24 @@ answers-placed d c q r a = record {
   authorised = a .authorised;
   columns = map-none _ (sym (column-placeless (d .policy) q) ∙ a .columns);
   types = map-none _ (sym (types-placeless (d .policy) q) ∙ a .types);
+  ranges = map-none _ (sym (ranged-placeless d q) ∙ a .ranges);
   parts = map-none _ (sym (closed-placeless (d .policy) q) ∙ a .parts);
   is = a .is ∙ ap (answerOf d (a .grant)) (resolved-placeless (d .policy) q);
 }
 
 -- ---- what an answer prints
 
-prints-answer : (q : Query) (cs : List ℕ) (rs : List Seen) → q .wanted ≡ rowsOf select cs → Prints (answerTo q rs) cs (passedRows (matches (q .condition)) rs)
+prints-answer : (q : Query) (cs : List ℕ) (rs : List Seen) → q .wanted ≡ rowsOf select cs → Prints (answerTo q rs) cs (passedRows (satisfies q) rs)
 unfolding Prints answerTo counted
 prints-answer q cs rs e =
-    ap (λ l. l ++ endLine (answerTo q rs .passed) (answerTo q rs .withheld) (answerTo q rs .unmatched)) (ap (λ w. rowLines (matches (q .condition)) w rs) e ∙ rows-printed (matches (q .condition)) select cs rs)
+    ap (λ l. l ++ endLine (answerTo q rs .passed) (answerTo q rs .withheld) (answerTo q rs .unmatched)) (ap (λ w. rowLines (satisfies q) w rs) e ∙ rows-printed (satisfies q) select cs rs)
 
 -- an answered select prints its passed rows
 answer-prints : (d : Doc) (c : Clock) (q : QueryForm) (a : Answered) (ws : List Word) → q .wanted ≡ rowsOf select ws → Answers d c q a
-    → Prints (a .answer) (map (columnNumber (columnsOf (d .policy) (q .table))) ws) (passedRows (matches (resolved (d .policy) q .condition)) (seenRows d (resolved (d .policy) q)))
+    → Prints (a .answer) (map (columnNumber (columnsOf (d .policy) (q .table))) ws) (passedRows (satisfies (resolved (d .policy) q)) (seenRows d (resolved (d .policy) q)))
 answer-prints d c q a ws e x =
     let cs : List ℕ = map (columnNumber (columnsOf (d .policy) (q .table))) ws in
-    subst (λ (b : Answered). Prints (b .answer) cs (passedRows (matches (resolved (d .policy) q .condition)) (seenRows d (resolved (d .policy) q)))) (sym (x .is))
+    subst (λ (b : Answered). Prints (b .answer) cs (passedRows (satisfies (resolved (d .policy) q)) (seenRows d (resolved (d .policy) q)))) (sym (x .is))
     (prints-answer (resolved (d .policy) q) cs (seenRows d (resolved (d .policy) q)) wanted)
   where
     wanted : resolved (d .policy) q .wanted ≡ rowsOf select (map (columnNumber (columnsOf (d .policy) (q .table))) ws)
@@ -99,7 +119,7 @@ further-answered : (doc : List ℕ) (A : Accepted) → check doc ≡ accepted A
     → (c : Clock) (room : ℕ) (a : Answered) → ask doc (selectText k u r p rest) c room ≡ accepted a
     → length (selectText k u r p′ rest) ≤ 4096
     → (s : Answered) × ((room′ : ℕ) → length (s .answer .bytes) ≤ room′ → ask doc (selectText k u r p′ rest) c room′ ≡ accepted s) × Contains (a .answer) (s .answer)
-unfolding purposeOf isCalled plainWord other orZero IsSelect forPurpose placelessQuery resolved
+unfolding purposeOf isCalled plainWord other orZero IsSelect forPurpose placelessQuery resolved satisfies
 further-answered doc A is-A k u r p p′ rest is-k is-u is-r is-p is-p′ n n′ known-p known-p′ below c room a h short =
     let d : Doc = A .doc in
     let x = ask-answered doc _ c room a h in
@@ -118,8 +138,8 @@ further-answered doc A is-A k u r p p′ rest is-k is-u is-r is-p is-p′ n n′
       λ room′ fits. ask-is doc _ c room′ s (record { checked = A; form = q′; accepts = is-A; clock = x .clock; reads = y .1; answers = t′; fits = fits }),
       record {
         columns = map (columnNumber (columnsOf (d .policy) (q .table))) (sel .1);
-        rows = passedRows (matches (resolved (d .policy) q .condition)) (seenRows d (resolved (d .policy) q));
-        rows′ = passedRows (matches (resolved (d .policy) q .condition)) (seenRows d (resolved (d .policy) (forPurpose w q)));
+        rows = passedRows (satisfies (resolved (d .policy) q)) (seenRows d (resolved (d .policy) q));
+        rows′ = passedRows (satisfies (resolved (d .policy) q)) (seenRows d (resolved (d .policy) (forPurpose w q)));
         prints = answer-prints d c q a (sel .1) (sel .2) answers;
         prints′ = answer-prints d c (forPurpose w q) s (sel .1) (sel .2) t;
         inOrder = z .2;

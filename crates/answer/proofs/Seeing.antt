@@ -1,28 +1,33 @@
 -- Two lists of rows that differ only in values that are free to differ are seen alike by every query that is not refused.
 -- Assumes nothing.
-use Prim.Native.Nat.{ℕ}
+use Prim.Native.Nat.{suc, zero, ℕ}
 use lib.Dec.{eqb}
-use mathlib.Core.Bool.{Bool, _&&_, cond, false, true}
+use lib.ListN.{getD}
+use mathlib.Core.Bool.{Bool, _&&_, cond, false, not, true}
 use mathlib.Core.List.{List, [], _∷_, map}
 use mathlib.Core.Option.{Option, none, some}
 use mathlib.Core.Path.{_∙_, _≡_, ap, refl, sym}
-use Rattle.document.specs.Lookup.{labellingAt, purposeOf, userOf}
+use Rattle.document.specs.Lookup.{columnOf, columnsOf, labellingAt, purposeOf, tableOf, userOf}
 use Rattle.document.specs.Open.{cellOpen, labelOpen, rowWithheld}
 use Rattle.document.specs.Policy.{Policy, Row}
 use Rattle.form.specs.Form.{Scheme}
 use Rattle.answer.specs.Alike.{SameOrFree, differs, done, free, same, sees}
 use Rattle.answer.specs.Answer.{answerTo}
 use Rattle.answer.specs.Ask.{answerForm}
+use Rattle.answer.specs.Ranged.{hasRange, rangedAt, rangedColumn, rangedWord}
 use Rattle.answer.specs.Seen.{Seen, gap, rowsIn, seenIn, seenRow, seenRows, seenValue, seenValues, shown, withheld}
 use Rattle.query.proofs.NamedColumns.{purpose-known, source-known}
 use Rattle.query.specs.Authority.{Clock, firstGrant}
 use Rattle.query.specs.Query.{Source, closedPart, mistypedQuery, resolved, sources, unknownColumn, unknownParty}
-use Rattle.query.specs.QueryForm.{QueryForm}
+use Rattle.query.specs.QueryForm.{QueryForm, admitsRanges, namedWords}
 use Rattle.text.proofs.RefusalLaws.{bind-cong, refuseAt-accepted, then-cong}
 use Rattle.lists.proofs.Tests.{true-not-false}
 use Rattle.lists.specs.Lists.{anyOf, holdsOf, keep, member, orZero}
+use Rattle.text.specs.Amounts.{isRange}
 use Rattle.text.specs.Numbers.{Value}
-use Rattle.text.specs.Refusal.{accepted, need, pointing, query, refuseAt}
+use Rattle.text.specs.Offending.{missing}
+use Rattle.text.specs.Refusal.{_>>_, accepted, need, pointing, query, refuseAt}
+use Rattle.text.specs.Words.{Word}
 
 -- two rows of one table with the same labels, whose values are the same or free to differ
 pub record RowAlike (d : Policy) (q : Option QueryForm) (r s : Row) : Type 0 where
@@ -40,7 +45,7 @@ seenValues-same : (f o : ℕ → Bool) (ns : List ℕ) → ((c : ℕ) → f c �
 unfolding seenValues seenValue
 seenValues-same f o ns h done = refl
 seenValues-same f o ns h (same {c} v r) = ap (λ l. seenValue o ns c v ∷ l) (seenValues-same f o ns h r)
-seenValues-same f o ns h (differs {c} v w e r) = λ i. unseen (member c ns) (o c) (h c e) i ∷ seenValues-same f o ns h r i
+seenValues-same f o ns h (differs {c} v w e k r) = λ i. unseen (member c ns) (o c) (h c e) i ∷ seenValues-same f o ns h r i
   where
     unseen : (named opened : Bool) → (named && opened) ≡ false → cond named (cond opened v gap) [] ≡ cond named (cond opened w gap) []
     unseen false opened k = refl
@@ -106,6 +111,30 @@ module _ (d : Policy) (q : QueryForm) (known-party : unknownParty d q ≡ none) 
   unfolding seenRows seenIn rowsIn
   seen-same a = mapped-same (λ r. eqb (r .table) (source .table)) seen (λ x y b. rw (b .table)) row-seen a
 
+-- alike values are ranges in the same columns
+ranges-alike : {f : ℕ → Bool} {c : ℕ} {vs ws : List Value} → SameOrFree f c vs ws → (k : ℕ) → isRange (getD vs k []) ≡ isRange (getD ws k [])
+ranges-alike done k = refl
+ranges-alike (same v r) zero = refl
+ranges-alike (same v r) (suc k) = ranges-alike r k
+ranges-alike (differs v w e h r) zero = h
+ranges-alike (differs v w e h r) (suc k) = ranges-alike r k
+
+-- so alike rows have ranges in the same columns
+ranged-same : {d : Policy} {q : Option QueryForm} (t c : ℕ) {rs ss : List Row} → RowsAlike d q rs ss → anyOf (rangedAt c) (rowsIn t rs) ≡ anyOf (rangedAt c) (rowsIn t ss)
+unfolding rowsIn keep anyOf rangedAt
+ranged-same t c noRows = refl
+ranged-same t c (rowAnd {r} {s} {rs} {ss} a as′) = go (eqb (r .table) t) refl (ranged-same t c as′)
+  where
+    go : (b : Bool) → eqb (r .table) t ≡ b → anyOf (rangedAt c) (rowsIn t rs) ≡ anyOf (rangedAt c) (rowsIn t ss)
+        → anyOf (rangedAt c) (rowsIn t (r ∷ rs)) ≡ anyOf (rangedAt c) (rowsIn t (s ∷ ss))
+    go true e rest = unfold rowsIn keep anyOf rangedAt in rw (a .table, e, ranges-alike (a .values) c, rest)
+    go false e rest = unfold rowsIn keep anyOf rangedAt in rw (a .table, e, rest)
+
+-- and 27 is the same of both documents
+range-fault : (d : Policy) (rs ss : List Row) (q : QueryForm) → RowsAlike d (some q) rs ss → rangedColumn (record { policy = d; rows = rs }) q ≡ rangedColumn (record { policy = d; rows = ss }) q
+unfolding rangedColumn rangedWord hasRange
+range-fault d rs ss q a = λ i. cond (admitsRanges (q .wanted)) none (missing (λ w. not (ranged-same (orZero (tableOf d (q .table))) (orZero (columnOf (columnsOf d (q .table)) w)) a i)) (namedWords q))
+
 -- Documents of one policy whose rows differ only in free values give the query the same outcome.
 pub same-outcome : (d : Policy) (rs ss : List Row) (c : Clock) (q : QueryForm) → RowsAlike d (some q) rs ss
     → answerForm (record { policy = d; rows = rs }) c q ≡ answerForm (record { policy = d; rows = ss }) c q
@@ -116,6 +145,8 @@ same-outcome d rs ss c q a =
     bind-cong (need (firstGrant d c u (orZero (purposeOf d (q .purpose)))) (pointing 14 query (q .purpose))) _ _ (λ g _.
     then-cong (refuseAt 15 query (unknownColumn d q)) _ _ (λ _ columns.
     then-cong (refuseAt 16 query (mistypedQuery d q)) _ _ (λ _ _.
+    ap (λ (o : Option Word). refuseAt 27 query o >> (refuseAt 17 query (closedPart d q) >> accepted (record { answer = answerTo (resolved d q) (seenRows (record { policy = d; rows = rs }) (resolved d q)); grant = g }))) (range-fault d rs ss q a)
+    ∙ then-cong (refuseAt 27 query (rangedColumn (record { policy = d; rows = ss }) q)) _ _ (λ _ _.
     then-cong (refuseAt 17 query (closedPart d q)) _ _ (λ _ _.
     ap (λ seen. accepted (record { answer = answerTo (resolved d q) seen; grant = g }))
-    (seen-same d q (refuseAt-accepted 12 query _ party) (refuseAt-accepted 15 query _ columns) a)))))))
+    (seen-same d q (refuseAt-accepted 12 query _ party) (refuseAt-accepted 15 query _ columns) a))))))))

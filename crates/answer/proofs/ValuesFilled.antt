@@ -13,16 +13,19 @@ use Rattle.document.specs.Check.{Accepted, check, checkFrom, checkLine}
 use Rattle.document.specs.Lookup.{columnsOf, schemeOf}
 use Rattle.document.specs.Meaning.{add, rowMeant, rowsGiven}
 use Rattle.document.specs.Policy.{Column, Doc, Policy, Row, emptyDoc}
-use Rattle.document.specs.TypeFaults.{mistypedValue, wrongType}
+use Rattle.document.specs.TypeFaults.{cellHasKind, mistypedValue, wrongType}
 use Rattle.document.specs.ValueFaults.{misfit, rowValues}
 use Rattle.form.specs.Form.{Form, Item, attr, condRole, grant, label, note, purpose, role, row, table, user}
 use Rattle.lists.proofs.KeptLaws.{all-append}
 use Rattle.lists.proofs.ListLaws.{all-map}
 use Rattle.lists.specs.Lists.{allOf, isEmpty, there}
 use Rattle.text.proofs.OffendingLaws.{leftmost-head, leftmost-tail, unless-none}
+use Rattle.text.specs.Amounts.{isRange, range, rangeOf}
+use Rattle.text.specs.Brackets.{bracketed}
 use Rattle.text.specs.Bytes.{isLetter}
 use Rattle.text.specs.Names.{isName}
 use Rattle.text.specs.Numbers.{Value, isNumber, rank}
+use Rattle.text.specs.Reader.{byte, ended, whole}
 use Rattle.text.specs.Refusal.{accepted}
 use Rattle.text.specs.Words.{Word}
 
@@ -35,8 +38,8 @@ unfoldable pub rowsFilled : List Row → Bool
 rowsFilled rs = allOf (λ r. allOf filled (r .values)) rs
 
 -- a value of either type has
-kind-filled : (k : Kind) (v : Value) → hasKind k v ≡ true → filled v ≡ true
-unfolding hasKind isNumber there rank isName filled isLetter
+kind-filled : (k : Kind) (v : Value) → cellHasKind k v ≡ true → filled v ≡ true
+unfolding cellHasKind isRange rangeOf whole ended range bracketed byte hasKind isNumber there rank isName filled isLetter
 kind-filled numbers [] h = absurd (true≢false (sym h))
 kind-filled numbers (b ∷ bs) h = refl
 kind-filled names [] h = absurd (true≢false (sym h))

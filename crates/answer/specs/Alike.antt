@@ -17,9 +17,10 @@ use Rattle.query.specs.Query.{Source, sources}
 use Rattle.query.specs.QueryForm.{QueryForm, queryOf}
 use Rattle.text.specs.Lines.{cut}
 use Rattle.lists.specs.Lists.{allOf, anyOf, holdsOf, member, orZero}
+use Rattle.text.specs.Amounts.{isCellValue, isRange}
 use Rattle.text.specs.Bytes.{ascii}
 use Rattle.text.specs.Names.{Name, isName, sameName}
-use Rattle.text.specs.Numbers.{Value, isValue}
+use Rattle.text.specs.Numbers.{Value}
 use Rattle.text.specs.Refusal.{accepted}
 use Rattle.text.specs.Words.{plainWord}
 
@@ -39,11 +40,12 @@ unfoldable pub free : Policy → Option QueryForm → Row → ℕ → Bool
 free d none r c = true
 free d (some q) r c = not (holdsOf (λ p. anyOf (sees d p r c) (sources d q)) (purposeOf d (q .purpose)))
 
--- two lists of values, the first for column c: each value is the same or free to differ
+-- two lists of values, the first for column c: each value is the same or free to differ, but a range stays one, and what is none
+-- becomes none (02, Q-12)
 pub data SameOrFree (f : ℕ → Bool) : ℕ → List Value → List Value → Type 0 where
   done : {c : ℕ} → SameOrFree f c [] []
   same : {c : ℕ} (v : Value) {vs ws : List Value} → SameOrFree f (suc c) vs ws → SameOrFree f c (v ∷ vs) (v ∷ ws)
-  differs : {c : ℕ} (v w : Value) {vs ws : List Value} → f c ≡ true → SameOrFree f (suc c) vs ws → SameOrFree f c (v ∷ vs) (w ∷ ws)
+  differs : {c : ℕ} (v w : Value) {vs ws : List Value} → f c ≡ true → isRange v ≡ isRange w → SameOrFree f (suc c) vs ws → SameOrFree f c (v ∷ vs) (w ∷ ws)
 
 -- the row that a row line of these parts means
 unfoldable pub rowOf : Policy → Name → List Name → List Value → Row
@@ -63,7 +65,7 @@ pub record RowLine (d : Policy) (line : List ℕ) : Type 0 where
   pub isRow : sameName keyword (ascii "row") ≡ true
   pub isTable : isName table ≡ true
   pub areLabels : allOf isName labels ≡ true
-  pub areValues : allOf isValue values ≡ true
+  pub areValues : allOf isCellValue values ≡ true
   pub enoughLabels : length labels ≡ labelCount (schemeOf d (plainWord table)) (length values)
   pub written : line ≡ rowText (schemeOf d (plainWord table)) keyword table labels values
 
@@ -78,8 +80,8 @@ pub record AlikeRows (d : Policy) (q : Option QueryForm) (line line′ : List �
   pub isRow : sameName keyword (ascii "row") ≡ true
   pub isTable : isName table ≡ true
   pub areLabels : allOf isName labels ≡ true
-  pub areValues : allOf isValue values ≡ true
-  pub areValues′ : allOf isValue values′ ≡ true
+  pub areValues : allOf isCellValue values ≡ true
+  pub areValues′ : allOf isCellValue values′ ≡ true
   pub enoughLabels : length labels ≡ labelCount (schemeOf d (plainWord table)) (length values)
   pub written : line ≡ rowText (schemeOf d (plainWord table)) keyword table labels values
   pub written′ : line′ ≡ rowText (schemeOf d (plainWord table)) keyword table labels values′

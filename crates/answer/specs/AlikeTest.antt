@@ -2,7 +2,7 @@
 -- (proofs/AlikeDecided), and so it can be tried on examples, both ways (proofs/AlikeWitnesses).
 use Prim.Native.Nat.{suc, ℕ}
 use lib.Dec.{eqb}
-use mathlib.Core.Bool.{Bool, _&&_, _||_, false, true}
+use mathlib.Core.Bool.{Bool, Bool·beq, _&&_, _||_, false, true}
 use mathlib.Core.List.{List, [], _∷_, map}
 use mathlib.Core.Option.{Option, bind, none, some}
 use Rattle.document.specs.Check.{Accepted, check}
@@ -15,6 +15,7 @@ use Rattle.form.specs.FormReader.{formOf}
 use Rattle.form.specs.RowText.{keywordIn}
 use Rattle.answer.specs.Alike.{free, linesOf}
 use Rattle.query.specs.QueryForm.{QueryForm, queryOf}
+use Rattle.text.specs.Amounts.{isRange}
 use Rattle.text.specs.Numbers.{Value}
 use Rattle.text.specs.Refusal.{Result, accepted, refused}
 use Rattle.text.specs.Words.{Word}
@@ -33,12 +34,12 @@ sameTexts [] (t ∷ ts) = false
 sameTexts (s ∷ ss) [] = false
 sameTexts (s ∷ ss) (t ∷ ts) = sameBytes s t && sameTexts ss ts
 
--- each value, the first being that of column c, is the same in both lists or free to differ
+-- each value, the first being that of column c, is the same in both lists or free to differ, both being ranges or neither
 unfoldable pub sameOrFree : (ℕ → Bool) → ℕ → List Value → List Value → Bool
 sameOrFree f c [] [] = true
 sameOrFree f c [] (w ∷ ws) = false
 sameOrFree f c (v ∷ vs) [] = false
-sameOrFree f c (v ∷ vs) (w ∷ ws) = (sameBytes v w || f c) && sameOrFree f (suc c) vs ws
+sameOrFree f c (v ∷ vs) (w ∷ ws) = (sameBytes v w || (f c && Bool·beq (isRange v) (isRange w))) && sameOrFree f (suc c) vs ws
 
 -- the table and the items of a row form
 unfoldable pub rowInForm : Form → Option (Word × List Item)

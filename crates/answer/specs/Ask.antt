@@ -1,4 +1,4 @@
--- Meaning: asking (01, "Asking"): the outcome of a query over a document, and the lent buffer afterwards.
+-- Meaning: asking (01, "Asking"; 02, Q-12): the outcome of a query over a document, and the lent buffer afterwards.
 use Prim.Native.Nat.{ℕ}
 use lib.Dec.{ltb}
 use lib.ListN.{drop, length, take}
@@ -8,6 +8,7 @@ use Rattle.document.specs.Check.{check}
 use Rattle.document.specs.Lookup.{purposeOf, userOf}
 use Rattle.document.specs.Policy.{Doc}
 use Rattle.answer.specs.Answer.{Answer, answerTo}
+use Rattle.answer.specs.Ranged.{rangedColumn}
 use Rattle.answer.specs.Seen.{seenRows}
 use Rattle.query.specs.Authority.{Clock, firstGrant, inRange}
 use Rattle.query.specs.Query.{closedPart, mistypedQuery, resolved, unknownColumn, unknownParty}
@@ -24,7 +25,7 @@ pub record Answered : Type 0 where
 abbrev pub Outcome : Type 0
 Outcome = Result Answered
 
--- 12 to 17 in order, and then the answer
+-- 12 to 16, 27 and 17, in this order, and then the answer
 unfoldable pub answerForm : Doc → Clock → QueryForm → Outcome
 answerForm d c q = do
   refuseAt 12 query (unknownParty (d .policy) q)
@@ -32,11 +33,12 @@ answerForm d c q = do
   g ← need (firstGrant (d .policy) c u (orZero (purposeOf (d .policy) (q .purpose)))) (pointing 14 query (q .purpose))
   refuseAt 15 query (unknownColumn (d .policy) q)
   refuseAt 16 query (mistypedQuery (d .policy) q)
+  refuseAt 27 query (rangedColumn d q)
   refuseAt 17 query (closedPart (d .policy) q)
   accepted (record { answer = answerTo (resolved (d .policy) q) (seenRows d (resolved (d .policy) q)); grant = g })
 
--- what asking gives, the lent buffer's length aside: the document's refusal, or the query's of the lowest number but 18, or
--- the answer
+-- what asking gives, the lent buffer's length aside: the document's refusal, or the query's first but 18, or the
+-- answer
 unfoldable pub askUnbounded : (doc text : List ℕ) (clock : Clock) → Outcome
 askUnbounded doc text c = do
   a ← check doc

@@ -7,10 +7,12 @@ use Rattle.form.specs.Computing as form
 use Rattle.document.specs.Computing as document
 use Rattle.query.specs.Computing as query
 use Rattle.answer.specs.Seen as Seen
+use Rattle.answer.specs.Ranged as Ranged
 use Rattle.answer.specs.Answer as Answer
 use Rattle.answer.specs.Ask as Ask
 use Rattle.answer.specs.Faults as Faults
 use Rattle.answer.specs.Exactly as Exactly
+use Rattle.answer.specs.Choices as Choices
 use Rattle.answer.specs.Reserve as Reserve
 use Rattle.answer.specs.Alike as Alike
 use Rattle.answer.specs.AlikeTest as AlikeTest
@@ -18,5 +20,5 @@ use Rattle.answer.specs.Further as Further
 use Rattle.answer.specs.Session as Session
 
 unfoldable pub computing : Unit {0}
-unfolding mathlib.Core.Option.bind mathlib.Core.List.flatten lists.computing purpose.computing text.computing condition.computing form.computing document.computing query.computing Seen.gap Seen.seenValue Seen.seenValues Seen.seenRow Seen.rowsIn Seen.seenIn Seen.seenRows Answer.matches Answer.rowLine Answer.endLine Answer.isWithheld Answer.isPassed Answer.isUnmatched Answer.lineOf Answer.rowLines Answer.counted Answer.answerTo Ask.answerForm Ask.askUnbounded Ask.ifFits Ask.ask Ask.measure Ask.after Ask.pointedText Ask.partOf Faults.firstFault Faults.refusalNumber Faults.formFaults Faults.formAnswer Faults.queryFaults Faults.askFaults Exactly.isWithheldRow Exactly.isGiven Exactly.isUnmatchedRow Exactly.withGaps Exactly.gappedValues Reserve.columnsFrom Reserve.wholeLine Reserve.wholeLength Reserve.wholeLengths Reserve.larger Reserve.greatest Reserve.reserveOf Reserve.checked Reserve.SelectsOnce Reserve.IsReserve Alike.sees Alike.free Alike.rowOf Alike.linesOf AlikeTest.sameBytes AlikeTest.sameTexts AlikeTest.sameOrFree AlikeTest.rowInForm AlikeTest.labelTexts AlikeTest.sameRow AlikeTest.bothRows AlikeTest.sameOrRows AlikeTest.linesAlike AlikeTest.bothAlike AlikeTest.alike? Further.selectText Further.Prints Session.sourceName Session.refusalLine Session.printed Session.natural Session.clockNumbers Session.clockInLine Session.linesIn Session.programRoom Session.answers Session.writes Session.session
+unfolding mathlib.Core.Option.bind mathlib.Core.List.flatten lists.computing purpose.computing text.computing condition.computing form.computing document.computing query.computing Seen.gap Seen.seenValue Seen.seenValues Seen.seenRow Seen.rowsIn Seen.seenIn Seen.seenRows Ranged.rangedAt Ranged.hasRange Ranged.rangedWord Ranged.rangedColumn Answer.matches Answer.satisfies Answer.rowLine Answer.endLine Answer.isWithheld Answer.isPassed Answer.isUnmatched Answer.lineOf Answer.rowLines Answer.counted Answer.answerTo Ask.answerForm Ask.askUnbounded Ask.ifFits Ask.ask Ask.measure Ask.after Ask.pointedText Ask.partOf Faults.firstFault Faults.refusalNumber Faults.formFaults Faults.formAnswer Faults.queryFaults Faults.askFaults Exactly.isWithheldRow Exactly.isGiven Exactly.isUnmatchedRow Exactly.withGaps Exactly.gappedValues Choices.asking Reserve.columnsFrom Reserve.wholeLine Reserve.wholeLength Reserve.wholeLengths Reserve.larger Reserve.greatest Reserve.reserveOf Reserve.checked Reserve.SelectsOnce Reserve.IsReserve Alike.sees Alike.free Alike.rowOf Alike.linesOf AlikeTest.sameBytes AlikeTest.sameTexts AlikeTest.sameOrFree AlikeTest.rowInForm AlikeTest.labelTexts AlikeTest.sameRow AlikeTest.bothRows AlikeTest.sameOrRows AlikeTest.linesAlike AlikeTest.bothAlike AlikeTest.alike? Further.selectText Further.Prints Session.sourceName Session.refusalLine Session.printed Session.natural Session.clockNumbers Session.clockInLine Session.linesIn Session.programRoom Session.answers Session.writes Session.session
 computing = tt

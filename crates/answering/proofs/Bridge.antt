@@ -9,7 +9,7 @@ use mathlib.Core.Option.{Option, some}
 use mathlib.Core.Path.{_∙_, _≡_, ap, refl, subst, sym}
 use native.Mathlib.Omega.{arith}
 use Rattle.answer.proofs.AccountedRows.{gives-exactly, line-agree, open-whole}
-use Rattle.answer.specs.Answer.{Answer, answerTo, counted, endLine, matches, rowLine}
+use Rattle.answer.specs.Answer.{Answer, answerTo, counted, endLine, rowLine, satisfies}
 use Rattle.answer.specs.Exactly.{GivesExactly, gappedValues, isGiven, isWithheldRow, withGaps}
 use Rattle.answer.specs.Seen.{rowsIn, seenRows}
 use Rattle.judging.proofs.FateLaws.{judgeable}
@@ -141,7 +141,7 @@ module _ {text ts ws : List ℕ} {count : ℕ} {os : List Bool} {s : List ℕ} {
           ap (λ (y : Scheme ℕ). rowWithheld isOpen y (q .source .named) (r .labels)) scheme-is
           ∙ columns-alike isOpen (notesOf (d .policy .notes) (q .source .table)) (ready .label) (ready .labels) code own (q .source .named) (q .source .withholding) (r .labels)
           ∙ ap (λ (y : Scheme ℕ). rowWithheld isOpen y (q .source .withholding) (r .labels)) (sym scheme-is)
-          ∙ not-true (isWithheldRow d q r) (and-left (not (isWithheldRow d q r)) (matches (q .condition) (r .values)) given)
+          ∙ not-true (isWithheldRow d q r) (and-left (not (isWithheldRow d q r)) (satisfies q (r .values)) given)
 
   -- so its line has no gap
   line-ungapped : labelsCells code ≡ false → q .wanted ≡ wantedBy true (g .verb) chosen → (r : Row) → isGiven d q r ≡ true → rowLine chosen (r .values) ≡ rowLine chosen (gappedValues d q r)

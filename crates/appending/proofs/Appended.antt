@@ -51,7 +51,7 @@ module _ (t l : Name) (nameT : isName t ≡ true) (nameL : isName l ≡ true) (p
   line-checked : (e : Entry) (rs : List Row) → allOf isValue (e .fields) ≡ true → Takes (docWith rs) t l e
       → checkLine (docWith rs) (rowText oneLabel (ascii "row") t (l ∷ []) (e .fields)) ≡ accepted (docWith (rs ++ (rowWith e ∷ [])))
   unfolding withRow
-  line-checked e rs v k = let r = row-of t l (e .fields) nameT nameL v in row-accepts (docWith rs) e (r .2) s (rowText oneLabel (ascii "row") t (l ∷ []) (e .fields)) (r .1) k
+  line-checked e rs v k = let r = row-of t l (e .fields) nameT nameL v in row-accepts (docWith rs) e (r .2) s (rowText oneLabel (ascii "row") t (l ∷ []) (e .fields)) (r .1) v k
 
   -- the first line, and those behind it
   one-checked : (e : Entry) (es : List Entry) (rs : List Row) (n at : ℕ) → allOf isValue (e .fields) ≡ true → Takes (docWith rs) t l e

@@ -8,9 +8,8 @@ use mathlib.Core.List.{List, [], _∷_, map}
 use mathlib.Core.Option.{Option, Option·none-ne-some, Option·some-injective, none, some}
 use mathlib.Core.Path.{_≡_, ap, refl, subst₂}
 use Rattle.appending.specs.Appended.{fitsColumns}
-use Rattle.condition.specs.Kinds.{hasKind}
 use Rattle.document.specs.Policy.{Column}
-use Rattle.document.specs.TypeFaults.{mistypedValue}
+use Rattle.document.specs.TypeFaults.{cellHasKind, mistypedValue}
 use Rattle.csv.specs.Records.{Entry}
 use Rattle.lists.proofs.ListLaws.{there-none}
 use Rattle.lists.proofs.Tests.{and-both, and-left, and-right}
@@ -21,16 +20,16 @@ use Rattle.text.specs.Words.{Word, plainWord}
 
 -- each value is of its column's type
 pub record Typed (cs : List Column) (vs : List Value) : Type 0 where
-  pub each : (i : ℕ) (c : Column) (v : Value) → getElem? cs i ≡ some c → getElem? vs i ≡ some v → hasKind (c .kind) v ≡ true
+  pub each : (i : ℕ) (c : Column) (v : Value) → getElem? cs i ≡ some c → getElem? vs i ≡ some v → cellHasKind (c .kind) v ≡ true
 
 typed-if : (cs : List Column) (vs : List Value) → mistypedValue cs (map plainWord vs) ≡ none → Typed cs vs
 typed-if [] vs h = record { each = λ i c v e g. absurd (Option·none-ne-some _ e) }
 typed-if (d ∷ cs) [] h = record { each = λ i c v e g. absurd (Option·none-ne-some _ g) }
 typed-if (d ∷ cs) (w ∷ vs) h = record { each = go (unfold mistypedValue plainWord in unless-none _ _ (leftmost-head _ _ h)) (typed-if cs vs (unfold mistypedValue in leftmost-head _ _ (leftmost-tail _ _ h)) .each) }
   where
-    go : hasKind (d .kind) w ≡ true → ((i : ℕ) (c : Column) (v : Value) → getElem? cs i ≡ some c → getElem? vs i ≡ some v → hasKind (c .kind) v ≡ true)
-        → (i : ℕ) (c : Column) (v : Value) → getElem? (d ∷ cs) i ≡ some c → getElem? (w ∷ vs) i ≡ some v → hasKind (c .kind) v ≡ true
-    go k rest zero c v e g = subst₂ (λ (x : Column) (y : Value). hasKind (x .kind) y ≡ true) (Option·some-injective _ _ e) (Option·some-injective _ _ g) k
+    go : cellHasKind (d .kind) w ≡ true → ((i : ℕ) (c : Column) (v : Value) → getElem? cs i ≡ some c → getElem? vs i ≡ some v → cellHasKind (c .kind) v ≡ true)
+        → (i : ℕ) (c : Column) (v : Value) → getElem? (d ∷ cs) i ≡ some c → getElem? (w ∷ vs) i ≡ some v → cellHasKind (c .kind) v ≡ true
+    go k rest zero c v e g = subst₂ (λ (x : Column) (y : Value). cellHasKind (x .kind) y ≡ true) (Option·some-injective _ _ e) (Option·some-injective _ _ g) k
     go k rest (suc i) c v e g = rest i c v e g
 
 if-typed : (cs : List Column) (vs : List Value) → Typed cs vs → mistypedValue cs (map plainWord vs) ≡ none

@@ -9,17 +9,17 @@ use mathlib.Core.Option.{Option, Option·getD, Option·some-injective, none, som
 use mathlib.Core.Path.{_∙_, _≡_, ap, refl, sym}
 use native.Mathlib.Omega.{arith}
 use Rattle.appending.specs.Appended.{fitsColumns, rowFor}
-use Rattle.condition.specs.Kinds.{hasKind}
 use Rattle.document.proofs.Accepting.{line-accepted, line-accepts}
 use Rattle.document.proofs.RowMeaning.{bytes-back, labels-back, row-form, rowLabels-placeless, rowValues-placeless, values-back}
 use Rattle.document.proofs.RowsWritten.{bytesOf}
+use Rattle.document.specs.AmountFaults.{brokenRange, inOrder}
 use Rattle.document.specs.Bounds.{lateAttr, overBound, secondRoot}
 use Rattle.document.specs.Check.{checkLine}
 use Rattle.document.specs.Lookup.{columnsOf, labelOf, schemeOf, tableOf}
 use Rattle.document.specs.Meaning.{add, define, rowMeant, rowsGiven}
 use Rattle.document.specs.NameFaults.{rowLabels, taken, unknown}
 use Rattle.document.specs.Policy.{Column, Doc, Policy, Row}
-use Rattle.document.specs.TypeFaults.{mistypedValue, wrongType}
+use Rattle.document.specs.TypeFaults.{cellHasKind, mistypedValue, wrongType}
 use Rattle.document.specs.ValueFaults.{misfit, rowValues}
 use Rattle.form.proofs.RowBack.{itemsOf, placelessItem, row-back, row-read, rowParts}
 use Rattle.form.specs.Form.{Form, Item, Scheme, byRow, row}
@@ -31,12 +31,14 @@ use Rattle.csv.specs.Records.{Entry}
 use Rattle.lists.proofs.ListLaws.{map-inv, map-map, there-none}
 use Rattle.lists.proofs.Tests.{and-both, and-left, and-right, not-false}
 use Rattle.lists.specs.Lists.{allOf, holdsOf, orZero, there}
-use Rattle.text.proofs.OffendingLaws.{leftmost-head, leftmost-none, leftmost-nil, leftmost-only, leftmost-tail, unless-none, unless-true}
+use Rattle.text.proofs.CellValues.{value-no-range, values-cells}
+use Rattle.text.proofs.OffendingLaws.{leftmost-head, leftmost-none, leftmost-nil, leftmost-only, leftmost-tail, missing-next, missing-nil, unless-none, unless-true}
 use Rattle.text.proofs.ReadBack.{placeless}
 use Rattle.text.proofs.NameLaws.{sameName-refl}
 use Rattle.text.specs.Bytes.{ascii}
 use Rattle.text.specs.Names.{Name, isName}
 use Rattle.text.specs.Numbers.{Value, isValue}
+use Rattle.text.specs.Amounts.{rangeOf}
 use Rattle.text.specs.Offending.{leftmost, missing, unless}
 use Rattle.text.specs.Refusal.{accepted}
 use Rattle.text.specs.Words.{Word, isCalled, plainWord}
@@ -98,8 +100,8 @@ pub row-of : (t l : Name) (vs : List Field) → isName t ≡ true → isName l �
 unfolding allOf
 row-of t l vs h k m =
     let named : allOf isName (l ∷ []) ≡ true = and-both (isName l) true k refl in
-    let r = row-read oneLabel (ascii "row") t (l ∷ []) vs (sameName-refl (ascii "row")) h named m in
-    (r .0, r .1, row-of-parts t l vs k (r .0) (row-back oneLabel (ascii "row") t (l ∷ []) vs (sameName-refl (ascii "row")) h named m (r .0) (r .1)))
+    let r = row-read oneLabel (ascii "row") t (l ∷ []) vs (sameName-refl (ascii "row")) h named (values-cells vs m) in
+    (r .0, r .1, row-of-parts t l vs k (r .0) (row-back oneLabel (ascii "row") t (l ∷ []) vs (sameName-refl (ascii "row")) h named (values-cells vs m) (r .0) (r .1)))
 
 -- ---- its tests, by those bytes
 
@@ -107,11 +109,19 @@ mistyped-by-bytes : (cs : List Column) (ws : List Word) → there (mistypedValue
 unfolding mistypedValue plainWord
 mistyped-by-bytes [] ws = refl
 mistyped-by-bytes (c ∷ cs) [] = refl
-mistyped-by-bytes (c ∷ cs) (w ∷ ws) = go (hasKind (c .kind) (w .bytes)) (mistypedValue cs ws) (mistypedValue cs (map plainWord (bytesOf ws))) (mistyped-by-bytes cs ws)
+mistyped-by-bytes (c ∷ cs) (w ∷ ws) = go (cellHasKind (c .kind) (w .bytes)) (mistypedValue cs ws) (mistypedValue cs (map plainWord (bytesOf ws))) (mistyped-by-bytes cs ws)
   where
     go : (b : Bool) (o q : Option Word) → there o ≡ there q → there (leftmost (unless b w ∷ o ∷ [])) ≡ there (leftmost (unless b (plainWord (w .bytes)) ∷ q ∷ []))
     go true o q e = unfold unless leftmost in ap there (leftmost-only o) ∙ e ∙ sym (ap there (leftmost-only q))
     go false o q e = unfold unless leftmost there in refl
+
+-- names and numbers are no ranges, so none is broken
+all-ordered : (ws : List Word) → allOf isValue (bytesOf ws) ≡ true → missing (λ w. inOrder (rangeOf (w .bytes))) ws ≡ none
+unfolding allOf inOrder
+all-ordered [] h = missing-nil _
+all-ordered (w ∷ ws) h =
+    missing-next (λ w. inOrder (rangeOf (w .bytes))) w ws (ap inOrder (value-no-range (w .bytes) (and-left (isValue (w .bytes)) (allOf isValue (bytesOf ws)) h)))
+    ∙ all-ordered ws (and-right (isValue (w .bytes)) (allOf isValue (bytesOf ws)) h)
 
 module _ (p : Policy) {t l : Name} {vs : List Value} {f : Form} (r : RowOf t l vs f) (s : schemeOf p (plainWord t) ≡ byRow) where
   scheme-is : schemeOf p (r .table) ≡ byRow
@@ -143,6 +153,13 @@ module _ (p : Policy) {t l : Name} {vs : List Value} {f : Form} (r : RowOf t l v
       ∙ mistyped-by-bytes (columnsOf p (r .table)) (r .words)
       ∙ (λ i. there (mistypedValue (columnsOf p (plainWord (r .isTable i))) (map plainWord (r .areValues i))))
 
+  ordered-is : allOf isValue vs ≡ true → brokenRange p (row (r .table) (r .items)) ≡ none
+  unfolding brokenRange
+  ordered-is h =
+      ap (λ (x : Scheme ℕ). missing (λ w. inOrder (rangeOf (w .bytes))) (Option·getD (rowValues x (r .items)) [])) scheme-is
+      ∙ ap (λ (o : Option (List Word)). missing (λ w. inOrder (rangeOf (w .bytes))) (Option·getD o [])) (r .values)
+      ∙ all-ordered (r .words) (ap (allOf isValue) (r .areValues) ∙ h)
+
   meant-is : rowMeant p (r .table) (r .items) ≡ record { table = orZero (tableOf p (plainWord t)); values = vs; labels = orZero (labelOf p (plainWord l)) ∷ [] }
   unfolding rowMeant tableOf labelOf isCalled plainWord
   meant-is =
@@ -172,9 +189,9 @@ module _ (d : Doc) {t l : Name} (e : Entry) {f : Form} (r : RowOf t l (e .fields
   unfolding add define rowsGiven withRow rowFor
   adds-row = ap (λ (x : Row). record { policy = d .policy; rows = d .rows ++ (x ∷ []) }) (meant-is (d .policy) r s)
 
-  pub row-accepts : (line : List ℕ) → formOf line ≡ some f → Takes d t l e → checkLine d line ≡ accepted (withRow d t l e)
+  pub row-accepts : (line : List ℕ) → formOf line ≡ some f → allOf isValue (e .fields) ≡ true → Takes d t l e → checkLine d line ≡ accepted (withRow d t l e)
   unfolding fitsColumns overBound taken secondRoot lateAttr
-  row-accepts line is k =
+  row-accepts line is plainly k =
       let cs : List Column = columnsOf (d .policy) (plainWord t) in
       let width : eqb (length (e .fields)) (length cs) ≡ true = and-left _ _ (k .fit) in
       let types : not (there (mistypedValue cs (map plainWord (e .fields)))) ≡ true = and-right (eqb (length (e .fields)) (length cs)) _ (k .fit) in
@@ -185,6 +202,7 @@ module _ (d : Doc) {t l : Name} (e : Entry) {f : Form} (r : RowOf t l (e .fields
       refl
       (misfit-is (d .policy) r s ∙ ap not width)
       (there-none _ (typed-is (d .policy) r s ∙ not-true _ types))
+      (ordered-is (d .policy) r s plainly)
       refl
       ∙ ap accepted adds-row
 

@@ -16,6 +16,7 @@ use Rattle.condition.specs.Answers.{Placed, comparedAt, opensComparison, readTo
 use Rattle.condition.specs.Cond.{Cond, comparisons}
 use Rattle.condition.specs.CondForm.{Compared, conditionInForm, mistyped}
 use Rattle.condition.specs.Kinds.{Kind, hasKind, numbers, takes}
+use Rattle.document.specs.AmountFaults.{brokenRange}
 use Rattle.document.specs.Bounds.{lateAttr, overBound, secondRoot}
 use Rattle.document.specs.Lookup.{attributeKind, attributeNamed, attributeOf, condRoleOf, hasAttribute, isClock, roleOf}
 use Rattle.document.specs.NameFaults.{taken, unknown, usableFor}
@@ -224,6 +225,10 @@ module _ (d : Doc) (line : List ℕ) (c r : ℕ) (x : Cond Compared) where
   pub cond-values : misfit (d .policy) form ≡ false
   unfolding misfit
   cond-values = refl
+
+  pub cond-order : brokenRange (d .policy) form ≡ none
+  unfolding brokenRange
+  cond-order = refl
 
   pub cond-late : lateAttr (d .policy) form ≡ false
   unfolding lateAttr

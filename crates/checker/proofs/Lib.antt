@@ -1,2 +1,3 @@
 -- Laws of the check, line after line. Assumes nothing.
 pub mod Turns
+pub mod RangeSamples

@@ -2,8 +2,8 @@
 use Prim.Native.Nat.{_+_, _-_, _<_, _≤_, ℕ}
 use borrow.Author.Count.{below-none}
 use borrow.Author.Tests.{le-ltb, lt-ltb}
-use lib.ListN.{drop, drop-of-length-le, length, length-drop, take-append-drop}
-use lib.Seq.{drop-drop, length-take-le}
+use lib.ListN.{drop, drop-of-length-le, length, length-drop}
+use lib.Seq.{length-take-le}
 use mathlib.Core.List.{List, [], _∷_}
 use mathlib.Core.Option.{Option·none-ne-some}
 use mathlib.Core.Path.{_∙_, _≡_, ap, ap₂, refl, subst, sym}
@@ -11,6 +11,7 @@ use native.Mathlib.Nat.{add-zero}
 use native.Mathlib.Omega.{arith}
 use Rattle.checker.specs.Loading.{HoldsDocument, Loads}
 use Rattle.index.specs.Workspace.{Indexed}
+use Rattle.stepping.proofs.PlaceLaws.{line-at}
 use Rattle.stepping.specs.Follows.{Grows}
 use Rattle.document.proofs.UniqueNames.{unique-empty, unique-line}
 use Rattle.document.specs.Check.{check, checkFrom, checkLine}
@@ -22,12 +23,9 @@ use Rattle.workspace.specs.Tabulated.{tabulated}
 use Rattle.lists.specs.Lists.{allOf}
 use Rattle.purpose.specs.Members.{limit}
 use Rattle.stepping.specs.Stored.{LineAt}
-use Rattle.text.proofs.Lefts.{drop-here}
-use Rattle.text.specs.Bytes.{isDigit, isLetter, isNameByte}
 use Rattle.text.specs.Lines.{LineEnd, cut}
 use Rattle.text.specs.Reasons.{refusalOf}
 use Rattle.text.specs.Refusal.{Refusal, _>>=_, _>>_, accepted, document, moved, movedBy, pointingAll, pointingNowhere, refuseIf, refused}
-use Rattle.text.specs.Words.{nameBytes}
 use Rattle.index.specs.declared.counts.Counts.{Counts}
 use Rattle.checker.specs.declared.loading.Loaded.the-variants as loaded
 use Rattle.text.specs.declared.refusals.Refusal as code
@@ -86,10 +84,6 @@ last-none d n at = refl
 
 -- ---- the line from a position to its end
 
-feed-no-name : (s : List ℕ) → nameBytes (10 ∷ s) ≡ []
-unfolding nameBytes isNameByte isLetter isDigit
-feed-no-name s = refl
-
 module _ (text : List ℕ) (at e : ℕ) (l : LineEnd text at e) where
   -- it begins before it ends
   pub line-from : at ≤ e
@@ -100,17 +94,7 @@ module _ (text : List ℕ) (at e : ℕ) (l : LineEnd text at e) where
 
   -- a line with its line feed stands in the text as what is stored of it has to
   pub line-placed : e < length text → LineAt text at (lineIn text at e)
-  line-placed h =
-      let k : at ≤ e = line-from in
-      let q : at + (e - at) ≡ e = omega arith in
-      record {
-        rest = drop (e - at) (drop at text);
-        is = sym (take-append-drop (e - at) (drop at text));
-        ends =
-            ap nameBytes (drop-drop (e - at) at text ∙ ap (λ (m : ℕ). drop m text) q ∙ drop-here text e h ∙ ap (λ (b : ℕ). b ∷ drop (e + 1) text) (l .feed h))
-            ∙ feed-no-name (drop (e + 1) text);
-        within = omega (arith, line-length (omega arith));
-      }
+  line-placed h = line-at text at e (omega (arith, h, line-from)) line-from l
 
   module _ (d : Doc) (n : ℕ) where
     -- it is refused

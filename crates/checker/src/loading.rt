@@ -8,6 +8,7 @@ use text::refusals::Reason;
 use text::refusals::Refusal;
 use text::refusals::Source;
 use text::words::word_end;
+use text::words::written_end;
 use workspace::layout::ATTRIBUTE_CELLS;
 use workspace::layout::COND_ROLE_CELLS;
 use workspace::layout::GRANT_CELLS;
@@ -54,6 +55,15 @@ fn refusal_of(line: &[u8], at: usize, f: Fault) -> Refusal
                 source: Source::Document,
                 start: at + w,
                 len: e - w,
+            }
+        }
+        Fault::Value(x, v) => {
+            let e = written_end(line, v);
+            Refusal {
+                reason: x,
+                source: Source::Document,
+                start: at + v,
+                len: e - v,
             }
         }
     }

@@ -2,14 +2,16 @@
 use Prim.Native.Nat.{_+_, suc, zero, ℕ}
 use lib.Dec.{eqb}
 use lib.ListN.{getD, length, take}
-use mathlib.Core.Bool.{Bool, _&&_, cond, false}
+use mathlib.Core.Bool.{Bool, _&&_, cond, false, true}
 use mathlib.Core.List.{List, [], _∷_, map}
 use mathlib.Core.Option.{Option, none, some}
 use mathlib.Core.Path.{_≡_}
 use Rattle.condition.specs.Cond.{Cond, Conds, both, comparisons, either, holds, last, more, negate, test}
 use Rattle.condition.specs.CondForm.{Compared, conditionInForm}
 use Rattle.condition.specs.Kinds.{Kind, Op, eq, ge, gt, le, lt, names, ne, numbers}
+use Rattle.condition.specs.Ranges.{Mode, possible, sure}
 use Rattle.lists.specs.Lists.{anyOf}
+use Rattle.text.specs.Amounts.{Range}
 use Rattle.text.specs.Bytes.{ascii}
 use Rattle.text.specs.Ends.{answer}
 use Rattle.text.specs.Names.{sameName}
@@ -22,6 +24,7 @@ use Rattle.condition.specs.declared.kinds.Kind as kinds
 use Rattle.condition.specs.declared.kinds.Kind.the-variants as kind
 use Rattle.condition.specs.declared.kinds.Op as ops
 use Rattle.condition.specs.declared.kinds.Op.the-variants as op
+use Rattle.condition.specs.declared.ranges.Ends.{Ends}
 use Rattle.condition.specs.declared.walk.Walk.{Walk}
 use Rattle.condition.specs.declared.walk.Walk.the-variants as walk
 
@@ -38,6 +41,15 @@ opOf op.Lt = lt
 opOf op.Le = le
 opOf op.Gt = gt
 opOf op.Ge = ge
+
+-- the mode that a flag names
+abbrev pub modeBy : Bool → Mode
+modeBy true = sure
+modeBy false = possible
+
+-- the range that the code's two ends are
+abbrev pub rangeBy : Ends → Range
+rangeBy e = record { low = e .low; high = e .high }
 
 -- the word is one of the six operators
 unfoldable pub isComparator : List ℕ → Bool

@@ -1,21 +1,23 @@
 -- The items of a row by the positions where they stand, and the label in front of them. Assumes nothing.
 use Prim.Native.Nat.{_+_, ℕ}
-use lib.Dec.{eqb}
 use lib.ListN.{getD}
 use mathlib.Core.Bool.{Bool, cond, false, true}
 use mathlib.Core.List.{List, [], _∷_}
 use mathlib.Core.Option.{none}
-use mathlib.Core.Path.{_∙_, _≡_, ap}
+use mathlib.Core.Path.{_∙_, _≡_, ap, refl}
 use Rattle.document.specs.NameFaults.{leadingName}
 use Rattle.document.specs.ValueFaults.{plainValues, valuesBehindLabel}
+use Rattle.form.proofs.WalkLaws.{unopened-unlabelled}
 use Rattle.form.proofs.WalkSteps.{item-bracket, item-plain, item-plain-end, items-more, items-stop}
 use Rattle.form.specs.Form.{plain}
-use Rattle.form.specs.Walks.{itemEndAt, itemsAt}
-use Rattle.text.proofs.WalkingLaws.{written-end}
-use Rattle.text.proofs.WordLaws.{written-word}
+use Rattle.form.specs.Walks.{isLabelledAt, itemAt, itemEndAt, itemsAt}
+use Rattle.lists.proofs.Tests.{neither-left}
+use Rattle.text.proofs.CellValues.{bracket-no-value}
+use Rattle.text.proofs.Closings.{written-end, written-word}
 use Rattle.text.specs.Names.{isName}
+use Rattle.text.specs.Numbers.{isNumber, isValue}
 use Rattle.text.specs.Walking.{wordEndAt}
-use Rattle.text.specs.Words.{wordAt, wordOf}
+use Rattle.text.specs.Words.{wordAt, wordOf, writtenAt, writtenOf}
 
 -- ---- a row whose first item is its label
 
@@ -28,20 +30,33 @@ module _ (s : List ℕ) (at : ℕ) where
   unfolding leadingName
   no-leading e = ap leadingName (items-stop s at e)
 
-  pub bracket-behind : getD s at 0 ≡ 32 → eqb (getD s (at + 1) 0) 40 ≡ true → valuesBehindLabel (itemsAt s at) ≡ none
+  -- where a bracket opens, the first item is `(v L)` or a range, and so no name
+  first-unnamed : getD s (at + 1) 0 ≡ 40 → isName (writtenAt s (at + 1)) ≡ false
+  unfolding isValue
+  first-unnamed o = neither-left (isName (writtenAt s (at + 1))) (isNumber (writtenAt s (at + 1))) (bracket-no-value s (at + 1) o)
+
+  pub bracket-behind : getD s at 0 ≡ 32 → getD s (at + 1) 0 ≡ 40 → valuesBehindLabel (itemsAt s at) ≡ none
   unfolding valuesBehindLabel
-  bracket-behind e o = ap valuesBehindLabel (items-more s at e) ∙ ap (λ i. valuesBehindLabel (i ∷ itemsAt s (itemEndAt s (at + 1)))) (item-bracket s (at + 1) o)
+  bracket-behind e o = ap valuesBehindLabel (items-more s at e) ∙ go (isLabelledAt s (at + 1)) refl
+    where
+      go : (t : Bool) → isLabelledAt s (at + 1) ≡ t → valuesBehindLabel (itemAt s (at + 1) ∷ itemsAt s (itemEndAt s (at + 1))) ≡ none
+      go true k = ap (λ i. valuesBehindLabel (i ∷ itemsAt s (itemEndAt s (at + 1)))) (item-bracket s (at + 1) k)
+      go false k = ap (λ i. valuesBehindLabel (i ∷ itemsAt s (itemEndAt s (at + 1)))) (item-plain s (at + 1) k) ∙ ap (λ t. cond t (plainValues (itemsAt s (itemEndAt s (at + 1)))) none) (first-unnamed o)
 
-  pub bracket-leading : getD s at 0 ≡ 32 → eqb (getD s (at + 1) 0) 40 ≡ true → leadingName (itemsAt s at) ≡ []
+  pub bracket-leading : getD s at 0 ≡ 32 → getD s (at + 1) 0 ≡ 40 → leadingName (itemsAt s at) ≡ []
   unfolding leadingName
-  bracket-leading e o = ap leadingName (items-more s at e) ∙ ap (λ i. leadingName (i ∷ itemsAt s (itemEndAt s (at + 1)))) (item-bracket s (at + 1) o)
+  bracket-leading e o = ap leadingName (items-more s at e) ∙ go (isLabelledAt s (at + 1)) refl
+    where
+      go : (t : Bool) → isLabelledAt s (at + 1) ≡ t → leadingName (itemAt s (at + 1) ∷ itemsAt s (itemEndAt s (at + 1))) ≡ []
+      go true k = ap (λ i. leadingName (i ∷ itemsAt s (itemEndAt s (at + 1)))) (item-bracket s (at + 1) k)
+      go false k = ap (λ i. leadingName (i ∷ itemsAt s (itemEndAt s (at + 1)))) (item-plain s (at + 1) k) ∙ ap (λ t. cond t (writtenOf s (at + 1) ∷ []) []) (first-unnamed o)
 
-  module _ (e : getD s at 0 ≡ 32) (o : eqb (getD s (at + 1) 0) 40 ≡ false) where
+  module _ (e : getD s at 0 ≡ 32) (o : getD s (at + 1) 0 ≡ 40 → ⊥) where
     plain-first : itemsAt s at ≡ plain (wordOf s (at + 1)) ∷ itemsAt s (wordEndAt s (at + 1))
     plain-first =
         items-more s at e
-        ∙ (λ j. item-plain s (at + 1) o j ∷ itemsAt s (item-plain-end s (at + 1) o j))
-        ∙ (λ j. plain (record { at = at + 1; bytes = written-word s (at + 1) j }) ∷ itemsAt s (written-end s (at + 1) j))
+        ∙ (λ j. item-plain s (at + 1) (unopened-unlabelled s (at + 1) o) j ∷ itemsAt s (item-plain-end s (at + 1) (unopened-unlabelled s (at + 1) o) j))
+        ∙ (λ j. plain (record { at = at + 1; bytes = written-word s (at + 1) o j }) ∷ itemsAt s (written-end s (at + 1) o j))
 
     module _ (b : Bool) (n : isName (wordAt s (at + 1)) ≡ b) where
       pub led-values : valuesBehindLabel (itemsAt s at) ≡ cond b (plainValues (itemsAt s (wordEndAt s (at + 1)))) none

@@ -20,9 +20,10 @@ use Rattle.form.specs.RowText.{bracketText, itemTexts, keywordIn, labelCount, r
 use Rattle.lists.proofs.ListLaws.{map-inv}
 use Rattle.lists.proofs.Tests.{and-both, and-left, and-right}
 use Rattle.lists.specs.Lists.{allOf}
+use Rattle.text.specs.Amounts.{isCellValue}
 use Rattle.text.specs.Bytes.{ascii}
 use Rattle.text.specs.Names.{Name, isName, sameName}
-use Rattle.text.specs.Numbers.{Value, isValue}
+use Rattle.text.specs.Numbers.{Value}
 use Rattle.text.specs.Words.{Word}
 
 -- the bytes of words
@@ -32,7 +33,7 @@ bytesOf ws = map (λ (w : Word). w .bytes) ws
 -- the items are those of a row of this scheme with these labels and values
 pub record Shaped (s : Scheme ℕ) (is : List Item) (ls : List Name) (vs : List Value) : Type 0 where
   pub areLabels : allOf isName ls ≡ true
-  pub areValues : allOf isValue vs ≡ true
+  pub areValues : allOf isCellValue vs ≡ true
   pub enoughLabels : length ls ≡ labelCount s (length vs)
   pub texts : map itemText is ≡ itemTexts s ls vs
 
@@ -43,10 +44,10 @@ unfolding plainValues allOf isItem itemText itemTexts labelCount
 plain-shaped [] ws h e = subst (λ (v : List Word). Shaped (unlabelled false) [] [] (bytesOf v)) (Option·some-injective _ _ e) (record { areLabels = refl; areValues = refl; enoughLabels = refl; texts = refl })
 plain-shaped (plain w ∷ is) ws h e =
     let i = map-inv _ (plainValues is) ws e in
-    let x = plain-shaped is (i .0) (and-right (isValue (w .bytes)) _ h) (i .1) in
+    let x = plain-shaped is (i .0) (and-right (isCellValue (w .bytes)) _ h) (i .1) in
     subst (λ (v : List Word). Shaped (unlabelled false) (plain w ∷ is) [] (bytesOf v)) (sym (i .2)) (record {
       areLabels = refl;
-      areValues = and-both (isValue (w .bytes)) _ (and-left (isValue (w .bytes)) _ h) (x .areValues);
+      areValues = and-both (isCellValue (w .bytes)) _ (and-left (isCellValue (w .bytes)) _ h) (x .areValues);
       enoughLabels = refl;
       texts = ap (λ (ts : List (List ℕ)). w .bytes ∷ ts) (x .texts);
     })
@@ -59,7 +60,7 @@ behind-shaped (plain w ∷ is) ws h e = go (isName (w .bytes)) refl e
   where
     go : (b : Bool) → isName (w .bytes) ≡ b → cond b (plainValues is) none ≡ some ws → Shaped byRow (plain w ∷ is) (bytesOf (cond b (w ∷ []) [])) (bytesOf ws)
     go true n e =
-        let x = plain-shaped is ws (and-right (isValue (w .bytes)) _ h) e in
+        let x = plain-shaped is ws (and-right (isCellValue (w .bytes)) _ h) e in
         record { areLabels = and-both (isName (w .bytes)) true n refl; areValues = x .areValues; enoughLabels = refl; texts = ap (λ (ts : List (List ℕ)). w .bytes ∷ ts) (x .texts) }
     go false n e = absurd (Option·none-ne-some _ e)
 behind-shaped (labelled v l ∷ is) ws h e = absurd (Option·none-ne-some _ e)
@@ -73,8 +74,8 @@ bracket-shaped (labelled v l ∷ is) ws h e =
     let fit = and-left (isItem (labelled v l)) _ h in
     let x = bracket-shaped is (i .0) (and-right (isItem (labelled v l)) _ h) (i .1) in
     subst (λ (u : List Word). Shaped byCell (labelled v l ∷ is) (l .bytes ∷ bytesOf (bracketLabels is)) (bytesOf u)) (sym (i .2)) (record {
-      areLabels = and-both (isName (l .bytes)) _ (and-right (isValue (v .bytes)) _ fit) (x .areLabels);
-      areValues = and-both (isValue (v .bytes)) _ (and-left (isValue (v .bytes)) _ fit) (x .areValues);
+      areLabels = and-both (isName (l .bytes)) _ (and-right (isCellValue (v .bytes)) _ fit) (x .areLabels);
+      areValues = and-both (isCellValue (v .bytes)) _ (and-left (isCellValue (v .bytes)) _ fit) (x .areValues);
       enoughLabels = ap suc (x .enoughLabels);
       texts = ap (λ (ts : List (List ℕ)). bracketText (v .bytes) (l .bytes) ∷ ts) (x .texts);
     })
@@ -94,7 +95,7 @@ pub record WrittenFrom (s : Scheme ℕ) (line : List ℕ) (t : Name) (ls : List 
   pub isRow : sameName (keywordIn line) (ascii "row") ≡ true
   pub isTable : isName t ≡ true
   pub areLabels : allOf isName ls ≡ true
-  pub areValues : allOf isValue vs ≡ true
+  pub areValues : allOf isCellValue vs ≡ true
   pub enoughLabels : length ls ≡ labelCount s (length vs)
   pub written : line ≡ rowText s (keywordIn line) t ls vs
 

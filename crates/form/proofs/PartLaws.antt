@@ -10,15 +10,18 @@ use mathlib.Core.Option.{Option, none, some}
 use mathlib.Core.Path.{_∙_, _≡_, ap, refl, sym}
 use native.Mathlib.Omega.{arith}
 use Rattle.form.proofs.FormForward.{forward-given, forward-item, forward-kinds}
-use Rattle.form.proofs.WalkLaws.{finds-kind, givens-walk, items-walk, names-walk}
-use Rattle.form.specs.FormReader.{givenForm, item, kinds}
+use Rattle.form.proofs.WalkLaws.{finds-kind, givens-walk, item-labelled, item-value, items-walk, names-walk}
+use Rattle.form.specs.Form.{plain}
+use Rattle.form.specs.FormReader.{givenForm, item, kinds, labelledItem, plainItem}
 use Rattle.form.specs.Walks.{givensAt, itemsAt, kindAt, namesAt}
+use Rattle.lists.specs.Lists.{there}
 use Rattle.text.proofs.CodeLaws.{word-none, word-to}
-use Rattle.text.proofs.EndLaws.{end-read}
+use Rattle.text.proofs.EndLaws.{end-none, end-read, then-give}
 use Rattle.text.proofs.Forward.{Forward, forward-many, forward-wordThat}
 use Rattle.text.proofs.Lefts.{before-end}
 use Rattle.text.proofs.Spaces.{next-here, next-not, optional-here, optional-not}
 use Rattle.text.proofs.WalkingLaws.{Finds, finds-word, word-within}
+use Rattle.text.specs.Amounts.{Range, cellValue, range}
 use Rattle.text.specs.Brackets.{keyword, many, next, optional}
 use Rattle.text.specs.CodeEnds.{optionalOf, wordEnd}
 use Rattle.text.specs.Names.{isName}
@@ -38,6 +41,34 @@ space-before s at h = before-end s at (λ z. absurd (omega (arith, h, z)))
 pub word-ends : (s : List ℕ) (at : ℕ) {e : ℕ} → e ≡ at + length (wordAt s at) → at ≤ length s → e ≤ length s
 unfolding wordEndAt
 word-ends s at h k = omega (arith, word-within s at k)
+
+-- ---- an item of a row
+
+module _ (s : List ℕ) (at : ℕ) where
+  -- a value stands there: the item ends where it ends
+  pub item-ends : (e : ℕ) → wordEnd (cellValue (from s at)) ≡ At e → At e ≡ wordEnd (item (from s at))
+  unfolding plainItem
+  item-ends e h = sym h ∙ then-give cellValue s at plain refl ∙ sym (ap wordEnd (item-value (from s at) (go (cellValue (from s at)) h)))
+    where
+      go : (o : Option (Word × Left)) → wordEnd o ≡ At e → there o ≡ true
+      go none k = let z : _≡_ {A = ℕ} 0 1 = cc in absurd (omega arith)
+      go (some r) k = unfold there in refl
+
+  -- none does: it is `(v L)`, if it is one
+  pub item-unread : wordEnd (cellValue (from s at)) ≡ Nothing → wordEnd (item (from s at)) ≡ wordEnd (labelledItem (from s at))
+  item-unread h = ap wordEnd (item-labelled (from s at) (unfold there in ap there (end-none cellValue s at h)))
+
+  -- a range ends there, or none is read
+  pub range-there : (e : ℕ) → wordEnd (range (from s at)) ≡ At e → there (range (from s at)) ≡ true
+  range-there e h = go (range (from s at)) h
+    where
+      go : (o : Option (Range × Left)) → wordEnd o ≡ At e → there o ≡ true
+      go none k = let z : _≡_ {A = ℕ} 0 1 = cc in absurd (omega arith)
+      go (some r) k = unfold there in refl
+
+  pub range-absent : wordEnd (range (from s at)) ≡ Nothing → there (range (from s at)) ≡ false
+  unfolding there
+  range-absent h = ap there (end-none range s at h)
 
 -- ---- words behind a space
 

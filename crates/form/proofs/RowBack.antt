@@ -7,22 +7,24 @@ use lib.ListN.{length, length-append}
 use mathlib.Core.Bool.{Bool, _&&_, cond, false, true}
 use mathlib.Core.List.{List, [], _++_, _∷_, append-assoc, flatten, map, zipWith}
 use mathlib.Core.Option.{Option, none, some}
-use mathlib.Core.Path.{_∙_, _≡_, ap, refl}
+use mathlib.Core.Path.{_∙_, _≡_, ap, refl, subst, sym}
 use native.Mathlib.Omega.{arith}
 use Rattle.form.specs.Form.{Form, Item, Scheme, attr, byCell, byColumn, byRow, byTable, condRole, grant, label, labelled, note, plain, purpose, role, row, table, unlabelled, user}
 use Rattle.form.specs.FormReader.{form, formOf, item, labelledItem, lineForms, plainItem, rowForm}
 use Rattle.form.specs.RowText.{bracketText, itemTexts, rowText, spaced}
-use Rattle.text.proofs.ByteLaws.{name-value, value-first}
+use Rattle.form.proofs.WalkLaws.{item-labelled, item-value}
+use Rattle.text.proofs.CellValues.{cellValue-fails, cellValue-reads, name-cell}
 use Rattle.lists.proofs.ListLaws.{map-map}
-use Rattle.text.proofs.ReadBack.{Gives, Reads, bind-reads, bracketed-reads, give-reads, gives, left, name-reads, next-reads, placeless, value-reads, word-reads}
+use Rattle.text.proofs.ReadBack.{Gives, Reads, bind-reads, bracketed-reads, give-reads, gives, left, gives-there, name-reads, next-reads, placeless, word-reads}
 use Rattle.text.proofs.NameLaws.{same-other}
 use Rattle.text.proofs.WordLaws.{same-name-bytes}
 use Rattle.lists.proofs.Tests.{and-left, and-right, true-not-false}
+use Rattle.text.specs.Amounts.{cellValue, isCellValue}
 use Rattle.text.specs.Brackets.{among, keyword, many, upTo}
 use Rattle.text.specs.Bytes.{ascii, firstByte, isDigit, isLetter, isNameByte}
-use Rattle.lists.specs.Lists.{allOf}
+use Rattle.lists.specs.Lists.{allOf, there}
 use Rattle.text.specs.Names.{Name, isName, lower, sameByte, sameName}
-use Rattle.text.specs.Numbers.{Value, isValue}
+use Rattle.text.specs.Numbers.{Value}
 use Rattle.text.specs.Reader.{Left, ended, ifNext, whole}
 use Rattle.text.specs.Words.{Word, isCalled, plainWord}
 
@@ -54,43 +56,38 @@ itemText (labelled v l) = bracketText (v .bytes) (l .bytes)
 
 -- its words are values and names
 unfoldable pub isItem : Item → Bool
-isItem (plain w) = isValue (w .bytes)
-isItem (labelled v l) = isValue (v .bytes) && isName (l .bytes)
+isItem (plain w) = isCellValue (w .bytes)
+isItem (labelled v l) = isCellValue (v .bytes) && isName (l .bytes)
 
--- a value begins with a name byte, and so with no bracket
-value-begins : (w rest : List ℕ) → isValue w ≡ true → eqb (firstByte (w ++ rest)) 40 ≡ false
-value-begins w rest h = go (eqb (firstByte (w ++ rest)) 40) refl
-  where
-    bracket-is-none : isNameByte 40 ≡ false
-    bracket-is-none = unfold isNameByte isLetter isDigit in refl
-
-    go : (x : Bool) → eqb (firstByte (w ++ rest)) 40 ≡ x → eqb (firstByte (w ++ rest)) 40 ≡ false
-    go false e = e
-    go true e = true-not-false (value-first w rest h) (ap isNameByte (eqb-true _ 40 e) ∙ bracket-is-none)
-
-bracket-append : (v l rest : List ℕ) → bracketText v l ++ rest ≡ 40 ∷ (v ++ 32 ∷ (l ++ 41 ∷ rest))
+pub bracket-append : (v l rest : List ℕ) → bracketText v l ++ rest ≡ 40 ∷ (v ++ 32 ∷ (l ++ 41 ∷ rest))
 unfolding bracketText
 bracket-append v l rest = simp append-assoc
 
-labelledItem-reads : (v l rest : List ℕ) → isValue v ≡ true → isName l ≡ true → Reads placelessItem labelledItem (bracketText v l ++ rest) (labelled (plainWord v) (plainWord l)) rest
+labelledItem-reads : (v l rest : List ℕ) → isCellValue v ≡ true → isName l ≡ true → Reads placelessItem labelledItem (bracketText v l ++ rest) (labelled (plainWord v) (plainWord l)) rest
 unfolding labelledItem placelessItem isNameByte isLetter isDigit
 labelledItem-reads v l rest h k = rw (bracket-append v l rest) (bracketed-reads
-    (bind-reads (value-reads v _ h refl) (λ y p. bind-reads (next-reads (name-reads l _ k refl)) (λ z q. give-reads _ _ (λ i. labelled (p i) (q i))))))
+    (bind-reads (cellValue-reads v _ h refl) (λ y p. bind-reads (next-reads (name-reads l _ k refl)) (λ z q. give-reads _ _ (λ i. labelled (p i) (q i))))))
 
-plainItem-reads : (v rest : List ℕ) → isValue v ≡ true → isNameByte (firstByte rest) ≡ false → Reads placelessItem plainItem (v ++ rest) (plain (plainWord v)) rest
+plainItem-reads : (v rest : List ℕ) → isCellValue v ≡ true → isNameByte (firstByte rest) ≡ false → Reads placelessItem plainItem (v ++ rest) (plain (plainWord v)) rest
 unfolding plainItem placelessItem
-plainItem-reads v rest h k = bind-reads (value-reads v rest h k) (λ y p. give-reads _ _ (λ i. plain (p i)))
+plainItem-reads v rest h k = bind-reads (cellValue-reads v rest h k) (λ y p. give-reads _ _ (λ i. plain (p i)))
 
 item-reads : (i : Item) (rest : List ℕ) → isItem i ≡ true → isNameByte (firstByte rest) ≡ false → Reads placelessItem item (itemText i ++ rest) (placelessItem i) rest
-unfolding item ifNext isItem itemText placelessItem placeless
-item-reads (plain w) rest h k = record { from = λ at. go at (eqb (firstByte (w .bytes ++ rest)) 40) (value-begins (w .bytes) rest h) }
-  where
-    go : (at : ℕ) (b : Bool) → b ≡ false → Gives placelessItem (plain (plainWord (w .bytes))) rest
-        (cond b labelledItem plainItem (left at (w .bytes ++ rest)))
-    go at true e = true-not-false refl e
-    go at false e = plainItem-reads (w .bytes) rest h k .from at
-item-reads (labelled v l) rest h k =
-    record { from = λ at. unfold bracketText in labelledItem-reads (v .bytes) (l .bytes) rest (and-left (isValue (v .bytes)) _ h) (and-right (isValue (v .bytes)) _ h) .from at }
+unfolding isItem itemText placelessItem placeless there
+item-reads (plain w) rest h k = record {
+  from = λ at.
+      subst (Gives placelessItem (plain (plainWord (w .bytes))) rest) (sym (item-value (left at (w .bytes ++ rest)) (gives-there (cellValue-reads (w .bytes) rest h k .from at))))
+      (plainItem-reads (w .bytes) rest h k .from at);
+}
+item-reads (labelled v l) rest h k = record {
+  from = λ at.
+      let is-value : isCellValue (v .bytes) ≡ true = and-left (isCellValue (v .bytes)) _ h in
+      let is-label : isName (l .bytes) ≡ true = and-right (isCellValue (v .bytes)) _ h in
+      let no-value : there (cellValue (left at (bracketText (v .bytes) (l .bytes) ++ rest))) ≡ false =
+      ap (λ (bs : List ℕ). there (cellValue (left at bs))) (bracket-append (v .bytes) (l .bytes) rest) ∙ ap there (cellValue-fails (l .bytes) rest is-label at (v .bytes) is-value) in
+      subst (Gives placelessItem (labelled (plainWord (v .bytes)) (plainWord (l .bytes))) rest) (sym (item-labelled (left at (bracketText (v .bytes) (l .bytes) ++ rest)) no-value))
+      (labelledItem-reads (v .bytes) (l .bytes) rest is-value is-label .from at);
+}
 
 -- ---- rows
 
@@ -184,22 +181,22 @@ bracket-texts [] ls = refl
 bracket-texts (v ∷ vs) [] = refl
 bracket-texts (v ∷ vs) (l ∷ ls) = ap (λ x. bracketText v l ∷ x) (bracket-texts vs ls)
 
-plain-items : (vs : List Value) → allOf isValue vs ≡ true → allOf isItem (map (λ v. plain (plainWord v)) vs) ≡ true
+plain-items : (vs : List Value) → allOf isCellValue vs ≡ true → allOf isItem (map (λ v. plain (plainWord v)) vs) ≡ true
 unfolding allOf isItem plainWord
 plain-items [] h = refl
-plain-items (v ∷ vs) h = rw (and-left (isValue v) _ h) (plain-items vs (and-right (isValue v) _ h))
+plain-items (v ∷ vs) h = rw (and-left (isCellValue v) _ h) (plain-items vs (and-right (isCellValue v) _ h))
 
-all-append : (ls vs : List Value) → allOf isName ls ≡ true → allOf isValue vs ≡ true → allOf isValue (ls ++ vs) ≡ true
+all-append : (ls vs : List Value) → allOf isName ls ≡ true → allOf isCellValue vs ≡ true → allOf isCellValue (ls ++ vs) ≡ true
 unfolding allOf
 all-append [] vs h k = k
-all-append (l ∷ ls) vs h k = rw (name-value l (and-left (isName l) _ h)) (all-append ls vs (and-right (isName l) _ h) k)
+all-append (l ∷ ls) vs h k = rw (name-cell l (and-left (isName l) _ h)) (all-append ls vs (and-right (isName l) _ h) k)
 
-bracket-items : (vs : List Value) (ls : List Name) → allOf isName ls ≡ true → allOf isValue vs ≡ true
+bracket-items : (vs : List Value) (ls : List Name) → allOf isName ls ≡ true → allOf isCellValue vs ≡ true
     → allOf isItem (zipWith (λ v l. labelled (plainWord v) (plainWord l)) vs ls) ≡ true
 unfolding allOf isItem plainWord zipWith
 bracket-items [] ls h k = refl
 bracket-items (v ∷ vs) [] h k = refl
-bracket-items (v ∷ vs) (l ∷ ls) h k = rw (and-left (isValue v) _ k, and-left (isName l) _ h) (bracket-items vs ls (and-right (isName l) _ h) (and-right (isValue v) _ k))
+bracket-items (v ∷ vs) (l ∷ ls) h k = rw (and-left (isCellValue v) _ k, and-left (isName l) _ h) (bracket-items vs ls (and-right (isName l) _ h) (and-right (isCellValue v) _ k))
 
 map-plain : (vs : List Value) → map placelessItem (map (λ v. plain (plainWord v)) vs) ≡ map (λ v. plain (plainWord v)) vs
 unfolding placelessItem placeless plainWord
@@ -228,7 +225,7 @@ module _ {L : Type 0} where
   items-texts byRow ls vs = plain-texts (ls ++ vs)
   items-texts byCell ls vs = bracket-texts vs ls
 
-  items-fit : (s : Scheme L) (ls : List Name) (vs : List Value) → allOf isName ls ≡ true → allOf isValue vs ≡ true → allOf isItem (itemsOf s ls vs) ≡ true
+  items-fit : (s : Scheme L) (ls : List Name) (vs : List Value) → allOf isName ls ≡ true → allOf isCellValue vs ≡ true → allOf isItem (itemsOf s ls vs) ≡ true
   unfolding itemsOf
   items-fit (unlabelled b) ls vs h k = plain-items vs k
   items-fit (byTable l) ls vs h k = plain-items vs k
@@ -255,13 +252,13 @@ module _ {L : Type 0} where
       → rowText s k t ls vs ≡ 40 ∷ (k ++ 32 ∷ (t ++ (spaced (map itemText (itemsOf s ls vs)) ++ 41 ∷ [])))
   rowText-is s k t ls vs = rw (items-texts s ls vs) (rowText-bytes s k t ls vs)
 
-  row-reads : (s : Scheme L) (k t : Name) (ls : List Name) (vs : List Value) → sameName k (ascii "row") ≡ true → isName t ≡ true → allOf isName ls ≡ true → allOf isValue vs ≡ true
+  row-reads : (s : Scheme L) (k t : Name) (ls : List Name) (vs : List Value) → sameName k (ascii "row") ≡ true → isName t ≡ true → allOf isName ls ≡ true → allOf isCellValue vs ≡ true
       → Reads rowParts form (rowText s k t ls vs) (some (plainWord t, itemsOf s ls vs)) []
   row-reads s k t ls vs e h l m =
       rw (rowText-is s k t ls vs) (form-row k e (rw (items-placeless s ls vs) at (rowForm-reads t (itemsOf s ls vs) h (items-fit s ls vs l m))))
 
   -- A row line that was written out from its parts is the form of those parts.
-  pub row-back : (s : Scheme L) (k t : Name) (ls : List Name) (vs : List Value) → sameName k (ascii "row") ≡ true → isName t ≡ true → allOf isName ls ≡ true → allOf isValue vs ≡ true
+  pub row-back : (s : Scheme L) (k t : Name) (ls : List Name) (vs : List Value) → sameName k (ascii "row") ≡ true → isName t ≡ true → allOf isName ls ≡ true → allOf isCellValue vs ≡ true
       → (f : Form) → formOf (rowText s k t ls vs) ≡ some f → rowParts f ≡ some (plainWord t, itemsOf s ls vs)
   unfolding formOf whole
   row-back s k t ls vs e h l m f = go (row-reads s k t ls vs e h l m .from 0)
@@ -270,7 +267,7 @@ module _ {L : Type 0} where
       go (gives p) e = unfold ended in cc
 
   -- and it is read as a form
-  pub row-read : (s : Scheme L) (k t : Name) (ls : List Name) (vs : List Value) → sameName k (ascii "row") ≡ true → isName t ≡ true → allOf isName ls ≡ true → allOf isValue vs ≡ true
+  pub row-read : (s : Scheme L) (k t : Name) (ls : List Name) (vs : List Value) → sameName k (ascii "row") ≡ true → isName t ≡ true → allOf isName ls ≡ true → allOf isCellValue vs ≡ true
       → (f : Form) × (formOf (rowText s k t ls vs) ≡ some f)
   unfolding formOf whole
   row-read s k t ls vs e h l m = go (row-reads s k t ls vs e h l m .from 0)

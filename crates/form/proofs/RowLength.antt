@@ -9,14 +9,16 @@ use native.Mathlib.Omega.{arith}
 use Rattle.condition.specs.CondForm.{conditionInForm}
 use Rattle.form.specs.Form.{Form, Item, Scheme, attr, byCell, byColumn, byRow, byTable, condRole, grant, label, labelled, note, plain, public, purpose, role, row, table, unlabelled, user}
 use Rattle.form.specs.FormReader.{attrForm, column, columnsUnderLabel, condRoleForm, form, formOf, givenForm, grantForm, item, kinds, labelForm, labelledColumn, labelledColumns, labelledItem, lineForms, node, plainColumns, plainItem, publicForm, purposeSet, rowForm, schemes, tableForm, userForm}
+use Rattle.lists.specs.Lists.{there}
+use Rattle.text.proofs.CellValues.{eats-cellValue}
 use Rattle.text.proofs.NameLaws.{sameName-length}
-use Rattle.text.proofs.ReaderLaws.{Eats, eats-bind, eats-bracketed, eats-byte, eats-give, eats-ifNext, eats-less, eats-many, eats-next, eats-word, eats-wordThat, listCost, past-trans, then-some, whole-some}
+use Rattle.text.proofs.ReaderLaws.{Eats, eats-bind, eats-bracketed, eats-byte, eats-cond, eats-give, eats-less, eats-many, eats-next, eats-word, eats-wordThat, listCost, past-trans, then-some, whole-some}
+use Rattle.text.specs.Amounts.{cellValue}
 use Rattle.text.specs.Brackets.{Keywords, among, bracketed, keyword, many, next, optional}
 use Rattle.text.specs.Bytes.{ascii}
 use Rattle.text.specs.Names.{Name, isName, sameName}
-use Rattle.text.specs.Numbers.{isValue}
 use Rattle.text.specs.Reader.{Left, Reader, _>>=_, andThen, byte, from, give, refuse}
-use Rattle.text.specs.Words.{Word, isCalled, name, value, word}
+use Rattle.text.specs.Words.{Word, isCalled, name, word}
 
 -- the bytes of a value in a row form
 unfoldable pub valueCost : Item → ℕ
@@ -36,14 +38,21 @@ rowCost (table t s cs) = 0
 rowCost (note t n) = 0
 rowCost (row t is) = 1 + listCost valueCost is
 
-pub eats-item : Eats valueCost item
-unfolding item labelledItem plainItem valueCost
-eats-item = eats-ifNext valueCost 40 _ _
-    (eats-less (λ i. 2 + valueCost i) valueCost _ (λ i. omega arith) (eats-bracketed valueCost _
-    (eats-bind (λ v. length (v .bytes)) valueCost value _ (eats-wordThat isValue) (λ v.
+eats-labelledItem : Eats valueCost labelledItem
+unfolding labelledItem valueCost
+eats-labelledItem =
+    eats-less (λ i. 2 + valueCost i) valueCost _ (λ i. omega arith) (eats-bracketed valueCost _
+    (eats-bind (λ v. length (v .bytes)) valueCost cellValue _ eats-cellValue (λ v.
     eats-bind (λ l. 1 + length (l .bytes)) (λ i. valueCost i - length (v .bytes)) (next name) _ (eats-next (λ l. length (l .bytes)) name (eats-wordThat isName)) (λ l.
-    eats-give (λ i. valueCost i - length (v .bytes) - (1 + length (l .bytes))) (labelled v l) (omega arith))))))
-    (eats-bind (λ v. length (v .bytes)) valueCost value _ (eats-wordThat isValue) (λ v. eats-give (λ i. valueCost i - length (v .bytes)) (plain v) (omega arith)))
+    eats-give (λ i. valueCost i - length (v .bytes) - (1 + length (l .bytes))) (labelled v l) (omega arith)))))
+
+eats-plainItem : Eats valueCost plainItem
+unfolding plainItem valueCost
+eats-plainItem = eats-bind (λ v. length (v .bytes)) valueCost cellValue _ eats-cellValue (λ v. eats-give (λ i. valueCost i - length (v .bytes)) (plain v) (omega arith))
+
+pub eats-item : Eats valueCost item
+unfolding item
+eats-item l i l′ h = eats-cond valueCost (there (cellValue l)) plainItem labelledItem eats-plainItem eats-labelledItem l i l′ h
 
 eats-row : Eats rowCost rowForm
 unfolding rowForm rowCost

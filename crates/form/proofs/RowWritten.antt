@@ -1,28 +1,33 @@
 -- A line that is read as a row form is that form written out: `(row`, in any case of letters, then the table and the items, each
 -- behind a space, and `)`. Assumes nothing.
 use Prim.Native.Nat.{ℕ}
-use mathlib.Core.Bool.{true}
+use mathlib.Core.Bool.{false, true}
 use mathlib.Core.List.{List, [], _++_, _∷_, append-assoc, append-nil, map}
 use mathlib.Core.Option.{some}
 use mathlib.Core.Path.{_∙_, _≡_, ap, refl, subst, subst₂, sym}
 use native.Mathlib.Omega.{arith}
 use Rattle.form.proofs.FormForward.{forward-attr, forward-condRole, forward-grant, forward-label, forward-node, forward-public, forward-table, forward-user}
-use Rattle.form.proofs.RowBack.{isItem, itemText, row-bytes, rowText-bytes}
+use Rattle.form.proofs.RowBack.{bracket-append, isItem, itemText, row-bytes, rowText-bytes}
 use Rattle.form.proofs.RowLength.{Never, never-attr, never-condRole, never-grant, never-label, never-node, never-public, never-table, never-user, rowCost}
+use Rattle.form.proofs.WalkLaws.{bracket-labelled, item-labelled, labelled-opens}
 use Rattle.form.specs.Form.{Form, Item, Scheme, labelled, plain, purpose, role, row}
 use Rattle.form.specs.FormReader.{form, formOf, item, labelledItem, lineForms, plainItem, rowForm}
 use Rattle.form.specs.RowText.{bracketText, keywordIn, rowText, spaced}
+use Rattle.form.specs.Walks.{isLabelledAt}
 use Rattle.lists.proofs.Tests.{and-both}
-use Rattle.lists.specs.Lists.{allOf}
+use Rattle.lists.specs.Lists.{allOf, there}
 use Rattle.text.proofs.ByteLaws.{run-stops}
+use Rattle.text.proofs.CellValues.{cellValue-fails, prints-cellValue}
+use Rattle.text.proofs.ReadBack.{left}
 use Rattle.text.proofs.Forward.{Forward}
-use Rattle.text.proofs.Written.{Printed, Spells, printAll, prints-bind, prints-many, prints-next, spells-bracketed, spells-forward, spells-give, spells-ifNext, spells-keyword, spells-whole, spells-wordThat}
+use Rattle.text.proofs.Written.{Printed, Spells, printAll, prints-bind, prints-many, prints-next, spells-bracketed, spells-cond, spells-forward, spells-give, spells-keyword, spells-whole, spells-wordThat}
+use Rattle.text.specs.Amounts.{cellValue, isCellValue}
 use Rattle.text.specs.Brackets.{keyword, many, next}
 use Rattle.text.specs.Bytes.{ascii, isDigit, isLetter, isNameByte}
 use Rattle.text.specs.Names.{Name, isName, sameName}
-use Rattle.text.specs.Numbers.{Value, isValue}
-use Rattle.text.specs.Reader.{Reader}
-use Rattle.text.specs.Words.{Word, name, value}
+use Rattle.text.specs.Numbers.{Value}
+use Rattle.text.specs.Reader.{Left, Reader, from}
+use Rattle.text.specs.Words.{Word, name}
 
 -- the line is the row form written out behind the keyword k, its table is a name, and its items are values and names
 pub record RowWritten (line : List ℕ) (k : Name) (t : Word) (is : List Item) : Type 0 where
@@ -36,15 +41,56 @@ pub record RowWritten (line : List ℕ) (k : Name) (t : Word) (is : List Item) :
 prints-name : Spells (Printed (λ w. 32 ∷ w .bytes) (λ w. isName (w .bytes))) (next name)
 prints-name = prints-next (λ w. w .bytes) (λ w. isName (w .bytes)) name (spells-wordThat isName)
 
-prints-item : Spells (Printed itemText isItem) item
-unfolding item labelledItem plainItem itemText isItem bracketText
-prints-item = spells-ifNext _ 40 _ _
-    (spells-bracketed _ _
-    (prints-bind (λ v. v .bytes) (λ v. isValue (v .bytes)) _ value _ (spells-wordThat isValue) (λ v h.
+prints-labelledItem : Spells (Printed itemText isItem) labelledItem
+unfolding labelledItem itemText isItem bracketText
+prints-labelledItem =
+    spells-bracketed _ _
+    (prints-bind (λ v. v .bytes) (λ v. isCellValue (v .bytes)) _ cellValue _ prints-cellValue (λ v h.
     prints-bind (λ l. 32 ∷ l .bytes) (λ l. isName (l .bytes)) _ (next name) _ prints-name (λ l k.
-    spells-give _ (labelled v l) (record { is = simp (append-assoc, append-nil); fit = and-both (isValue (v .bytes)) (isName (l .bytes)) h k })))))
-    (prints-bind (λ v. v .bytes) (λ v. isValue (v .bytes)) _ value _ (spells-wordThat isValue) (λ v h.
-    spells-give _ (plain v) (record { is = append-nil (v .bytes); fit = h })))
+    spells-give _ (labelled v l) (record { is = simp (append-assoc, append-nil); fit = and-both (isCellValue (v .bytes)) (isName (l .bytes)) h k }))))
+
+prints-plainItem : Spells (Printed itemText isItem) plainItem
+unfolding plainItem itemText isItem
+prints-plainItem =
+    prints-bind (λ v. v .bytes) (λ v. isCellValue (v .bytes)) _ cellValue _ prints-cellValue (λ v h.
+    spells-give _ (plain v) (record { is = append-nil (v .bytes); fit = h }))
+
+prints-item : Spells (Printed itemText isItem) item
+unfolding item
+prints-item l i l′ h = spells-cond _ (there (cellValue l)) plainItem labelledItem prints-plainItem prints-labelledItem l i l′ h
+
+-- ---- no text is both a value and `(v L)`
+
+-- the bytes are `(v L)`
+record LabelledText (i : Item) (bs : List ℕ) : Type 0 where
+  value : List ℕ
+  label : List ℕ
+  isValue : isCellValue value ≡ true
+  isLabel : isName label ≡ true
+  is : bs ≡ bracketText value label
+
+labelled-spelled : Spells LabelledText labelledItem
+unfolding labelledItem bracketText
+labelled-spelled =
+    spells-bracketed LabelledText _
+    (prints-bind (λ v. v .bytes) (λ v. isCellValue (v .bytes)) _ cellValue _ prints-cellValue (λ v h.
+    prints-bind (λ l. 32 ∷ l .bytes) (λ l. isName (l .bytes)) _ (next name) _ prints-name (λ l k.
+    spells-give _ (labelled v l) (record { value = v .bytes; label = l .bytes; isValue = h; isLabel = k; is = simp (append-assoc, append-nil) }))))
+
+labelled-unread : (l : Left) (i : Item) (l′ : Left) → labelledItem l ≡ some (i, l′) → there (cellValue l) ≡ false
+unfolding there
+labelled-unread l i l′ h =
+    let x = labelled-spelled l i l′ h in
+    let t = x .spells in
+    ap (λ (bs : List ℕ). there (cellValue (left (l .at) bs))) (x .stood ∙ ap (λ (bs : List ℕ). bs ++ l′ .bytes) (t .is) ∙ bracket-append (t .value) (t .label) (l′ .bytes))
+    ∙ ap there (cellValue-fails (t .label) (l′ .bytes) (t .isLabel) (l .at) (t .value) (t .isValue))
+
+-- so where `(v L)` is read, it is the item
+pub labelled-item : (l : Left) (i : Item) (l′ : Left) → labelledItem l ≡ some (i, l′) → item l ≡ some (i, l′)
+labelled-item l i l′ h = item-labelled l (labelled-unread l i l′ h) ∙ h
+
+pub labelled-here : (s : List ℕ) (at : ℕ) (i : Item) (l : Left) → labelledItem (from s at) ≡ some (i, l) → isLabelledAt s at ≡ true
+labelled-here s at i l h = bracket-labelled s at (labelled-opens s at i l h) (labelled-unread (from s at) i l h)
 
 -- ---- rows, among the other forms
 

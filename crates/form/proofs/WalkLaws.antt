@@ -1,27 +1,31 @@
 -- Lists of a line by position: what a reader read there is what code finds when it walks through the list again, item by item.
 -- Assumes nothing.
 use Prim.Native.Nat.{_+_, _≤_, suc, zero, ℕ}
-use borrow.Author.Tests.{eq-eqb, eqb-true, ne-eqb}
+use borrow.Author.Tests.{eq-eqb, eqb-false, eqb-true, ne-eqb}
 use lib.Dec.{eqb}
 use lib.ListN.{List·getD-eq-default, drop, getD, length, length-drop}
-use mathlib.Core.Bool.{Bool, cond, false, true}
+use mathlib.Core.Bool.{Bool, _&&_, cond, false, not, true}
 use mathlib.Core.List.{List, [], _∷_, map}
 use mathlib.Core.Option.{some}
 use mathlib.Core.Path.{_∙_, _≡_, ap, refl, sym}
 use native.Mathlib.Omega.{arith}
 use Rattle.condition.specs.Kinds.{Kind, names, numbers}
 use Rattle.form.specs.Form.{ColumnForm, GivenForm, Item, labelled, plain}
-use Rattle.form.specs.FormReader.{cellValue, column, columnBody, givenForm, item, kinds, labelledColumn, labelledItem, plainItem}
-use Rattle.form.specs.Walks.{cellEndAt, cellLabelIn, columnAt, columnFormsAt, columnLabelAt, columnLabelsAt, firstIn, givenAt, givensAt, itemAt, itemEndAt, itemsAt, kindAt, labelledColumnsAt, listAt, listUpTo, namesAt, pairEndAt, secondIn, thirdIn, tripleEndAt}
-use Rattle.text.proofs.ReaderLaws.{not-read}
-use Rattle.text.proofs.WalkingLaws.{Finds, finds-bind, finds-bracketed, finds-give, finds-if, finds-next, finds-run, finds-word, next-forward, next-within, past-forward, past-here, past-within, word-forward, word-within, written-end}
-use Rattle.text.specs.Brackets.{among, keyword, many, upTo}
+use Rattle.form.specs.FormReader.{column, columnBody, givenForm, item, kinds, labelledColumn, labelledItem, plainItem}
+use Rattle.form.specs.Walks.{cellEndAt, cellLabelIn, columnAt, columnFormsAt, columnLabelAt, columnLabelsAt, firstIn, givenAt, givensAt, isLabelledAt, itemAt, itemEndAt, itemsAt, kindAt, labelledColumnsAt, listAt, listUpTo, namesAt, pairEndAt, secondIn, thirdIn, tripleEndAt, valuePlace}
+use Rattle.lists.specs.Lists.{there}
+use Rattle.text.proofs.CellValues.{cellValue-range, finds-cellValue}
+use Rattle.text.proofs.Closings.{value-onward, value-within}
+use Rattle.text.proofs.ReaderLaws.{byte-at-refused, not-read}
+use Rattle.text.proofs.WalkingLaws.{Finds, finds-bind, finds-bracketed, finds-give, finds-if, finds-next, finds-run, finds-word, next-forward, next-within, past-forward, past-here, past-within, word-forward, word-within}
+use Rattle.text.specs.Amounts.{cellValue, range}
+use Rattle.text.specs.Brackets.{among, bracketed, keyword, many, upTo}
 use Rattle.text.specs.Bytes.{ascii}
 use Rattle.text.specs.Names.{isName, sameName}
 use Rattle.text.specs.Numbers.{isValue}
 use Rattle.text.specs.Reader.{Left, Reader, _>>=_, from, give, refuse}
 use Rattle.text.specs.Walking.{nextWord, past, wordEndAt, writtenEndAt}
-use Rattle.text.specs.Words.{Word, isCalled, name, value, wordOf, writtenAt, writtenOf}
+use Rattle.text.specs.Words.{Word, isCalled, name, value, wordOf, writtenOf}
 
 -- ---- one item more, or none
 
@@ -143,42 +147,62 @@ module _ (s : List ℕ) (at : ℕ) where
   unfolding tripleEndAt thirdIn
   triple-within h = past-within 41 s (wordEndAt s (nextWord s (secondIn s at))) (word-within s (nextWord s (secondIn s at)) (next-within s (secondIn s at) (second-within h)))
 
-  -- a value being a word, the label of `(v L)` is its second word, and the bracket ends behind that
-  pub cell-label : cellLabelIn s at ≡ secondIn s at
-  unfolding cellLabelIn secondIn nextWord
-  cell-label = ap (past 32 s) (written-end s (firstIn s at))
+  pub first-onward : at ≤ firstIn s at
+  unfolding firstIn
+  first-onward = past-forward 40 s at
 
-  pub cell-end : cellEndAt s at ≡ pairEndAt s at
-  unfolding cellEndAt pairEndAt
-  cell-end = ap (λ p. past 41 s (wordEndAt s p)) cell-label
+  pub first-within : at ≤ length s → firstIn s at ≤ length s
+  unfolding firstIn
+  first-within h = past-within 40 s at h
+
+  -- the label of `(v L)` stands behind its value
+  pub label-onward : at ≤ cellLabelIn s at
+  unfolding cellLabelIn
+  label-onward = omega (arith, first-onward, value-onward s (firstIn s at), past-forward 32 s (writtenEndAt s (firstIn s at)))
+
+  pub label-within : at ≤ length s → cellLabelIn s at ≤ length s
+  unfolding cellLabelIn
+  label-within h = past-within 32 s (writtenEndAt s (firstIn s at)) (value-within s (firstIn s at) (first-within h))
 
   pub cell-onward : at ≤ cellEndAt s at
-  cell-onward = omega (arith, cell-end, pair-onward)
+  unfolding cellEndAt
+  cell-onward = omega (arith, label-onward, word-forward s (cellLabelIn s at), past-forward 41 s (wordEndAt s (cellLabelIn s at)))
 
   pub cell-within : at ≤ length s → cellEndAt s at ≤ length s
-  cell-within h = omega (arith, cell-end, pair-within h)
+  unfolding cellEndAt
+  cell-within h = past-within 41 s (wordEndAt s (cellLabelIn s at)) (word-within s (cellLabelIn s at) (label-within h))
 
-  pub value-onward : at ≤ writtenEndAt s at
-  value-onward = omega (arith, written-end s at, word-forward s at)
+  pub place-onward : at ≤ valuePlace s at
+  unfolding valuePlace
+  place-onward = go (isLabelledAt s at)
+    where
+      go : (t : Bool) → at ≤ cond t (firstIn s at) at
+      go true = first-onward
+      go false = omega arith
 
-  pub value-within : at ≤ length s → writtenEndAt s at ≤ length s
-  value-within h = omega (arith, written-end s at, word-within s at h)
+  pub place-within : at ≤ length s → valuePlace s at ≤ length s
+  unfolding valuePlace
+  place-within h = go (isLabelledAt s at)
+    where
+      go : (t : Bool) → cond t (firstIn s at) at ≤ length s
+      go true = first-within h
+      go false = h
 
   pub item-onward : at ≤ itemEndAt s at
   unfolding itemEndAt
-  item-onward = go (eqb (getD s at 0) 40)
+  item-onward = go (isLabelledAt s at)
     where
       go : (t : Bool) → at ≤ cond t (cellEndAt s at) (writtenEndAt s at)
       go true = cell-onward
-      go false = value-onward
+      go false = value-onward s at
 
   pub item-within : at ≤ length s → itemEndAt s at ≤ length s
   unfolding itemEndAt
-  item-within h = go (eqb (getD s at 0) 40)
+  item-within h = go (isLabelledAt s at)
     where
       go : (t : Bool) → cond t (cellEndAt s at) (writtenEndAt s at) ≤ length s
       go true = cell-within h
-      go false = value-within h
+      go false = value-within s at h
 
 -- ---- what each reader of an item reads
 
@@ -187,10 +211,6 @@ finds-name s = finds-word s isName
 
 finds-value : (s : List ℕ) → Finds s value (wordOf s) (wordEndAt s)
 finds-value s = finds-word s isValue
-
-finds-cellValue : (s : List ℕ) → Finds s cellValue (writtenOf s) (writtenEndAt s)
-unfolding writtenAt writtenEndAt wordEndAt
-finds-cellValue s = finds-value s
 
 pub finds-kind : (s : List ℕ) → Finds s (keyword kinds) (kindAt s) (wordEndAt s)
 unfolding keyword kinds among isCalled kindAt
@@ -217,13 +237,76 @@ pub finds-labelledColumn : (s : List ℕ) → Finds s labelledColumn (λ at. (co
 unfolding labelledColumn columnAt columnLabelAt tripleEndAt firstIn secondIn thirdIn nextWord
 finds-labelledColumn s = finds-bracketed (finds-bind (finds-columnBody s) _ (λ c. finds-bind (finds-next (finds-name s)) _ (λ l. finds-give s (c, l))))
 
+-- ---- an item of a row: a value, or else `(v L)`
+
+pub item-value : (l : Left) → there (cellValue l) ≡ true → item l ≡ plainItem l
+unfolding item
+item-value l h = rw h
+
+pub item-labelled : (l : Left) → there (cellValue l) ≡ false → item l ≡ labelledItem l
+unfolding item
+item-labelled l h = rw h
+
+finds-plainItem : (s : List ℕ) → Finds s plainItem (λ at. plain (writtenOf s at)) (writtenEndAt s)
+unfolding plainItem
+finds-plainItem s = finds-bind (finds-cellValue s) _ (λ v. finds-give s (plain v))
+
+finds-labelledItem : (s : List ℕ) → Finds s labelledItem (λ at. labelled (writtenOf s (firstIn s at)) (wordOf s (cellLabelIn s at))) (cellEndAt s)
+unfolding labelledItem cellEndAt cellLabelIn firstIn
+finds-labelledItem s = finds-bracketed (finds-bind (finds-cellValue s) _ (λ v. finds-bind (finds-next (finds-name s)) _ (λ l. finds-give s (labelled v l))))
+
+module _ (s : List ℕ) (at : ℕ) where
+  -- where no bracket opens, and at a range, there is no `(v L)`
+  pub unopened-unlabelled : (getD s at 0 ≡ 40 → ⊥) → isLabelledAt s at ≡ false
+  unfolding isLabelledAt
+  unopened-unlabelled h = rw (ne-eqb _ _ h)
+
+  pub ranged-unlabelled : there (range (from s at)) ≡ true → isLabelledAt s at ≡ false
+  unfolding isLabelledAt
+  ranged-unlabelled h = go (eqb (getD s at 0) 40)
+    where
+      go : (t : Bool) → (t && not (there (range (from s at)))) ≡ false
+      go true = rw h
+      go false = refl
+
+  -- at any other bracket there is one
+  pub opened-labelled : getD s at 0 ≡ 40 → there (range (from s at)) ≡ false → isLabelledAt s at ≡ true
+  unfolding isLabelledAt
+  opened-labelled h k = rw (h, k)
+
+  -- where a value is read there is none
+  pub value-unlabelled : there (cellValue (from s at)) ≡ true → isLabelledAt s at ≡ false
+  value-unlabelled h = go (eqb (getD s at 0) 40) refl
+    where
+      go : (t : Bool) → eqb (getD s at 0) 40 ≡ t → isLabelledAt s at ≡ false
+      go true k = ranged-unlabelled (sym (cellValue-range s at (eqb-true _ _ k)) ∙ h)
+      go false k = unopened-unlabelled (eqb-false _ _ k)
+
+  -- and where a bracket opens and none is read there is one
+  pub bracket-labelled : getD s at 0 ≡ 40 → there (cellValue (from s at)) ≡ false → isLabelledAt s at ≡ true
+  bracket-labelled k h = opened-labelled k (sym (cellValue-range s at k) ∙ h)
+
+  -- a bracket opens where `(v L)` is read
+  pub labelled-opens : (i : Item) (l : Left) → labelledItem (from s at) ≡ some (i, l) → getD s at 0 ≡ 40
+  unfolding labelledItem bracketed
+  labelled-opens i l h = go (eqb (getD s at 0) 40) refl
+    where
+      go : (t : Bool) → eqb (getD s at 0) 40 ≡ t → getD s at 0 ≡ 40
+      go true k = eqb-true _ _ k
+      go false k = not-read (i, l) (rw (byte-at-refused s at 40 (eqb-false _ _ k)) at h)
+
 pub finds-item : (s : List ℕ) → Finds s item (itemAt s) (itemEndAt s)
-unfolding item labelledItem plainItem itemAt itemEndAt cellEndAt cellLabelIn firstIn
-finds-item s =
-    finds-if
-    (finds-bracketed (finds-bind (finds-cellValue s) _ (λ v. finds-bind (finds-next (finds-name s)) _ (λ l. finds-give s (labelled v l)))))
-    40
-    (finds-bind (finds-cellValue s) _ (λ v. finds-give s (plain v)))
+unfolding itemAt itemEndAt
+finds-item s = record { found = λ at i l h. go at i l (there (cellValue (from s at))) refl h }
+  where
+    go : (at : ℕ) (i : Item) (l : Left) (t : Bool) → there (cellValue (from s at)) ≡ t → item (from s at) ≡ some (i, l) → (i ≡ itemAt s at) × (l ≡ from s (itemEndAt s at))
+    go at i l true k h =
+        let g = finds-plainItem s .found at i l (sym (item-value (from s at) k) ∙ h) in
+        rw (value-unlabelled s at k) g
+    go at i l false k h =
+        let r = sym (item-labelled (from s at) k) ∙ h in
+        let g = finds-labelledItem s .found at i l r in
+        rw (bracket-labelled s at (labelled-opens s at i l r) k) g
 
 -- ---- the lists
 

@@ -1,15 +1,15 @@
 -- Walking through a list again, item by item: what a loop of code over each of the lists of Walks cites. Where a space stands at
 -- the loop's place, one item more and the list from its end on; elsewhere none. Assumes nothing.
 use Prim.Native.Nat.{_+_, _<_, _≤_, ℕ}
-use lib.Dec.{eqb}
 use lib.ListN.{getD, length}
 use mathlib.Core.Bool.{false, true}
 use mathlib.Core.List.{List, [], _∷_}
 use mathlib.Core.Path.{_≡_}
 use native.Mathlib.Omega.{arith}
-use Rattle.form.proofs.WalkLaws.{cell-onward, item-onward, item-within, pair-onward, pair-within, triple-onward, triple-within, value-onward, walk-more, walk-stop}
+use Rattle.form.proofs.WalkLaws.{cell-onward, item-onward, item-within, pair-onward, pair-within, triple-onward, triple-within, walk-more, walk-stop}
 use Rattle.form.specs.Form.{labelled, plain}
-use Rattle.form.specs.Walks.{cellAt, cellEndAt, cellLabelIn, cellsAt, columnAt, columnFormsAt, columnLabelAt, columnLabelsAt, firstIn, givenAt, givensAt, itemAt, itemEndAt, itemsAt, labelledColumnsAt, namesAt, pairEndAt, plainAt, tripleEndAt}
+use Rattle.form.specs.Walks.{cellAt, cellEndAt, cellLabelIn, cellsAt, columnAt, columnFormsAt, columnLabelAt, columnLabelsAt, firstIn, givenAt, givensAt, isLabelledAt, itemAt, itemEndAt, itemsAt, labelledColumnsAt, namesAt, pairEndAt, plainAt, tripleEndAt, valuePlace}
+use Rattle.text.proofs.Closings.{value-onward}
 use Rattle.text.proofs.WalkingLaws.{word-forward, word-within}
 use Rattle.text.specs.Walking.{wordEndAt, writtenEndAt}
 use Rattle.text.specs.Words.{wordOf, writtenOf}
@@ -50,19 +50,27 @@ module _ (s : List ℕ) (at : ℕ) where
 -- ---- an item of a row
 
 module _ (s : List ℕ) (at : ℕ) where
-  pub item-bracket : eqb (getD s at 0) 40 ≡ true → itemAt s at ≡ labelled (writtenOf s (firstIn s at)) (wordOf s (cellLabelIn s at))
+  pub item-bracket : isLabelledAt s at ≡ true → itemAt s at ≡ labelled (writtenOf s (firstIn s at)) (wordOf s (cellLabelIn s at))
   unfolding itemAt
   item-bracket e = rw e
 
-  pub item-plain : eqb (getD s at 0) 40 ≡ false → itemAt s at ≡ plain (writtenOf s at)
+  pub item-plain : isLabelledAt s at ≡ false → itemAt s at ≡ plain (writtenOf s at)
   unfolding itemAt
   item-plain e = rw e
 
-  pub item-bracket-end : eqb (getD s at 0) 40 ≡ true → itemEndAt s at ≡ cellEndAt s at
+  pub place-bracket : isLabelledAt s at ≡ true → valuePlace s at ≡ firstIn s at
+  unfolding valuePlace
+  place-bracket e = rw e
+
+  pub place-plain : isLabelledAt s at ≡ false → valuePlace s at ≡ at
+  unfolding valuePlace
+  place-plain e = rw e
+
+  pub item-bracket-end : isLabelledAt s at ≡ true → itemEndAt s at ≡ cellEndAt s at
   unfolding itemEndAt
   item-bracket-end e = rw e
 
-  pub item-plain-end : eqb (getD s at 0) 40 ≡ false → itemEndAt s at ≡ writtenEndAt s at
+  pub item-plain-end : isLabelledAt s at ≡ false → itemEndAt s at ≡ writtenEndAt s at
   unfolding itemEndAt
   item-plain-end e = rw e
 

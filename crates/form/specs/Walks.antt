@@ -2,12 +2,15 @@
 use Prim.Native.Nat.{_+_, suc, zero, ℕ}
 use lib.Dec.{eqb}
 use lib.ListN.{getD, length}
-use mathlib.Core.Bool.{cond}
+use mathlib.Core.Bool.{Bool, _&&_, cond, not}
 use mathlib.Core.List.{List, [], _∷_}
 use Rattle.condition.specs.Kinds.{Kind, names, numbers}
 use Rattle.form.specs.Form.{ColumnForm, GivenForm, Item, labelled, plain}
+use Rattle.lists.specs.Lists.{there}
+use Rattle.text.specs.Amounts.{range}
 use Rattle.text.specs.Bytes.{ascii}
 use Rattle.text.specs.Names.{sameName}
+use Rattle.text.specs.Reader.{from}
 use Rattle.text.specs.Walking.{nextWord, past, wordEndAt, writtenEndAt}
 use Rattle.text.specs.Words.{Word, wordAt, wordOf, writtenOf}
 
@@ -97,13 +100,21 @@ plainAt s at = listAt writtenOf writtenEndAt s at
 unfoldable pub cellsAt : List ℕ → ℕ → List (Word × Word)
 cellsAt s at = listAt cellAt cellEndAt s at
 
--- the item of a row at a position: `(v L)` where a bracket opens, and else `v`
+-- the item of a row at a position is `(v L)`: a bracket opens that is no range (02, Q-12)
+unfoldable pub isLabelledAt : List ℕ → ℕ → Bool
+isLabelledAt s at = eqb (getD s at 0) 40 && not (there (range (from s at)))
+
+-- where its value stands: behind the bracket of `(v L)`, and else at the item
+unfoldable pub valuePlace : List ℕ → ℕ → ℕ
+valuePlace s at = cond (isLabelledAt s at) (firstIn s at) at
+
+-- the item: `(v L)`, or else `v`
 unfoldable pub itemAt : List ℕ → ℕ → Item
-itemAt s at = cond (eqb (getD s at 0) 40) (labelled (writtenOf s (firstIn s at)) (wordOf s (cellLabelIn s at))) (plain (writtenOf s at))
+itemAt s at = cond (isLabelledAt s at) (labelled (writtenOf s (firstIn s at)) (wordOf s (cellLabelIn s at))) (plain (writtenOf s at))
 
 -- where it ends
 unfoldable pub itemEndAt : List ℕ → ℕ → ℕ
-itemEndAt s at = cond (eqb (getD s at 0) 40) (cellEndAt s at) (writtenEndAt s at)
+itemEndAt s at = cond (isLabelledAt s at) (cellEndAt s at) (writtenEndAt s at)
 
 -- the items of a row from a position on
 unfoldable pub itemsAt : List ℕ → ℕ → List Item

@@ -1,4 +1,5 @@
 // The brackets that lists of a line are made of, and the lists: where they end.
+use text::amounts::cell_value_end;
 use text::brackets::byte_end;
 use text::brackets::spaced_name_end;
 use text::brackets::spaced_value_end;
@@ -6,7 +7,6 @@ use text::bytes::byte_at;
 use text::words::End;
 use text::words::is_word;
 use text::words::name_end;
-use text::words::value_end;
 use text::words::word_end;
 ghost use mathlib.Core.Path.{_≡_};
 ghost use Rattle.text.specs.Brackets.{keyword, many, next};
@@ -148,7 +148,7 @@ pub fn labelled_item_end(s: &[u8], at: usize) -> End
     let End::At(a) = o else {
         return End::Nothing;
     };
-    let v = value_end(s, a);
+    let v = cell_value_end(s, a);
     let End::At(e) = v else {
         return End::Nothing;
     };
@@ -163,10 +163,11 @@ pub fn labelled_item_end(s: &[u8], at: usize) -> End
 pub fn item_end(s: &[u8], at: usize) -> End
     ensures { λ r. ⌜ r ≡ wordEnd (item (from (now (s .entry)) at)) ⌝ }
 {
-    if byte_at(s, at) == b'(' {
-        return labelled_item_end(s, at);
+    let v = cell_value_end(s, at);
+    match v {
+        End::At(e) => End::At(e),
+        End::Nothing => labelled_item_end(s, at),
     }
-    value_end(s, at)
 }
 
 // The end of a row's items, each behind a space.

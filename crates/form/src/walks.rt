@@ -1,14 +1,15 @@
 // Walking through the lists of a line that was read: where the words of a bracket stand, and where a bracket or an item ends.
+use text::amounts::range_end;
 use text::bytes::byte_at;
 use text::walking::next_word;
 use text::walking::skip_byte;
+use text::words::End;
 use text::words::word_end;
 use text::words::written_end;
 ghost use mathlib.Core.Path.{_≡_};
-ghost use Rattle.form.specs.Walks.{cellEndAt, cellLabelIn, firstIn, itemEndAt, pairEndAt, secondIn, thirdIn, tripleEndAt};
+ghost use Rattle.form.specs.Walks.{cellEndAt, cellLabelIn, firstIn, isLabelledAt, itemEndAt, pairEndAt, secondIn, thirdIn, tripleEndAt, valuePlace};
 
-// Where the first word stands in a bracket that opens at a place; where none opens, the place itself. So it is where the value of
-// an item stands, with a label or without.
+// Where the first word or value stands in a bracket that opens at a place; where none opens, the place itself.
 pub fn first_in(line: &[u8], at: usize) -> usize
     ensures { λ r. ⌜ r ≡ firstIn (now (line .entry)) at ⌝ }
 {
@@ -60,11 +61,35 @@ pub fn cell_end(line: &[u8], at: usize) -> usize
     skip_byte(line, word_end(line, last), b')')
 }
 
-// Where the item of a row at a place ends: `(v L)` where a bracket opens, and else `v`.
+// Whether the item of a row at a place is `(v L)`: a bracket opens that is no range.
+pub fn is_labelled(line: &[u8], at: usize) -> bool
+    ensures { λ r. ⌜ r ≡ isLabelledAt (now (line .entry)) at ⌝ }
+{
+    if byte_at(line, at) != b'(' {
+        return false;
+    }
+    let k = range_end(line, at);
+    match k {
+        End::At(_) => false,
+        End::Nothing => true,
+    }
+}
+
+// Where the value of the item at a place stands: behind the bracket of `(v L)`, and else at the item.
+pub fn value_place(line: &[u8], at: usize) -> usize
+    ensures { λ r. ⌜ r ≡ valuePlace (now (line .entry)) at ⌝ }
+{
+    if is_labelled(line, at) {
+        return first_in(line, at);
+    }
+    at
+}
+
+// Where the item of a row at a place ends: `(v L)`, or else `v`.
 pub fn item_end_at(line: &[u8], at: usize) -> usize
     ensures { λ r. ⌜ r ≡ itemEndAt (now (line .entry)) at ⌝ }
 {
-    if byte_at(line, at) == b'(' {
+    if is_labelled(line, at) {
         return cell_end(line, at);
     }
     written_end(line, at)

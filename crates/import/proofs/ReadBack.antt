@@ -18,6 +18,7 @@ use Rattle.csv.specs.Records.{Entry, firstUnfit, records, split}
 use Rattle.lists.proofs.KeptLaws.{all-append}
 use Rattle.lists.proofs.Tests.{and-both, and-left, and-right}
 use Rattle.lists.specs.Lists.{allOf}
+use Rattle.text.proofs.CellValues.{values-cells}
 use Rattle.text.proofs.ByteLaws.{name-value, value-nameBytes}
 use Rattle.text.proofs.LineLaws.{cut-line, noFeed}
 use Rattle.text.proofs.ReadBack.{placeless}
@@ -66,8 +67,8 @@ module _ (t l : Name) (named : isName t ≡ true) (labelled′ : isName l ≡ tr
   line-words : (vs : List Field) → allOf isValue vs ≡ true → lineWords (rowText oneLabel (ascii "row") t (l ∷ []) vs) ≡ some (t ∷ l ∷ vs)
   unfolding lineWords bind allOf itemsOf
   line-words vs k =
-      let r = row-read oneLabel (ascii "row") t (l ∷ []) vs (sameName-refl (ascii "row")) named (and-both (isName l) true labelled′ refl) k in
-      ap (λ (o : Option Form). bind o rowWords) (r .1) ∙ row-words (r .0) t (l ∷ vs) (row-back oneLabel (ascii "row") t (l ∷ []) vs (sameName-refl (ascii "row")) named (and-both (isName l) true labelled′ refl) k (r .0) (r .1))
+      let r = row-read oneLabel (ascii "row") t (l ∷ []) vs (sameName-refl (ascii "row")) named (and-both (isName l) true labelled′ refl) (values-cells vs k) in
+      ap (λ (o : Option Form). bind o rowWords) (r .1) ∙ row-words (r .0) t (l ∷ vs) (row-back oneLabel (ascii "row") t (l ∷ []) vs (sameName-refl (ascii "row")) named (and-both (isName l) true labelled′ refl) (values-cells vs k) (r .0) (r .1))
 
   -- ---- no line feed stands in a line
 

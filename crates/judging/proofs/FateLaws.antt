@@ -7,7 +7,7 @@ use mathlib.Core.Bool.{Bool, _&&_, cond, false, not, true}
 use mathlib.Core.List.{List, [], _++_, _∷_}
 use mathlib.Core.Path.{_∙_, _≡_, ap, refl, subst, sym}
 use native.Mathlib.Omega.{arith}
-use Rattle.answer.specs.Answer.{matches}
+use Rattle.answer.specs.Answer.{satisfies}
 use Rattle.answer.specs.Exactly.{isGiven, isUnmatchedRow, isWithheldRow}
 use Rattle.answer.specs.Seen.{rowsIn}
 use Rattle.judging.proofs.TestLaws.{stored-more}
@@ -65,7 +65,7 @@ module _ (text ws : List ℕ) (count : ℕ) (os : List Bool) (s : List ℕ) (g :
   module _ (x : ℕ) (is : r < 1024 → x ≡ rowTableIn ws r) where
     pub fate-elsewhere : (x ≡ g .table → ⊥) → fate.Elsewhere ≡ fateOf d q (rowIn text ws r)
     unfolding fateOf
-    fate-elsewhere e = ap (λ (b : Bool). fateBy b (isWithheldRow d q (rowIn text ws r)) (matches (q .condition) (rowIn text ws r .values))) (sym (ne-eqb x (g .table) e) ∙ table-here x is)
+    fate-elsewhere e = ap (λ (b : Bool). fateBy b (isWithheldRow d q (rowIn text ws r)) (satisfies q (rowIn text ws r .values))) (sym (ne-eqb x (g .table) e) ∙ table-here x is)
 
     module _ (here : x ≡ g .table) (y : Bool)
         (held : (e : Policy) (p l : ℕ) (ls : List ℕ) → Opened e p os → r < 1024 → labelCountIn ws r ≤ labelRoom → y ≡ rowWithheld (labelOpen e p) (schemeBy code l ls) (drop first (take (g .chosen + g .tests) cs)) (labelsIn ws r)) where
@@ -74,19 +74,19 @@ module _ (text ws : List ℕ) (count : ℕ) (os : List Bool) (s : List ℕ) (g :
 
       fate-withheld : y ≡ true → fate.Withheld ≡ fateOf d q (rowIn text ws r)
       unfolding fateOf
-      fate-withheld e = λ i. fateBy (in-table i) ((sym e ∙ withheld-here y held) i) (matches (q .condition) (rowIn text ws r .values))
+      fate-withheld e = λ i. fateBy (in-table i) ((sym e ∙ withheld-here y held) i) (satisfies q (rowIn text ws r .values))
 
-      fate-judged : y ≡ false → (z : Bool) → z ≡ matches (q .condition) (rowIn text ws r .values) → (b : Bool) → z ≡ b → cond b fate.Passed fate.Unmatched ≡ fateOf d q (rowIn text ws r)
+      fate-judged : y ≡ false → (z : Bool) → z ≡ satisfies q (rowIn text ws r .values) → (b : Bool) → z ≡ b → cond b fate.Passed fate.Unmatched ≡ fateOf d q (rowIn text ws r)
       unfolding fateOf
       fate-judged e z met b f = λ i. fateBy (in-table i) ((sym e ∙ withheld-here y held) i) ((sym f ∙ met) i)
 
       -- by the two tests: the second says that the row is not withheld and its condition holds
-      pub fate-tested : (z : Bool) → z ≡ (not y && matches (q .condition) (rowIn text ws r .values)) → (f : Fate) → f ≡ fateHere y z → f ≡ fateOf d q (rowIn text ws r)
+      pub fate-tested : (z : Bool) → z ≡ (not y && satisfies q (rowIn text ws r .values)) → (f : Fate) → f ≡ fateHere y z → f ≡ fateOf d q (rowIn text ws r)
       fate-tested z met f is = is ∙ go y refl
         where
           go : (b : Bool) → y ≡ b → fateHere b z ≡ fateOf d q (rowIn text ws r)
           go true e = fate-withheld e
-          go false e = fate-judged e z (met ∙ ap (λ (b : Bool). not b && matches (q .condition) (rowIn text ws r .values)) e) z refl
+          go false e = fate-judged e z (met ∙ ap (λ (b : Bool). not b && satisfies q (rowIn text ws r .values)) e) z refl
 
 -- the first of the columns that withhold, by whether gaps are left
 module _ (g : Sought) (b : Bool) (gaps : b ≡ leavesGaps (verbOf (g .verb))) where
@@ -188,7 +188,7 @@ module _ (d : Doc) (q : Query) (row : ℕ → Row) where
   module _ (k : ℕ) (marks : List Bool) (x : Tally) (l : k < length marks) (h : JudgedTo d q row k marks x) where
     row-adds : Adds x (fateOf d q (row k)) (eqb (row k .table) (q .source .table) && isGiven d q (row k)) (eqb (row k .table) (q .source .table) && isWithheldRow d q (row k)) (eqb (row k .table) (q .source .table) && isUnmatchedRow d q (row k))
     unfolding fateOf isGiven isUnmatchedRow
-    row-adds = fate-adds x (eqb (row k .table) (q .source .table)) (isWithheldRow d q (row k)) (matches (q .condition) (row k .values))
+    row-adds = fate-adds x (eqb (row k .table) (q .source .table)) (isWithheldRow d q (row k)) (satisfies q (row k .values))
 
     fate-more : JudgedTo d q row (k + 1) (set marks k (passedBy (fateOf d q (row k)))) (countedBy x (fateOf d q (row k)))
     fate-more = record {

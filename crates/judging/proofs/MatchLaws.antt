@@ -3,7 +3,7 @@
 use Prim.Native.Nat.{_+_, _<_, _≤_, suc, zero, ℕ}
 use lib.ListN.{drop, getD, getElem?, length, length-append, length-map, take}
 use lib.Seq.{getD-drop, getD-take, length-take-le}
-use mathlib.Core.Bool.{Bool, false, true}
+use mathlib.Core.Bool.{Bool, _&&_, _||_, false, not, true}
 use mathlib.Core.List.{List, [], _∷_, map}
 use mathlib.Core.Option.{Option, Option·getD, Option·map, bind, none, some}
 use mathlib.Core.Path.{_∙_, _≡_, ap, refl, subst, sym}
@@ -11,15 +11,15 @@ use native.Mathlib.Omega.{arith}
 use Rattle.answer.specs.Answer.{matches}
 use Rattle.judging.proofs.TypeLaws.{tabulated-taken, wrong-read}
 use Rattle.judging.specs.Reading.{Comparable, TestsRead, firstWrong, wrongBy}
-use Rattle.judging.specs.Tests.{ProgramOf, TestOf, comparisonBy, testIn}
+use Rattle.judging.specs.Tests.{ProgramOf, TestAt, TestOf, comparisonBy, modeUnder, testIn}
 use Rattle.judging.specs.declared.sought.Sought.{Sought}
 use Rattle.judging.specs.declared.tests.TestRead.{TestRead}
-use Rattle.condition.proofs.CondLaws.{holds-map}
-use Rattle.condition.specs.Answers.{comparedAt, comparedIn, heldRead}
-use Rattle.condition.specs.Comparison.{Comparison, meets}
-use Rattle.condition.specs.Cond.{Cond, Conds, both, comparisons, comparisonsIn, comparisonsOf, either, last, mapCond, more, negate, test}
+use Rattle.condition.specs.Answers.{comparedAt, comparedIn}
+use Rattle.condition.specs.Comparison.{Comparison}
+use Rattle.condition.specs.Cond.{Cond, Conds, both, comparisons, comparisonsIn, comparisonsOf, either, holdTwoAll, holdTwoAny, holdsTwo, last, mapCond, mapConds, more, negate, test}
 use Rattle.condition.specs.CondForm.{Compared, conditionInForm, mistyped}
 use Rattle.condition.specs.Kinds.{numbers}
+use Rattle.condition.specs.Ranges.{Mode, meetsIn, other, passesIn}
 use Rattle.condition.specs.declared.conditions.Read.{Read}
 use Rattle.document.specs.Lookup.{columnKind, columnOf, columnsAt}
 use Rattle.document.specs.Policy.{Column, Policy}
@@ -28,9 +28,10 @@ use Rattle.relations.specs.Tables.{Tables, columnIn, columnKindIn}
 use Rattle.lists.proofs.ListLaws.{all-map, findIndex-found, map-map, there-some}
 use Rattle.lists.proofs.Tests.{and-left, and-right}
 use Rattle.lists.specs.Lists.{allOf, orZero, there}
-use Rattle.program.proofs.ProgramLaws.{Agree, program-holds}
+use Rattle.program.proofs.ProgramLaws.{Agree, program-two}
 use Rattle.program.specs.Program.{Programmed, comesTo}
-use Rattle.query.specs.QueryPlaces.{conditionAt}
+use Rattle.query.specs.QueryForm.{modeOf}
+use Rattle.query.specs.QueryPlaces.{conditionAt, verbOf}
 use Rattle.query.specs.Query.{columnComparison}
 use Rattle.query.specs.declared.reading.Test.the-variants as tests
 use Rattle.query.specs.declared.reading.Test.{Test}
@@ -60,20 +61,43 @@ unfolding comparisonsIn
 comparisons-read none = refl
 comparisons-read (some r) = refl
 
+-- a condition with each comparison replaced goes by what its two tests say of what replaces it
+mutual
+  unfolding holdsTwo mapCond
+
+  two-map : {C D : Type 0} (f g : D → Bool) (h : C → D) (c : Cond C) → holdsTwo f g (mapCond h c) ≡ holdsTwo (λ x. f (h x)) (λ x. g (h x)) c
+  two-map f g h (test c) = refl
+  two-map f g h (negate c) = ap not (two-map g f h c)
+  two-map f g h (both cs) = all-map-two f g h cs
+  two-map f g h (either cs) = any-map-two f g h cs
+
+  all-map-two : {C D : Type 0} (f g : D → Bool) (h : C → D) (cs : Conds C) → holdTwoAll f g (mapConds h cs) ≡ holdTwoAll (λ x. f (h x)) (λ x. g (h x)) cs
+  all-map-two f g h (last c) = two-map f g h c
+  all-map-two f g h (more c cs) = λ i. two-map f g h c i && all-map-two f g h cs i
+
+  any-map-two : {C D : Type 0} (f g : D → Bool) (h : C → D) (cs : Conds C) → holdTwoAny f g (mapConds h cs) ≡ holdTwoAny (λ x. f (h x)) (λ x. g (h x)) cs
+  any-map-two f g h (last c) = two-map f g h c
+  any-map-two f g h (more c cs) = λ i. two-map f g h c i || any-map-two f g h cs i
+
+-- what was read holds by two tests
+abbrev twoRead : (Compared → Bool) → (Compared → Bool) → Option (Cond Compared × Left) → Bool
+twoRead f g none = false
+twoRead f g (some r) = holdsTwo f g (r .0)
+
 -- g resolves the comparisons, vs are the values of a row
-module _ (g : Compared → Comparison) (vs : List Value) where
-  -- the comparison holds of the values
-  abbrev holdsHere : Compared → Bool
-  holdsHere x = meets (g x) (getD vs (g x .of) [])
+module _ (mode : Mode) (g : Compared → Comparison) (vs : List Value) where
+  -- the comparison is sure or possible of the values, under an odd number of `not`s or an even one
+  abbrev holdsHere : Bool → Compared → Bool
+  holdsHere odd x = meetsIn (modeUnder mode odd) (g x) (getD vs (g x .of) [])
 
   -- where a condition was read that has comparisons, the row matches if it holds
-  matches-read : (o : Option (Cond Compared × Left)) → 1 ≤ length (comparedIn o) → matches (Option·map (mapCond g) (Option·map (λ x. x .0) o)) vs ≡ heldRead holdsHere o
-  unfolding matches
+  matches-read : (o : Option (Cond Compared × Left)) → 1 ≤ length (comparedIn o) → matches mode (Option·map (mapCond g) (Option·map (λ x. x .0) o)) vs ≡ twoRead (holdsHere false) (holdsHere true) o
+  unfolding matches passesIn
   matches-read none l = absurd (omega (arith, l))
-  matches-read (some r) l = holds-map (λ t. meets t (getD vs (t .of) [])) g (r .0)
+  matches-read (some r) l = two-map (λ t. meetsIn mode t (getD vs (t .of) [])) (λ t. meetsIn (other mode) t (getD vs (t .of) [])) g (r .0)
 
   -- where there are no comparisons there is no condition
-  matches-none : (o : Option (Cond Compared)) → length (comparisonsIn o) ≡ 0 → matches (Option·map (mapCond g) o) vs ≡ true
+  matches-none : (o : Option (Cond Compared)) → length (comparisonsIn o) ≡ 0 → matches mode (Option·map (mapCond g) o) vs ≡ true
   unfolding matches comparisonsIn
   matches-none none e = refl
   matches-none (some c) e = absurd (omega (arith, comparisons-some c, e))
@@ -110,9 +134,9 @@ module _ (text ts : List ℕ) (k t : ℕ) (d : Policy) (tables : Tables text ts 
       ∙ ap (λ (o : Option Column). Option·getD (Option·map (λ x. x .kind) o) numbers) (column-at text ts k t d tables inside c number-inside)
 
   -- what is read of it is the comparison of the definitions
-  comparison-is : (y n : ℕ) (x : TestRead) → TestOf ts t s op c y n x → comparisonBy s x ≡ columnComparison (columnsAt d t) (comparedAt s op)
+  comparison-is : (y n : ℕ) (mode : Mode) (x : TestRead) → TestOf ts t s op c y n mode x → comparisonBy s x ≡ columnComparison (columnsAt d t) (comparedAt s op)
   unfolding columnComparison comparedAt
-  comparison-is y n x h = λ i. record {
+  comparison-is y n mode x h = λ i. record {
     of = (h .column ∙ number) i;
     kind = (h .kind (table-inside text ts k t d tables inside) (column-inside text ts k t d tables inside c number-inside) ∙ sym kind-is) i;
     op = h .operator i;
@@ -120,9 +144,9 @@ module _ (text ts : List ℕ) (k t : ℕ) (d : Policy) (tables : Tables text ts 
   }
 
   -- and tells what is wrong with its types
-  wrong-is : (y n : ℕ) (x : TestRead) → TestOf ts t s op c y n x → wrongBy s x ≡ mistyped (columnKind (columnsAt d t) (comparedAt s op .of)) (comparedAt s op)
-  wrong-is y n x h =
-      wrong-read ts t s op c y n x h
+  wrong-is : (y n : ℕ) (mode : Mode) (x : TestRead) → TestOf ts t s op c y n mode x → wrongBy s x ≡ mistyped (columnKind (columnsAt d t) (comparedAt s op .of)) (comparedAt s op)
+  wrong-is y n mode x h =
+      wrong-read ts t s op c y n mode x h
       ∙ ap (λ k. mistyped k (comparedAt s op)) (h .kind (table-inside text ts k t d tables inside) (column-inside text ts k t d tables inside c number-inside) ∙ sym kind-is)
 
 -- ---- the condition of a query whose columns are known
@@ -130,6 +154,10 @@ module _ (text ts : List ℕ) (k t : ℕ) (d : Policy) (tables : Tables text ts 
 module _ (text ts s : List ℕ) (g : Sought) (ops cs : List ℕ) (d : Policy) (pr : Comparable text ts s g ops cs d) (long : g .tests ≤ length ops) where
   abbrev columns : List Column
   columns = columnsAt d (g .table)
+
+  -- the mode in which the condition is asked
+  abbrev mode : Mode
+  mode = modeOf (verbOf (g .verb))
 
   abbrev resolved : Option (Cond Comparison)
   resolved = Option·map (mapCond (columnComparison columns)) (conditionAt s (g .test))
@@ -157,30 +185,30 @@ module _ (text ts s : List ℕ) (g : Sought) (ops cs : List ℕ) (d : Policy) (p
   compared-many = ap length (sym (pr .compared)) ∙ length-map (take (g .tests) ops) (comparedAt s) ∙ length-take-le (g .tests) ops long
 
   -- no comparisons, and so no condition
-  absent-here : g .tests ≡ 0 → (vs : List Value) → matches resolved vs ≡ true
-  absent-here e vs = matches-none (columnComparison columns) vs (conditionAt s (g .test)) (compared-many ∙ e)
+  absent-here : g .tests ≡ 0 → (vs : List Value) → matches mode resolved vs ≡ true
+  absent-here e vs = matches-none mode (columnComparison columns) vs (conditionAt s (g .test)) (compared-many ∙ e)
 
   -- the comparisons that were read, by the numbers of their places
   module _ (trues falses : List ℕ) (flips : List Bool) (rs : List ℕ)
-      (each : (j : ℕ) → j < g .tests → TestOf ts (g .table) s (getD ops j 0) (getD cs (g .chosen + j) 0) (getD trues j 0) (getD falses j 0) (testIn rs j)) where
-    -- F says which of them hold of the values
-    module _ (F : ℕ → Bool) (vs : List Value) (says : (j : ℕ) → j < g .tests → F j ≡ meets (comparisonBy s (testIn rs j)) (getD vs (testIn rs j .column) [])) where
-      abbrev holdsOfIt : Compared → Bool
-      holdsOfIt = holdsHere (columnComparison columns) vs
+      (each : (j : ℕ) → j < g .tests → TestAt ts s ops cs g trues falses flips rs j) where
+    -- F says which of them are sure or possible of the values
+    module _ (F : Bool → ℕ → Bool) (vs : List Value) (says : (odd : Bool) (j : ℕ) → j < g .tests → F odd j ≡ meetsIn (modeUnder mode odd) (comparisonBy s (testIn rs j)) (getD vs (testIn rs j .column) [])) where
+      abbrev holdsOfIt : Bool → Compared → Bool
+      holdsOfIt = holdsHere mode (columnComparison columns) vs
 
-      says-it : (j : ℕ) → j < g .tests → F j ≡ holdsOfIt (comparedAt s (getD ops j 0))
-      says-it j l =
-          says j l
-          ∙ ap (λ (c : Comparison). meets c (getD vs (c .of) []))
-          (comparison-is text ts (pr .tableCount) (g .table) d (pr .tables) (pr .inside) s (getD ops j 0) (getD cs (g .chosen + j) 0) (there-at j l) (number-at j l) (getD trues j 0) (getD falses j 0) (testIn rs j) (each j l))
+      says-it : (odd : Bool) (j : ℕ) → j < g .tests → F odd j ≡ holdsOfIt odd (comparedAt s (getD ops j 0))
+      says-it odd j l =
+          says odd j l
+          ∙ ap (λ (c : Comparison). meetsIn (modeUnder mode odd) c (getD vs (c .of) []))
+          (comparison-is text ts (pr .tableCount) (g .table) d (pr .tables) (pr .inside) s (getD ops j 0) (getD cs (g .chosen + j) 0) (there-at j l) (number-at j l) (getD trues j 0) (getD falses j 0) (modeUnder mode (getD flips j false)) (testIn rs j) (each j l))
 
-      agreed : Agree F holdsOfIt 0 (map (comparedAt s) (take (g .tests) ops))
-      agreed j h =
+      agreed : (odd : Bool) → Agree (F odd) (holdsOfIt odd) 0 (map (comparedAt s) (take (g .tests) ops))
+      agreed odd j h =
           let l : j < g .tests = omega (arith, h, length-map (take (g .tests) ops) (comparedAt s), length-take-le (g .tests) ops long) in
           let z : 0 + j ≡ j = omega arith in
-          ap F z ∙ says-it j l
-          ∙ sym (getD-mapped (λ p. holdsOfIt (comparedAt s p)) (g .tests) j ops false l (omega (arith, l, long)))
-          ∙ ap (λ (bs : List Bool). getD bs j false) (sym (map-map holdsOfIt (comparedAt s) (take (g .tests) ops)))
+          ap (F odd) z ∙ says-it odd j l
+          ∙ sym (getD-mapped (λ p. holdsOfIt odd (comparedAt s p)) (g .tests) j ops false l (omega (arith, l, long)))
+          ∙ ap (λ (bs : List Bool). getD bs j false) (sym (map-map (holdsOfIt odd) (comparedAt s) (take (g .tests) ops)))
 
       -- the condition at a place of the query
       module _ (at n : ℕ) (e : g .test ≡ tests.When at n) (result : Read) (p : Programmed s at result trues falses flips) (least : 0 < g .tests) where
@@ -194,25 +222,26 @@ module _ (text ts s : List ℕ) (g : Sought) (ops cs : List ℕ) (d : Policy) (p
         some-here : 1 ≤ length (comparedIn (conditionInForm (from s at)))
         some-here = omega (arith, least, ap length compared-here, length-map (take (g .tests) ops) (comparedAt s), length-take-le (g .tests) ops long)
 
-        held-here : matches resolved vs ≡ heldRead holdsOfIt (conditionInForm (from s at))
+        held-here : matches mode resolved vs ≡ twoRead (holdsOfIt false) (holdsOfIt true) (conditionInForm (from s at))
         held-here =
-            ap (λ c. matches (Option·map (mapCond (columnComparison columns)) c) vs) here
-            ∙ matches-read (columnComparison columns) vs (conditionInForm (from s at)) some-here
+            ap (λ c. matches mode (Option·map (mapCond (columnComparison columns)) c) vs) here
+            ∙ matches-read mode (columnComparison columns) vs (conditionInForm (from s at)) some-here
 
-        runs-read : (o : Option (Cond Compared × Left)) → conditionInForm (from s at) ≡ o → comesTo (λ odd. F) trues falses flips (g .tests) ≡ heldRead holdsOfIt o
+        runs-read : (o : Option (Cond Compared × Left)) → conditionInForm (from s at) ≡ o → comesTo F trues falses flips (g .tests) ≡ twoRead (holdsOfIt false) (holdsOfIt true) o
         runs-read none z = absurd (omega (arith, some-here, ap (λ (o : Option (Cond Compared × Left)). length (comparedIn o)) z))
         runs-read (some r) z =
             let same : comparisons (r .0) ≡ map (comparedAt s) (take (g .tests) ops) = ap comparedIn (sym z) ∙ compared-here in
             let many : length (comparisons (r .0)) ≡ g .tests = ap length same ∙ length-map (take (g .tests) ops) (comparedAt s) ∙ length-take-le (g .tests) ops long in
             let fits : length (comparisons (r .0)) ≤ 64 = omega (arith, many, pr .few) in
-            let agree : Agree F holdsOfIt 0 (comparisons (r .0)) = subst (λ (xs : List Compared). Agree F holdsOfIt 0 xs) (sym same) agreed in
-            ap (comesTo (λ odd. F) trues falses flips) (sym many)
-            ∙ program-holds s at result trues falses flips p (r .0) (r .1) z fits (λ odd. F) holdsOfIt agree agree
+            ap (comesTo F trues falses flips) (sym many)
+            ∙ program-two s at result trues falses flips p (r .0) (r .1) z fits F (holdsOfIt false) (holdsOfIt true)
+            (subst (λ (xs : List Compared). Agree (F false) (holdsOfIt false) 0 xs) (sym same) (agreed false))
+            (subst (λ (xs : List Compared). Agree (F true) (holdsOfIt true) 0 xs) (sym same) (agreed true))
 
-        runs-when : comesTo (λ odd. F) trues falses flips (g .tests) ≡ matches resolved vs
+        runs-when : comesTo F trues falses flips (g .tests) ≡ matches mode resolved vs
         runs-when = runs-read (conditionInForm (from s at)) refl ∙ sym held-here
 
-      runs-by : ProgramOf s (g .test) trues falses flips → 0 < g .tests → (t : Test) → g .test ≡ t → comesTo (λ odd. F) trues falses flips (g .tests) ≡ matches resolved vs
+      runs-by : ProgramOf s (g .test) trues falses flips → 0 < g .tests → (t : Test) → g .test ≡ t → comesTo F trues falses flips (g .tests) ≡ matches mode resolved vs
       unfolding conditionAt comparisonsIn
       runs-by p least tests.Always e = absurd (omega (arith, least, compared-many, ap (λ (z : Test). length (comparisonsIn (conditionAt s z))) e))
       runs-by p least (tests.When at n) e = runs-when at n e (p .result) (p .is at n e) least
@@ -223,7 +252,7 @@ module _ (text ts s : List ℕ) (g : Sought) (ops cs : List ℕ) (d : Policy) (p
     wrong-told =
         ap leftmost
         (tabulated-same (λ j. wrongBy s (testIn rs j)) (λ j. wrong (comparedAt s (getD ops j 0))) (g .tests)
-        (λ j l. wrong-is text ts (pr .tableCount) (g .table) d (pr .tables) (pr .inside) s (getD ops j 0) (getD cs (g .chosen + j) 0) (there-at j l) (number-at j l) (getD trues j 0) (getD falses j 0) (testIn rs j) (each j l))
+        (λ j l. wrong-is text ts (pr .tableCount) (g .table) d (pr .tables) (pr .inside) s (getD ops j 0) (getD cs (g .chosen + j) 0) (there-at j l) (number-at j l) (getD trues j 0) (getD falses j 0) (modeUnder mode (getD flips j false)) (testIn rs j) (each j l))
         ∙ tabulated-taken (λ p. wrong (comparedAt s p)) (g .tests) ops long
         ∙ sym (map-map wrong (comparedAt s) (take (g .tests) ops))
         ∙ ap (map wrong) (pr .compared))
@@ -239,6 +268,7 @@ module _ (text ts s : List ℕ) (g : Sought) (ops cs : List ℕ) (d : Policy) (p
         flips = flips;
         hit = λ j l. each j l .hit;
         miss = λ j l. each j l .miss;
+        modes = λ j l. each j l .asked;
         absent = absent-here;
         runs = λ least F vs says. runs-by F vs says p least (g .test) refl;
       };

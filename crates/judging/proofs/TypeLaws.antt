@@ -15,6 +15,7 @@ use Rattle.condition.specs.Answers.{comparedAt, operatorBy}
 use Rattle.condition.specs.CondForm.{mistyped}
 use Rattle.condition.specs.Kinds.{hasKind, takes}
 use Rattle.judging.specs.Reading.{wrongBy}
+use Rattle.condition.specs.Ranges.{Mode}
 use Rattle.judging.specs.Tests.{TestOf}
 use Rattle.judging.specs.declared.tests.TestRead.{TestRead}
 use Rattle.lists.proofs.ListLaws.{map-append}
@@ -69,9 +70,9 @@ tabulated-taken h (suc m) xs l =
 -- ---- one comparison
 
 -- what was read of a comparison tells what is wrong with its types
-pub wrong-read : (ts : List ℕ) (t : ℕ) (s : List ℕ) (op c y n : ℕ) (x : TestRead) → TestOf ts t s op c y n x → wrongBy s x ≡ mistyped (kindOfCell (x .kind)) (comparedAt s op)
+pub wrong-read : (ts : List ℕ) (t : ℕ) (s : List ℕ) (op c y n : ℕ) (mode : Mode) (x : TestRead) → TestOf ts t s op c y n mode x → wrongBy s x ≡ mistyped (kindOfCell (x .kind)) (comparedAt s op)
 unfolding wrongBy mistyped comparedAt
-wrong-read ts t s op c y n x h = λ i.
+wrong-read ts t s op c y n mode x h = λ i.
     leftmost (unless (takes (kindOfCell (x .kind)) (h .operator i)) (wordOf s (h .sign i))
     ∷ unless ((h .fits ∙ ap (λ p. hasKind (kindOfCell (x .kind)) (wordAt s p)) (h .place)) i) (wordOf s (h .place i))
     ∷ [])

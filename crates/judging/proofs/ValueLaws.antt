@@ -7,6 +7,7 @@ use native.Mathlib.Omega.{arith}
 use Rattle.workspace.proofs.TabulatedLaws.{length-tabulated, tabulated-getD}
 use Rattle.workspace.specs.Tabulated.{tabulated}
 use Rattle.relations.specs.Rows.{rowIn, valueCountIn, valueIn, valuePlaceIn}
+use Rattle.text.proofs.Closings.{written-word}
 use Rattle.text.specs.Words.{nameBytes, writtenAt}
 
 -- n is the number of values that the code reads
@@ -16,8 +17,11 @@ value-in text ws r c n e = ap (λ m. getD (tabulated (valueIn text ws r) m) c []
 
 -- at the end stands the empty value
 value-end : (s : List ℕ) → writtenAt s (length s) ≡ []
-unfolding nameBytes writtenAt
-value-end s = let l : length s ≤ length s = omega arith in rw (drop-of-length-le s l)
+unfolding nameBytes
+value-end s =
+    let l : length s ≤ length s = omega arith in
+    let z : getD s (length s) 0 ≡ 0 = List·getD-eq-default s 0 l in
+    written-word s (length s) (λ e. absurd (omega (arith, z, e))) ∙ rw (drop-of-length-le s l)
 
 -- the value of a column stands in the text
 pub value-place : (text ws : List ℕ) (r width c p : ℕ) → c < width → p ≡ valuePlaceIn ws r c → writtenAt text p ≡ getD (tabulated (valueIn text ws r) width) c []

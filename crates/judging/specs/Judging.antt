@@ -5,7 +5,7 @@ use lib.ListN.{drop, getD, getElem?, take}
 use mathlib.Core.Bool.{Bool, _&&_, cond, false, true}
 use mathlib.Core.List.{List}
 use mathlib.Core.Path.{_≡_}
-use Rattle.answer.specs.Answer.{matches}
+use Rattle.answer.specs.Answer.{satisfies}
 use Rattle.answer.specs.Exactly.{isGiven, isUnmatchedRow, isWithheldRow}
 use Rattle.answer.specs.Seen.{rowsIn}
 use Rattle.judging.specs.Tests.{Tested}
@@ -23,6 +23,7 @@ use Rattle.relations.specs.Tables.{schemeBy}
 use Rattle.form.specs.declared.lines.Scheme as coded
 use Rattle.lists.specs.Lists.{countOf}
 use Rattle.query.specs.Query.{Query}
+use Rattle.query.specs.QueryForm.{modeIn}
 
 -- cell c of row r is open to the purpose p
 unfoldable pub openIn : Policy → ℕ → List ℕ → ℕ → ℕ → Bool
@@ -38,7 +39,7 @@ fateHere held met = cond held fate.Withheld (cond met fate.Passed fate.Unmatched
 unfoldable pub fateOf : Doc → Query → Row → Fate
 fateOf d q row =
     cond (eqb (row .table) (q .source .table))
-    (fateHere (isWithheldRow d q row) (matches (q .condition) (row .values)))
+    (fateHere (isWithheldRow d q row) (satisfies q (row .values)))
     fate.Elsewhere
 
 -- the row passes
@@ -65,7 +66,7 @@ pub record Judgeable (text ws : List ℕ) (count : ℕ) (os : List Bool) (s : Li
   pub schemed : schemeBy scheme label labels ≡ schemeAt (d .policy) (q .source .table)
   pub opened : Opened (d .policy) (q .purpose) os
   pub withholding : drop first (take (g .chosen + g .tests) cs) ≡ q .source .withholding
-  pub tested : Tested s read (g .tests) (q .condition)
+  pub tested : Tested s read (g .tests) (modeIn (q .wanted)) (q .condition)
 
 -- the same as Judged, for the first k rows
 pub record JudgedTo (d : Doc) (q : Query) (row : ℕ → Row) (k : ℕ) (marks : List Bool) (x : Tally) : Type 0 where

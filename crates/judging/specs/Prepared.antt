@@ -14,7 +14,7 @@ use Rattle.relations.specs.Rows.{Rows}
 use Rattle.relations.specs.Tables.{Tables}
 use Rattle.lists.specs.Lists.{countOf}
 use Rattle.query.specs.Query.{NamesParts, PartsOpen, Query}
-use Rattle.query.specs.QueryForm.{Wanted, countsOnly, leavesGaps, rowsOf}
+use Rattle.query.specs.QueryForm.{Wanted, countsOnly, leavesGaps, modeIn, rowsOf}
 use Rattle.query.specs.QueryPlaces.{verbOf}
 use Rattle.query.specs.declared.reading.Verb.{Verb}
 use Rattle.judging.specs.Tests.{Tested}
@@ -46,7 +46,7 @@ pub record Prepared (text ts ws : List ℕ) (count : ℕ) (os : List Bool) (s : 
   pub named : NamesParts q
   pub parts : PartsOpen (d .policy) q
   pub withholding : drop (firstWithholding g) (take (g .chosen + g .tests) cs) ≡ q .source .withholding
-  pub tested : Tested s read (g .tests) (q .condition)
+  pub tested : Tested s read (g .tests) (modeIn (q .wanted)) (q .condition)
 
 -- each row is judged: the marks say which rows of the query's table are given, and the counts are those of its rows
 pub record Judged (d : Doc) (q : Query) (marks : List Bool) (x : Tally) : Type 0 where

@@ -17,7 +17,8 @@ use Rattle.judging.specs.declared.sought.Sought.{Sought}
 use Rattle.judging.specs.declared.tests.TestRead.{TestRead}
 use Rattle.lists.specs.Lists.{allOf, orZero, there}
 use Rattle.query.specs.Query.{columnComparison}
-use Rattle.query.specs.QueryPlaces.{conditionAt}
+use Rattle.query.specs.QueryForm.{modeOf}
+use Rattle.query.specs.QueryPlaces.{conditionAt, verbOf}
 use Rattle.relations.specs.Tables.{Tables}
 use Rattle.text.specs.Offending.{leftmost, unless}
 use Rattle.text.specs.Words.{Word, wordOf}
@@ -52,4 +53,4 @@ firstWrong s ws m = leftmost (tabulated (λ j. wrongBy s (testIn ws j)) m)
 -- whose columns are among these, comes to of a row
 pub record TestsRead (s : List ℕ) (g : Sought) (ws : List ℕ) (columns : List Column) : Type 0 where
   pub wrong : firstWrong s ws (g .tests) ≡ leftmost (map (λ x. mistyped (columnKind columns (x .of)) x) (comparisonsIn (conditionAt s (g .test))))
-  pub tested : Tested s ws (g .tests) (Option·map (mapCond (columnComparison columns)) (conditionAt s (g .test)))
+  pub tested : Tested s ws (g .tests) (modeOf (verbOf (g .verb))) (Option·map (mapCond (columnComparison columns)) (conditionAt s (g .test)))

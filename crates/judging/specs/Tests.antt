@@ -1,23 +1,27 @@
--- Contract: the comparisons of a query's condition as they are read, ten numbers for each, and which hold of a row.
+-- Contract: the comparisons of a query's condition as they are read, eleven numbers for each, and which hold of a row.
 use Prim.Native.Nat.{_*_, _+_, _<_, _≤_, ℕ}
 use lib.Dec.{eqb}
 use lib.ListN.{getD, length}
-use mathlib.Core.Bool.{Bool, true}
+use mathlib.Core.Bool.{Bool, cond, false, true}
 use mathlib.Core.List.{List, []}
 use mathlib.Core.Option.{Option}
 use mathlib.Core.Path.{_≡_}
 use Rattle.answer.specs.Answer.{matches}
+use Rattle.judging.specs.declared.sought.Sought.{Sought}
 use Rattle.judging.specs.declared.tests.TestRead.{TestRead}
-use Rattle.condition.specs.Answers.{operatorBy, operatorOf}
-use Rattle.condition.specs.Comparison.{Comparison, meets}
+use Rattle.condition.specs.Answers.{modeBy, operatorBy, operatorOf}
+use Rattle.condition.specs.Comparison.{Comparison}
 use Rattle.condition.specs.Cond.{Cond}
 use Rattle.condition.specs.Kinds.{hasKind, numbers}
+use Rattle.condition.specs.Ranges.{Mode, meetsIn, other}
 use Rattle.condition.specs.declared.conditions.Read.{Read}
 use Rattle.workspace.specs.Cells.{kindOfCell}
 use Rattle.relations.specs.Rows.{rowIn}
 use Rattle.relations.specs.Tables.{columnKindIn}
 use Rattle.lists.specs.Lists.{orZero}
 use Rattle.program.specs.Program.{Programmed, comesTo}
+use Rattle.query.specs.QueryForm.{modeOf}
+use Rattle.query.specs.QueryPlaces.{verbOf}
 use Rattle.query.specs.declared.reading.Test.the-variants as tests
 use Rattle.query.specs.declared.reading.Test.{Test}
 use Rattle.text.specs.Numbers.{Value, rank}
@@ -29,16 +33,17 @@ use Rattle.text.specs.Words.{wordAt}
 -- the comparison of number j
 abbrev pub testIn : List ℕ → ℕ → TestRead
 testIn ws j = record {
-  column = getD ws (10 * j) 0;
-  kind = getD ws (10 * j + 1) 0;
-  operator = getD ws (10 * j + 2) 0;
-  sign = getD ws (10 * j + 3) 0;
-  place = getD ws (10 * j + 4) 0;
-  size = getD ws (10 * j + 5) 0;
-  fits = getD ws (10 * j + 6) 0;
-  rank = getD ws (10 * j + 7) 0;
-  hit = getD ws (10 * j + 8) 0;
-  miss = getD ws (10 * j + 9) 0;
+  column = getD ws (11 * j) 0;
+  kind = getD ws (11 * j + 1) 0;
+  operator = getD ws (11 * j + 2) 0;
+  sign = getD ws (11 * j + 3) 0;
+  place = getD ws (11 * j + 4) 0;
+  size = getD ws (11 * j + 5) 0;
+  fits = getD ws (11 * j + 6) 0;
+  rank = getD ws (11 * j + 7) 0;
+  hit = getD ws (11 * j + 8) 0;
+  miss = getD ws (11 * j + 9) 0;
+  certain = getD ws (11 * j + 10) 0;
 }
 
 -- comparison j is stored, and the others stay
@@ -50,13 +55,22 @@ pub record TestStored (before after : List ℕ) (j : ℕ) (x : TestRead) : Type 
 abbrev pub comparisonBy : List ℕ → TestRead → Comparison
 comparisonBy s x = record { of = x .column; kind = kindOfCell (x .kind); op = operatorBy (x .operator); value = wordAt s (x .place) }
 
+-- the mode in which it is asked: 1 is for sure
+abbrev pub modeIs : TestRead → Mode
+modeIs x = modeBy (eqb (x .certain) 1)
+
+-- the mode of a condition's comparisons under an odd number of `not`s, or an even one
+abbrev pub modeUnder : Mode → Bool → Mode
+modeUnder m odd = cond odd (other m) m
+
 -- its size is that of its value, and of a number so is its rank
 pub record Sized (s : List ℕ) (x : TestRead) : Type 0 where
   pub size : x .size ≡ length (wordAt s (x .place))
   pub ranked : kindOfCell (x .kind) ≡ numbers → x .rank ≡ orZero (rank (wordAt s (x .place)))
 
--- x is read of the comparison of column c of table t whose operator stands at a place of s; it goes on with y or n
-pub record TestOf (ts : List ℕ) (t : ℕ) (s : List ℕ) (op c y n : ℕ) (x : TestRead) : Type 0 where
+-- x is read of the comparison of column c of table t whose operator stands at a place of s; it goes on with y or n, and is
+-- asked in this mode
+pub record TestOf (ts : List ℕ) (t : ℕ) (s : List ℕ) (op c y n : ℕ) (mode : Mode) (x : TestRead) : Type 0 where
   pub column : x .column ≡ c
   pub kind : t < 8 → c < 16 → kindOfCell (x .kind) ≡ columnKindIn ts t c
   pub operator : operatorBy (x .operator) ≡ operatorOf (wordAt s op)
@@ -66,10 +80,17 @@ pub record TestOf (ts : List ℕ) (t : ℕ) (s : List ℕ) (op c y n : ℕ) (x :
   pub sized : Sized s x
   pub hit : x .hit ≡ y
   pub miss : x .miss ≡ n
+  pub asked : modeIs x ≡ mode
 
--- it holds of row r
+-- comparison j of what is sought is read: its operator stands at a place of s that ops has, cs has the number of its column, and the
+-- three lists say how it goes on and how it is asked
+abbrev pub TestAt : (ts s ops cs : List ℕ) → Sought → (trues falses : List ℕ) → List Bool → List ℕ → ℕ → Type 0
+TestAt ts s ops cs g trues falses flips ws j =
+    TestOf ts (g .table) s (getD ops j 0) (getD cs (g .chosen + j) 0) (getD trues j 0) (getD falses j 0) (modeUnder (modeOf (verbOf (g .verb))) (getD flips j false)) (testIn ws j)
+
+-- it is sure, or possible, of row r, as it is asked
 unfoldable pub testHolds : (text ws : List ℕ) → ℕ → List ℕ → TestRead → Bool
-testHolds text ws r s x = meets (comparisonBy s x) (getD (rowIn text ws r .values) (x .column) [])
+testHolds text ws r s x = meetsIn (modeIs x) (comparisonBy s x) (getD (rowIn text ws r .values) (x .column) [])
 
 -- ---- the condition
 
@@ -78,9 +99,9 @@ pub record ProgramOf (s : List ℕ) (test : Test) (trues falses : List ℕ) (fli
   pub result : Read
   pub is : (at n : ℕ) → test ≡ tests.When at n → Programmed s at result trues falses flips
 
--- what was read of the m comparisons of the condition o: they go on as its program says, and running that by which of them hold of
--- some values is evaluating the condition
-pub record Tested (s ws : List ℕ) (m : ℕ) (o : Option (Cond Comparison)) : Type 0 where
+-- what was read of the m comparisons of the condition o: they go on as its program says, and running that by which of them are sure
+-- or possible of some values says whether the condition is, in this mode
+pub record Tested (s ws : List ℕ) (m : ℕ) (mode : Mode) (o : Option (Cond Comparison)) : Type 0 where
   pub few : m ≤ 64
   pub sized : (j : ℕ) → j < m → Sized s (testIn ws j)
   pub trues : List ℕ
@@ -88,6 +109,8 @@ pub record Tested (s ws : List ℕ) (m : ℕ) (o : Option (Cond Comparison)) : T
   pub flips : List Bool
   pub hit : (j : ℕ) → j < m → testIn ws j .hit ≡ getD trues j 0
   pub miss : (j : ℕ) → j < m → testIn ws j .miss ≡ getD falses j 0
-  pub absent : m ≡ 0 → (vs : List Value) → matches o vs ≡ true
-  pub runs : 0 < m → (F : ℕ → Bool) (vs : List Value) → ((j : ℕ) → j < m → F j ≡ meets (comparisonBy s (testIn ws j)) (getD vs (testIn ws j .column) []))
-      → comesTo (λ odd. F) trues falses flips m ≡ matches o vs
+  pub modes : (j : ℕ) → j < m → modeIs (testIn ws j) ≡ modeUnder mode (getD flips j false)
+  pub absent : m ≡ 0 → (vs : List Value) → matches mode o vs ≡ true
+  pub runs : 0 < m → (F : Bool → ℕ → Bool) (vs : List Value)
+      → ((odd : Bool) (j : ℕ) → j < m → F odd j ≡ meetsIn (modeUnder mode odd) (comparisonBy s (testIn ws j)) (getD vs (testIn ws j .column) []))
+      → comesTo F trues falses flips m ≡ matches mode o vs

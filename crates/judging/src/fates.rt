@@ -27,6 +27,7 @@ ghost use Rattle.judging.specs.Prepared.{Judged, Prepared, firstWithhold
 ghost use Rattle.judging.specs.Tests.{Tested};
 ghost use Rattle.condition.specs.Comparison.{Comparison};
 ghost use Rattle.condition.specs.Cond.{Cond};
+ghost use Rattle.condition.specs.Ranges.{Mode};
 ghost use Rattle.document.specs.Open.{labelOpen, rowWithheld};
 ghost use Rattle.document.specs.Policy.{Doc, Policy};
 ghost use Rattle.relations.specs.Labels.{Opened};
@@ -110,7 +111,7 @@ fn row_met(
     m: usize,
 ) -> bool
     requires { ⌜ m ≤ 64 ⌝ }
-    ensures { λ x. ⌜ ((o : Option (Cond Comparison)) → Tested (now (query .entry)) (now (tests .entry)) m o → r < 1024 → valueCountIn (now (rows .entry)) r ≤ 16 → x ≡ (not skip && matches o (rowIn (now (text .entry)) (now (rows .entry)) r .values))) ⌝ }
+    ensures { λ x. ⌜ ((mode : Mode) (o : Option (Cond Comparison)) → Tested (now (query .entry)) (now (tests .entry)) m mode o → r < 1024 → valueCountIn (now (rows .entry)) r ≤ 16 → x ≡ (not skip && matches mode o (rowIn (now (text .entry)) (now (rows .entry)) r .values))) ⌝ }
 {
     if skip {
         return false;

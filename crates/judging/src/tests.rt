@@ -5,30 +5,33 @@ use condition::kinds::op_at;
 use condition::kinds::op_code;
 use program::programs::read_program;
 use query::reading::Test;
+use query::reading::is_certain;
 use relations::tables::column_kind;
 use text::walking::next_word;
 use text::words::word_end;
 use workspace::layout::COLUMNS;
 use workspace::layout::TABLE_CELLS;
 use workspace::store::kind_cell;
-ghost use Prim.Native.Nat.{_+_, _<_, _≤_, ℕ};
-ghost use lib.ListN.{getD, length};
+ghost use Prim.Native.Nat.{_<_, _≤_, ℕ};
+ghost use lib.Dec.{eqb};
+ghost use lib.ListN.{length};
 ghost use mathlib.Core.List.{List};
 ghost use mathlib.Core.Path.{_≡_};
 ghost use Rattle.judging.specs.Reading.{Comparable, TestsRead};
-ghost use Rattle.judging.specs.Tests.{ProgramOf, TestOf, TestStored, testIn};
+ghost use Rattle.judging.specs.Tests.{ProgramOf, TestAt, TestOf, TestStored, modeUnder, testIn};
+ghost use Rattle.condition.specs.Answers.{modeBy};
 ghost use Rattle.document.specs.Lookup.{columnsAt};
 ghost use Rattle.document.specs.Policy.{Policy};
 
 // How many comparisons a condition has at most.
 pub(crate) const TESTS: usize = 64;
 
-// How many numbers hold them: ten for each.
-pub const TEST_CELLS: usize = 640;
+// How many numbers hold them: eleven for each.
+pub const TEST_CELLS: usize = 704;
 
 // A comparison as it is read: the number of its column, its type as a number, the code of its operator and where that stands in the
 // query; where its value stands, how long it is, 1 if it is of the type and else 0, and its rank, if it is a number; and the
-// comparison to go on with where it holds, and where it does not.
+// comparison to go on with where it holds, and where it does not; and 1 if it is asked for sure, 0 if it is for what is possible.
 pub(crate) struct TestRead {
     pub column: usize,
     pub kind: usize,
@@ -40,6 +43,27 @@ pub(crate) struct TestRead {
     pub rank: usize,
     pub hit: usize,
     pub miss: usize,
+    pub certain: usize,
+}
+
+// A flag, as a number of the array.
+fn flag_number(b: bool) -> usize
+    ensures { λ n. ⌜ eqb n 1 ≡ b ⌝ }
+{
+    if b {
+        return 1;
+    }
+    0
+}
+
+// Whether a comparison is asked for sure: under an odd number of `not`s it is asked the other way.
+fn asked_certain(certain: bool, odd: bool) -> bool
+    ensures { λ b. ⌜ modeBy b ≡ modeUnder (modeBy certain) odd ⌝ }
+{
+    if odd {
+        return !certain;
+    }
+    certain
 }
 
 // Reads the comparison of column c of table t whose operator stands at a place of the query.
@@ -51,8 +75,9 @@ fn read_test(
     c: usize,
     hit: usize,
     miss: usize,
+    certain: bool,
 ) -> TestRead
-    ensures { λ x. ⌜ TestOf (now (tables .entry)) t (now (query .entry)) op c hit miss x ⌝ }
+    ensures { λ x. ⌜ TestOf (now (tables .entry)) t (now (query .entry)) op c hit miss (modeBy certain) x ⌝ }
 {
     let name = next_word(query, op);
     let place = next_word(query, name);
@@ -73,6 +98,7 @@ fn read_test(
         rank: value.rank,
         hit,
         miss,
+        certain: flag_number(certain),
     }
 }
 
@@ -82,7 +108,7 @@ fn store_test(tests: &mut [usize; TEST_CELLS], j: usize, x: TestRead)
     ensures { λ _. ⌜ TestStored (now (tests .entry)) (now (tests .exit)) j x ⌝ }
 {
     let cells: &mut [usize] = tests;
-    let at = 10 * j;
+    let at = 11 * j;
     cells[at] = x.column;
     cells[at + 1] = x.kind;
     cells[at + 2] = x.operator;
@@ -93,6 +119,7 @@ fn store_test(tests: &mut [usize; TEST_CELLS], j: usize, x: TestRead)
     cells[at + 7] = x.rank;
     cells[at + 8] = x.hit;
     cells[at + 9] = x.miss;
+    cells[at + 10] = x.certain;
 }
 
 // Comparison j, as it was stored.
@@ -100,7 +127,7 @@ pub(crate) fn test_at(tests: &[usize; TEST_CELLS], j: usize) -> TestRead
     requires { ⌜ j < 64 ⌝ }
     ensures { λ x. ⌜ x ≡ testIn (now (tests .entry)) j ⌝ }
 {
-    let at = 10 * j;
+    let at = 11 * j;
     TestRead {
         column: tests[at],
         kind: tests[at + 1],
@@ -112,6 +139,7 @@ pub(crate) fn test_at(tests: &[usize; TEST_CELLS], j: usize) -> TestRead
         rank: tests[at + 7],
         hit: tests[at + 8],
         miss: tests[at + 9],
+        certain: tests[at + 10],
     }
 }
 
@@ -142,14 +170,17 @@ fn store_tests(
     columns: &[usize; 80],
     trues: &[usize; 64],
     falses: &[usize; 64],
+    flips: &[bool; 64],
     tests: &mut [usize; TEST_CELLS],
 )
     requires { ⌜ (s .chosen ≤ 16) × (s .tests ≤ 64) × (s .tests ≤ length (now ops)) ⌝ }
-    ensures { λ _. ⌜ ((j : ℕ) → j < s .tests → TestOf (now (tables .entry)) (s .table) (now (query .entry)) (getD (now (ops .entry)) j 0) (getD (now (columns .entry)) (s .chosen + j) 0) (getD (now (trues .entry)) j 0) (getD (now (falses .entry)) j 0) (testIn (now (tests .exit)) j)) ⌝ }
+    ensures { λ _. ⌜ ((j : ℕ) → j < s .tests → TestAt (now (tables .entry)) (now (query .entry)) (now (ops .entry)) (now (columns .entry)) s (now (trues .entry)) (now (falses .entry)) (now (flips .entry)) (now (tests .exit)) j) ⌝ }
 {
     let t = s.table;
     let m = s.tests;
     let chosen = s.chosen;
+    let verb = s.verb;
+    let certain = is_certain(verb);
     let mut j = 0;
     while j < m {
         let x = read_test(
@@ -160,6 +191,7 @@ fn store_tests(
             columns[chosen + j],
             trues[j],
             falses[j],
+            asked_certain(certain, flips[j]),
         );
         store_test(tests, j, x);
         j += 1;
@@ -189,5 +221,15 @@ pub fn read_tests(
     let mut flips = [false; 64];
     let test = s.test;
     store_program(query, test, &mut trues, &mut falses, &mut flips);
-    store_tests(tables, query, s, ops, columns, &trues, &falses, tests);
+    store_tests(
+        tables,
+        query,
+        s,
+        ops,
+        columns,
+        &trues,
+        &falses,
+        &flips,
+        tests,
+    );
 }

@@ -8,6 +8,7 @@ use mathlib.Core.List.{List, []}
 use mathlib.Core.Option.{Option, none, some}
 use mathlib.Core.Path.{_∙_, _≡_, ap, refl}
 use native.Mathlib.Omega.{arith}
+use Rattle.document.specs.AmountFaults.{brokenRange}
 use Rattle.document.specs.Bounds.{lateAttr, overBound, secondRoot}
 use Rattle.document.specs.Lookup.{purposeOf, roleOf}
 use Rattle.document.specs.NameFaults.{taken, unknown}
@@ -45,10 +46,11 @@ pub record Kind (nodes : Policy → List Node) (form : Word → Option Word → 
   pub below : (d : Policy) (w v : Word) → secondRoot d (form w (some v)) ≡ false
   pub fits : (d : Policy) (w : Word) (p : Option Word) → misfit d (form w p) ≡ false
   pub typed : (d : Policy) (w : Word) (p : Option Word) → wrongType d (form w p) ≡ none
+  pub ordered : (d : Policy) (w : Word) (p : Option Word) → brokenRange d (form w p) ≡ none
   pub early : (d : Policy) (w : Word) (p : Option Word) → lateAttr d (form w p) ≡ false
 
 pub purpose-kind : Kind (λ d. d .purposes) purpose limit
-unfolding overBound taken unknown secondRoot misfit wrongType lateAttr purposeOf there
+unfolding overBound taken unknown secondRoot misfit wrongType brokenRange lateAttr purposeOf there
 purpose-kind = record {
   bound = λ d w p. refl;
   taken = λ d w p. refl;
@@ -56,11 +58,12 @@ purpose-kind = record {
   below = λ d w v. refl;
   fits = λ d w p. refl;
   typed = λ d w p. refl;
+  ordered = λ d w p. refl;
   early = λ d w p. refl;
 }
 
 pub role-kind : Kind (λ d. d .roles) role 64
-unfolding overBound taken unknown secondRoot misfit wrongType lateAttr roleOf
+unfolding overBound taken unknown secondRoot misfit wrongType brokenRange lateAttr roleOf
 role-kind = record {
   bound = λ d w p. refl;
   taken = λ d w p. refl;
@@ -68,6 +71,7 @@ role-kind = record {
   below = λ d w v. refl;
   fits = λ d w p. refl;
   typed = λ d w p. refl;
+  ordered = λ d w p. refl;
   early = λ d w p. refl;
 }
 
@@ -124,6 +128,7 @@ module _ (nodes : Policy → List Node) (form : Word → Option Word → Form) (
             (λ d h. kind .unknown (d .policy) (wordOf line n) p ∙ u d h) s
             (λ d h. kind .fits (d .policy) (wordOf line n) p)
             (λ d h. kind .typed (d .policy) (wordOf line n) p)
+            (λ d h. kind .ordered (d .policy) (wordOf line n) p)
             l
             (λ d h. kind .early (d .policy) (wordOf line n) p)
 

@@ -4,7 +4,7 @@ use Prim.Native.Nat.{_+_, _≤_, suc, zero, ℕ}
 use lib.Dec.{eqb}
 use lib.ListN.{getD, length}
 use lib.Seq.{sets}
-use mathlib.Core.Bool.{Bool, _&&_, _||_, cond, false, not, true}
+use mathlib.Core.Bool.{Bool, cond, false, not, true}
 use mathlib.Core.List.{List, [], _++_, _∷_, map}
 use mathlib.Core.Option.{some}
 use mathlib.Core.Path.{_≡_}
@@ -12,7 +12,7 @@ use Rattle.condition.specs.Answers.{numbered, readTo}
 use Rattle.condition.specs.CondForm.{Compared, conditionInForm}
 use Rattle.condition.specs.declared.conditions.Read.{Read}
 use Rattle.text.specs.Reader.{Left, from}
-use Rattle.condition.specs.Cond.{Cond, Conds, both, comparisons, either, last, more, negate, test}
+use Rattle.condition.specs.Cond.{Cond, Conds, both, comparisons, either, holdsTwo, last, more, negate, test}
 
 -- how many comparisons a program has room for. This number says that the condition holds, and the one behind it that it does not
 abbrev pub room : ℕ
@@ -32,24 +32,6 @@ branch y n o = record { onTrue = y; onFalse = n; odd = o }
 unfoldable pub run : (Bool → ℕ → Bool) → ℕ → List Branch → ℕ → ℕ
 run f k [] t = t
 run f k (e ∷ es) t = run f (k + 1) es (cond (eqb t k) (cond (f (e .odd) k) (e .onTrue) (e .onFalse)) t)
-
--- a condition of which each comparison is read in one of two ways, f or g, and `not` swaps them
-unfoldable mutual
-  pub holdsTwo : {C : Type 0} → (C → Bool) → (C → Bool) → Cond C → Bool
-  holdsTwo f g (test c) = f c
-  holdsTwo f g (negate c) = not (holdsTwo g f c)
-  holdsTwo f g (both cs) = holdTwoAll f g cs
-  holdsTwo f g (either cs) = holdTwoAny f g cs
-
-  -- all of them hold
-  pub holdTwoAll : {C : Type 0} → (C → Bool) → (C → Bool) → Conds C → Bool
-  holdTwoAll f g (last c) = holdsTwo f g c
-  holdTwoAll f g (more c cs) = holdsTwo f g c && holdTwoAll f g cs
-
-  -- one of them holds
-  pub holdTwoAny : {C : Type 0} → (C → Bool) → (C → Bool) → Conds C → Bool
-  holdTwoAny f g (last c) = holdsTwo f g c
-  holdTwoAny f g (more c cs) = holdsTwo f g c || holdTwoAny f g cs
 
 -- the m steps from number k on, as three lists hold them
 unfoldable pub branchesOf : List ℕ → List ℕ → List Bool → ℕ → ℕ → List Branch

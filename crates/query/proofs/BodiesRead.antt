@@ -18,7 +18,7 @@ use Rattle.query.proofs.WholeLaws.{whole-long, whole-open, whole-read, 
 use Rattle.query.specs.QueryPartPlaces.{BodyWithin, HeadedWithin, ListedWithin, ReadsBody, ReadsColumns, ReadsHead, ReadsTest, TestedWithin, bodyAt, headThen, headTo, isBounded, listedAt, testedAt}
 use Rattle.query.specs.QueryPlaces.{Few, ReadsQuery, TestWithin, WantedWithin, Within, asksRows, chosenCount, comparisonCount, conditionAt, formAt, verbIn, verbOf, wantedAt}
 use Rattle.query.specs.QueryForm as form
-use Rattle.query.specs.QueryForm.{QueryForm, countsOnly, hasGaps, ifWithinBounds, leavesGaps, queryBody, queryForm, queryForms, queryOf, selected, selectedWords, wantedRows, withinBounds}
+use Rattle.query.specs.QueryForm.{QueryForm, admitsRanges, countsOnly, hasGaps, ifWithinBounds, leavesGaps, modeIn, modeOf, queryBody, queryForm, queryForms, queryOf, selected, selectedWords, takesRanges, wantedRows, withinBounds}
 use Rattle.text.specs.Brackets.{among, keyword, optional}
 use Rattle.text.specs.Bytes.{ascii}
 use Rattle.text.specs.Names.{sameName}
@@ -87,15 +87,25 @@ module _ (s : List ℕ) (at : ℕ) {e : ℕ} (ends : e ≡ at + length (wordAt s
   unfolding queryForms among isCalled
   at-count h k b = record { is = rw (keyword-at queryForms s at e ends, h, k) (b .is); within = b .within }
 
-  pub at-blank : sameName (wordAt s at) (ascii "select") ≡ false → sameName (wordAt s at) (ascii "count") ≡ false → sameName (wordAt s at) (ascii "blank") ≡ true
-      → ReadsBody s (queryBody (wantedRows (verbOf verb.Blank)) (from s e)) r → ReadsBody s (keyword queryForms (from s at)) r
-  unfolding queryForms among isCalled verbOf
-  at-blank h k l b = record { is = rw (keyword-at queryForms s at e ends, h, k, l) (b .is); within = b .within }
+  module _ (h : sameName (wordAt s at) (ascii "select") ≡ false) (k : sameName (wordAt s at) (ascii "count") ≡ false) where
+    pub at-blank : sameName (wordAt s at) (ascii "blank") ≡ true → ReadsBody s (queryBody (wantedRows (verbOf verb.Blank)) (from s e)) r → ReadsBody s (keyword queryForms (from s at)) r
+    unfolding queryForms among isCalled verbOf
+    at-blank l b = record { is = rw (keyword-at queryForms s at e ends, h, k, l) (b .is); within = b .within }
+
+    module _ (l : sameName (wordAt s at) (ascii "blank") ≡ false) where
+      pub at-sure : sameName (wordAt s at) (ascii "sure") ≡ true → ReadsBody s (queryBody (wantedRows (verbOf verb.Sure)) (from s e)) r → ReadsBody s (keyword queryForms (from s at)) r
+      unfolding queryForms among isCalled verbOf
+      at-sure m b = record { is = rw (keyword-at queryForms s at e ends, h, k, l, m) (b .is); within = b .within }
+
+      pub at-possible : sameName (wordAt s at) (ascii "sure") ≡ false → sameName (wordAt s at) (ascii "possible") ≡ true
+          → ReadsBody s (queryBody (wantedRows (verbOf verb.Possible)) (from s e)) r → ReadsBody s (keyword queryForms (from s at)) r
+      unfolding queryForms among isCalled verbOf
+      at-possible m n b = record { is = rw (keyword-at queryForms s at e ends, h, k, l, m, n) (b .is); within = b .within }
 
 pub at-none : (s : List ℕ) (at : ℕ) {e : ℕ} → e ≡ at + length (wordAt s at) → sameName (wordAt s at) (ascii "select") ≡ false → sameName (wordAt s at) (ascii "count") ≡ false
-    → sameName (wordAt s at) (ascii "blank") ≡ false → ReadsBody s (keyword queryForms (from s at)) body.Refused
+    → sameName (wordAt s at) (ascii "blank") ≡ false → sameName (wordAt s at) (ascii "sure") ≡ false → sameName (wordAt s at) (ascii "possible") ≡ false → ReadsBody s (keyword queryForms (from s at)) body.Refused
 unfolding queryForms among isCalled bodyAt BodyWithin
-at-none s at {e} ends h k l = record { is = rw (keyword-at queryForms s at e ends, h, k, l); within = tt }
+at-none s at {e} ends h k l m n = record { is = rw (keyword-at queryForms s at e ends, h, k, l, m, n); within = tt }
 
 -- ---- the bounds
 
@@ -133,13 +143,16 @@ module _ {w : Wanted} (e : w ≡ wanted.Count) where
   unfolding verbIn
   verb-count = rw e
 
-pub select-whole : {v : Verb} → v ≡ verb.Select → false ≡ leavesGaps (verbOf v)
-unfolding leavesGaps verbOf
-select-whole e = rw e
+-- what a verb says, from which it is
+module _ {v : Verb} where
+  pub gaps-by : (u : Verb) → v ≡ u → leavesGaps (verbOf u) ≡ leavesGaps (verbOf v)
+  gaps-by u e = ap (λ (x : Verb). leavesGaps (verbOf x)) (sym e)
 
-pub blank-gaps : {v : Verb} → v ≡ verb.Blank → true ≡ leavesGaps (verbOf v)
-unfolding leavesGaps verbOf
-blank-gaps e = rw e
+  pub ranges-by : (u : Verb) → v ≡ u → takesRanges (verbOf u) ≡ takesRanges (verbOf v)
+  ranges-by u e = ap (λ (x : Verb). takesRanges (verbOf x)) (sym e)
+
+  pub mode-by : (u : Verb) → v ≡ u → modeOf (verbOf u) ≡ modeOf (verbOf v)
+  mode-by u e = ap (λ (x : Verb). modeOf (verbOf x)) (sym e)
 
 module _ (q : Question) {n : ℕ} (e : n ≡ chosenCount (q .wanted)) where
   pub over-columns : 16 < n → false ≡ isBounded q
@@ -178,6 +191,18 @@ pub gaps-are : (s : List ℕ) (w : Wanted) → hasGaps (wantedAt s w) ≡ leaves
 unfolding wantedAt hasGaps verbIn verbOf leavesGaps
 gaps-are s (wanted.Rows v p n) = refl
 gaps-are s wanted.Count = refl
+
+-- ranges are taken so
+pub ranges-are : (s : List ℕ) (w : Wanted) → admitsRanges (wantedAt s w) ≡ takesRanges (verbOf (verbIn w))
+unfolding wantedAt admitsRanges verbIn verbOf takesRanges
+ranges-are s (wanted.Rows v p n) = refl
+ranges-are s wanted.Count = refl
+
+-- and rows pass so
+pub mode-is : (s : List ℕ) (w : Wanted) → modeIn (wantedAt s w) ≡ modeOf (verbOf (verbIn w))
+unfolding wantedAt modeIn verbIn verbOf modeOf
+mode-is s (wanted.Rows v p n) = refl
+mode-is s wanted.Count = refl
 
 -- so the query is within the bounds where the numbers of the question are
 form-bounds : (s : List ℕ) (q : Question) → Within s q → ifWithinBounds (formAt s q) ≡ cond (isBounded q) (some (formAt s q)) none

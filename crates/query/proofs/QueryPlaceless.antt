@@ -75,7 +75,7 @@ withholding-placeless q = (λ i. cond (gaps-map placeless (q .wanted) i) (tested
     go true = refl
     go false = refl
 
-named-placeless : (q : QueryForm) → namedWords (placelessQuery q) ≡ map placeless (namedWords q)
+pub named-placeless : (q : QueryForm) → namedWords (placelessQuery q) ≡ map placeless (namedWords q)
 unfolding namedWords
 named-placeless q =
     ap (map (λ (r : Ref). r .column)) (refs-placeless q)
@@ -96,7 +96,7 @@ tests-placeless {A} e g h xs = ap leftmost (go xs) ∙ leftmost-placeless (map g
     go [] = refl
     go (x ∷ xs) = λ i. h x i ∷ go xs i
 
-missing-placeless : (f : Word → Bool) → ((w : Word) → f (placeless w) ≡ f w) → (ws : List Word) → missing f (map placeless ws) ≡ Option·map placeless (missing f ws)
+pub missing-placeless : (f : Word → Bool) → ((w : Word) → f (placeless w) ≡ f w) → (ws : List Word) → missing f (map placeless ws) ≡ Option·map placeless (missing f ws)
 unfolding missing
 missing-placeless f h ws = tests-placeless placeless (λ w. unless (f w) w) (λ w. ap (λ b. unless b (placeless w)) (h w) ∙ unless-placeless (f w) w) ws
 

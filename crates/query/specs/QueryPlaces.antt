@@ -40,6 +40,8 @@ selectedFrom s p = wordOf s p ∷ namesAt s (wordEndAt s p)
 unfoldable pub verbOf : Verb → form.Verb
 verbOf verb.Select = form.select
 verbOf verb.Blank = form.blank
+verbOf verb.Sure = form.surely
+verbOf verb.Possible = form.possibly
 
 -- what is asked for
 unfoldable pub wantedAt : List ℕ → Wanted → form.Wanted Word

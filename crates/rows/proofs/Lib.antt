@@ -5,4 +5,5 @@ pub mod RowItems
 pub mod RowJudging
 pub mod RowStored
 pub mod RowTurns
+pub mod RowTypes
 pub mod StoredItems

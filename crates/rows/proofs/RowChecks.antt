@@ -1,28 +1,27 @@
 -- The checks of a row by position: labels that are not known, and values of the wrong type, item by item. Assumes nothing.
 use Prim.Native.Nat.{_+_, _<_, _≤_, suc, zero, ℕ}
-use lib.Dec.{eqb}
 use lib.ListN.{drop, drop-of-length-le, getD, getElem?, length}
 use mathlib.Core.Bool.{Bool, false, true}
 use mathlib.Core.List.{List, [], _∷_, map}
 use mathlib.Core.Option.{Option, Option·none-ne-some, Option·some-injective, none, some}
 use mathlib.Core.Path.{_∙_, _≡_, ap, refl, subst, sym}
 use native.Mathlib.Numerals.{add-one}
-use Rattle.condition.specs.Kinds.{Kind, hasKind}
+use Rattle.condition.specs.Kinds.{Kind}
+use Rattle.document.specs.AmountFaults.{inOrder}
 use Rattle.document.specs.Lookup.{columnsAt}
 use Rattle.document.specs.NameFaults.{bracketLabels}
 use Rattle.document.specs.Policy.{Column, Policy}
-use Rattle.document.specs.TypeFaults.{mistypedValue}
+use Rattle.document.specs.TypeFaults.{cellHasKind, mistypedValue}
 use Rattle.rows.proofs.RowItems.{values-more, values-stop}
 use Rattle.rows.specs.RowWords.{itemValueAt, labelAt, valuesAt}
 use Rattle.form.proofs.WalkSteps.{item-bracket, item-plain, items-more, items-stop}
 use Rattle.form.specs.Form.{Item, labelled, plain}
-use Rattle.form.specs.Walks.{cellLabelIn, firstIn, itemAt, itemEndAt, itemsAt}
+use Rattle.form.specs.Walks.{cellLabelIn, isLabelledAt, itemAt, itemEndAt, itemsAt, valuePlace}
 use Rattle.relations.proofs.TableLaws.{column-at, column-inside, table-inside, width-read}
 use Rattle.relations.specs.Tables.{Cut, Tables, columnCountIn, columnIn, columnKindIn}
-use Rattle.text.proofs.OffendingLaws.{leftmost-fail, leftmost-on, leftmost-only, missing-nil}
-use Rattle.text.proofs.WordLaws.{written-word}
+use Rattle.text.proofs.OffendingLaws.{leftmost-fail, leftmost-on, leftmost-only, missing-here, missing-next, missing-nil}
+use Rattle.text.specs.Amounts.{rangeOf}
 use Rattle.text.specs.Offending.{leftmost, missing, unless}
-use Rattle.text.specs.Walking.{past}
 use Rattle.text.specs.Words.{Word, wordOf, writtenAt, writtenOf}
 
 -- ---- labels that are not known
@@ -47,11 +46,11 @@ module _ (f : Word → Bool) where
 
   module _ (s : List ℕ) (at : ℕ) where
     -- what is missing of one item's label
-    pub plain-known : eqb (getD s at 0) 40 ≡ false → missing f (bracketLabels (itemAt s at ∷ [])) ≡ unless true (labelAt s at)
+    pub plain-known : isLabelledAt s at ≡ false → missing f (bracketLabels (itemAt s at ∷ [])) ≡ unless true (labelAt s at)
     unfolding bracketLabels unless missing leftmost
     plain-known e = ap (λ i. missing f (bracketLabels (i ∷ []))) (item-plain s at e)
 
-    pub bracket-known : eqb (getD s at 0) 40 ≡ true → (b : Bool) → f (wordOf s (cellLabelIn s at)) ≡ b → missing f (bracketLabels (itemAt s at ∷ [])) ≡ unless b (labelAt s at)
+    pub bracket-known : isLabelledAt s at ≡ true → (b : Bool) → f (wordOf s (cellLabelIn s at)) ≡ b → missing f (bracketLabels (itemAt s at ∷ [])) ≡ unless b (labelAt s at)
     unfolding bracketLabels labelAt
     bracket-known e b h = ap (λ i. missing f (bracketLabels (i ∷ []))) (item-bracket s at e) ∙ one-missing (wordOf s (cellLabelIn s at)) b h
 
@@ -91,10 +90,15 @@ no-values (c ∷ cs) = refl
 pub no-values-left : (cs : List Column) (s : List ℕ) (i : ℕ) → (getD s i 0 ≡ 32 → ⊥) → mistypedValue cs (valuesAt s i) ≡ none
 no-values-left cs s i h = ap (mistypedValue cs) (values-stop s i h) ∙ no-values cs
 
+-- the value of an item stands at its place
+value-is : (s : List ℕ) (i v : ℕ) → v ≡ valuePlace s (i + 1) → itemValueAt s (i + 1) ≡ writtenOf s v
+unfolding itemValueAt
+value-is s i v place = ap (writtenOf s) (sym place)
+
 -- a value and its column, and those behind them
 module _ (text ws : List ℕ) (k t : ℕ) (d : Policy) (h : Tables text ws k (d .tables)) (l : t < k) (n : ℕ) (width : Cut 16 t 8 (columnCountIn ws t) n)
     (s : List ℕ) (c i : ℕ) (small : c < n) (e : getD s i 0 ≡ 32) (type : Kind) (kind : t < 8 → c < 16 → type ≡ columnKindIn ws t c)
-    (v : ℕ) (place : v ≡ past 40 s (i + 1)) (b : Bool) (is : b ≡ hasKind type (writtenAt s v)) where
+    (v : ℕ) (place : v ≡ valuePlace s (i + 1)) (b : Bool) (is : b ≡ cellHasKind type (writtenAt s v)) where
   inside : c < length (columnsAt d t)
   inside = subst (λ (m : ℕ). c < m) (width-read text ws k t d h l n width) small
 
@@ -105,19 +109,34 @@ module _ (text ws : List ℕ) (k t : ℕ) (d : Policy) (h : Tables text ws k (d 
   unfolding columnIn
   kind-is = sym (kind (table-inside text ws k t d h l) (column-inside text ws k t d h l c inside))
 
-  value-is : itemValueAt s (i + 1) ≡ wordOf s v
-  unfolding itemValueAt firstIn
-  value-is = ap (writtenOf s) (sym place) ∙ (λ j. record { at = v; bytes = written-word s v j })
-
-  types-step : mistypedValue (drop c (columnsAt d t)) (valuesAt s i) ≡ leftmost (unless b (wordOf s v) ∷ mistypedValue (drop (c + 1) (columnsAt d t)) (valuesAt s (itemEndAt s (i + 1))) ∷ [])
+  types-step : mistypedValue (drop c (columnsAt d t)) (valuesAt s i) ≡ leftmost (unless b (writtenOf s v) ∷ mistypedValue (drop (c + 1) (columnsAt d t)) (valuesAt s (itemEndAt s (i + 1))) ∷ [])
   unfolding mistypedValue
   types-step =
       (λ j. mistypedValue (columns-left j) (values-more s i e j))
-      ∙ (λ j. leftmost (unless (hasKind (kind-is j) (value-is j .bytes)) (value-is j) ∷ mistypedValue (drop (c + 1) (columnsAt d t)) (valuesAt s (itemEndAt s (i + 1))) ∷ []))
-      ∙ ap (λ x. leftmost (unless x (wordOf s v) ∷ mistypedValue (drop (c + 1) (columnsAt d t)) (valuesAt s (itemEndAt s (i + 1))) ∷ [])) (sym (is ∙ ap (hasKind type) (written-word s v)))
+      ∙ (λ j. leftmost (unless (cellHasKind (kind-is j) (value-is s i v place j .bytes)) (value-is s i v place j) ∷ mistypedValue (drop (c + 1) (columnsAt d t)) (valuesAt s (itemEndAt s (i + 1))) ∷ []))
+      ∙ ap (λ x. leftmost (unless x (writtenOf s v) ∷ mistypedValue (drop (c + 1) (columnsAt d t)) (valuesAt s (itemEndAt s (i + 1))) ∷ [])) (sym is)
 
   pub types-on : b ≡ true → mistypedValue (drop c (columnsAt d t)) (valuesAt s i) ≡ mistypedValue (drop (c + 1) (columnsAt d t)) (valuesAt s (itemEndAt s (i + 1)))
-  types-on x = types-step ∙ leftmost-on b (wordOf s v) (mistypedValue (drop (c + 1) (columnsAt d t)) (valuesAt s (itemEndAt s (i + 1)))) x
+  types-on x = types-step ∙ leftmost-on b (writtenOf s v) (mistypedValue (drop (c + 1) (columnsAt d t)) (valuesAt s (itemEndAt s (i + 1)))) x
 
-  pub types-here : b ≡ false → mistypedValue (drop c (columnsAt d t)) (valuesAt s i) ≡ some (wordOf s v)
-  types-here x = types-step ∙ leftmost-fail b (wordOf s v) _ x
+  pub types-here : b ≡ false → mistypedValue (drop c (columnsAt d t)) (valuesAt s i) ≡ some (writtenOf s v)
+  types-here x = types-step ∙ leftmost-fail b (writtenOf s v) _ x
+
+-- ---- ranges that are not in order
+
+-- the first value that is one
+abbrev pub firstBroken : List Word → Option Word
+firstBroken ws = missing (λ w. inOrder (rangeOf (w .bytes))) ws
+
+module _ (s : List ℕ) (i : ℕ) (e : getD s i 0 ≡ 32) (v : ℕ) (place : v ≡ valuePlace s (i + 1)) (b : Bool) (is : b ≡ inOrder (rangeOf (writtenAt s v))) where
+  order-step : firstBroken (valuesAt s i) ≡ firstBroken (writtenOf s v ∷ valuesAt s (itemEndAt s (i + 1)))
+  order-step = ap firstBroken (values-more s i e) ∙ ap (λ (w : Word). firstBroken (w ∷ valuesAt s (itemEndAt s (i + 1)))) (value-is s i v place)
+
+  pub order-on : b ≡ true → firstBroken (valuesAt s i) ≡ firstBroken (valuesAt s (itemEndAt s (i + 1)))
+  order-on x = order-step ∙ missing-next (λ w. inOrder (rangeOf (w .bytes))) (writtenOf s v) (valuesAt s (itemEndAt s (i + 1))) (sym is ∙ x)
+
+  pub order-here : b ≡ false → firstBroken (valuesAt s i) ≡ some (writtenOf s v)
+  order-here x = order-step ∙ missing-here (λ w. inOrder (rangeOf (w .bytes))) (writtenOf s v) (valuesAt s (itemEndAt s (i + 1))) (sym is ∙ x)
+
+pub order-done : (s : List ℕ) (i : ℕ) → (getD s i 0 ≡ 32 → ⊥) → firstBroken (valuesAt s i) ≡ none
+order-done s i h = ap firstBroken (values-stop s i h) ∙ missing-nil (λ w. inOrder (rangeOf (w .bytes)))

@@ -1,6 +1,5 @@
 -- The values of a row by the positions where they stand, for each shape of its items. Assumes nothing.
 use Prim.Native.Nat.{_+_, suc, zero, ℕ}
-use borrow.Author.Tests.{eqb-false}
 use lib.Dec.{eqb}
 use lib.ListN.{getD, length}
 use mathlib.Core.Bool.{Bool, cond, false, not, true}
@@ -11,31 +10,34 @@ use native.Mathlib.Omega.{arith}
 use Rattle.document.specs.ValueFaults.{bracketValues, plainValues, valuesBehindLabel}
 use Rattle.rows.specs.RowWords.{itemValueAt, shapedValues, valuesAt}
 use Rattle.form.proofs.WalkLaws.{item-onward, walk-more, walk-stop}
-use Rattle.form.proofs.WalkSteps.{item-bracket, item-plain, items-more, items-stop}
+use Rattle.form.proofs.WalkSteps.{item-bracket, item-plain, items-more, items-stop, place-bracket, place-plain}
 use Rattle.form.specs.Form.{Item, labelled, plain}
-use Rattle.form.specs.Walks.{firstIn, itemAt, itemEndAt, itemsAt, listAt, listUpTo}
+use Rattle.form.specs.Walks.{firstIn, isLabelledAt, itemAt, itemEndAt, itemsAt, listAt, listUpTo}
 use Rattle.lists.proofs.ListLaws.{map-inv}
 use Rattle.lists.specs.Lists.{holdsOf}
-use Rattle.text.proofs.WalkingLaws.{past-other}
 use Rattle.text.specs.Names.{isName}
 use Rattle.text.specs.Words.{Word, writtenOf}
 
 -- ---- one item
 
 module _ (s : List ℕ) (at : ℕ) where
-  -- without a bracket, the value stands where the item stands
-  pub value-plain : eqb (getD s at 0) 40 ≡ false → writtenOf s at ≡ itemValueAt s at
-  unfolding itemValueAt firstIn
-  value-plain e = ap (writtenOf s) (sym (past-other 40 s at (eqb-false _ _ e)))
+  -- without a label, the value stands where the item stands
+  pub value-plain : isLabelledAt s at ≡ false → writtenOf s at ≡ itemValueAt s at
+  unfolding itemValueAt
+  value-plain e = ap (writtenOf s) (sym (place-plain s at e))
+
+  value-bracket : isLabelledAt s at ≡ true → writtenOf s (firstIn s at) ≡ itemValueAt s at
+  unfolding itemValueAt
+  value-bracket e = ap (writtenOf s) (sym (place-bracket s at e))
 
   -- an item of the shape that is wanted adds its value
-  pub shaped-more : (b : Bool) (is : List Item) → eqb (getD s at 0) 40 ≡ b → shapedValues b (itemAt s at ∷ is) ≡ Option·map (λ ws. itemValueAt s at ∷ ws) (shapedValues b is)
-  unfolding shapedValues bracketValues plainValues itemValueAt
-  shaped-more true is e = ap (λ i. bracketValues (i ∷ is)) (item-bracket s at e)
+  pub shaped-more : (b : Bool) (is : List Item) → isLabelledAt s at ≡ b → shapedValues b (itemAt s at ∷ is) ≡ Option·map (λ ws. itemValueAt s at ∷ ws) (shapedValues b is)
+  unfolding shapedValues bracketValues plainValues
+  shaped-more true is e = ap (λ i. bracketValues (i ∷ is)) (item-bracket s at e) ∙ ap (λ w. Option·map (λ ws. w ∷ ws) (bracketValues is)) (value-bracket e)
   shaped-more false is e = ap (λ i. plainValues (i ∷ is)) (item-plain s at e) ∙ ap (λ w. Option·map (λ ws. w ∷ ws) (plainValues is)) (value-plain e)
 
   -- one of the other shape leaves none
-  pub shaped-wrong : (b : Bool) (is : List Item) → eqb (getD s at 0) 40 ≡ not b → shapedValues b (itemAt s at ∷ is) ≡ none
+  pub shaped-wrong : (b : Bool) (is : List Item) → isLabelledAt s at ≡ not b → shapedValues b (itemAt s at ∷ is) ≡ none
   unfolding shapedValues bracketValues plainValues
   shaped-wrong true is e = ap (λ i. bracketValues (i ∷ is)) (item-plain s at e)
   shaped-wrong false is e = ap (λ i. plainValues (i ∷ is)) (item-bracket s at e)
@@ -75,13 +77,13 @@ count-more n width w none = refl
 count-more n width w (some ws) = ap (λ k. eqb k width) (omega arith)
 
 module _ (s : List ℕ) (i n width : ℕ) (b : Bool) where
-  pub fits-more : getD s i 0 ≡ 32 → eqb (getD s (i + 1) 0) 40 ≡ b → countFits n width (shapedValues b (itemsAt s i)) ≡ countFits (n + 1) width (shapedValues b (itemsAt s (itemEndAt s (i + 1))))
+  pub fits-more : getD s i 0 ≡ 32 → isLabelledAt s (i + 1) ≡ b → countFits n width (shapedValues b (itemsAt s i)) ≡ countFits (n + 1) width (shapedValues b (itemsAt s (itemEndAt s (i + 1))))
   fits-more h e =
       ap (λ is. countFits n width (shapedValues b is)) (items-more s i h)
       ∙ ap (countFits n width) (shaped-more s (i + 1) b (itemsAt s (itemEndAt s (i + 1))) e)
       ∙ count-more n width (itemValueAt s (i + 1)) (shapedValues b (itemsAt s (itemEndAt s (i + 1))))
 
-  pub fits-wrong : getD s i 0 ≡ 32 → eqb (getD s (i + 1) 0) 40 ≡ not b → countFits n width (shapedValues b (itemsAt s i)) ≡ false
+  pub fits-wrong : getD s i 0 ≡ 32 → isLabelledAt s (i + 1) ≡ not b → countFits n width (shapedValues b (itemsAt s i)) ≡ false
   unfolding holdsOf
   fits-wrong h e =
       ap (λ is. countFits n width (shapedValues b is)) (items-more s i h)
@@ -106,7 +108,7 @@ module _ (s : List ℕ) (at : ℕ) where
   values-stop h = walk-stop itemValueAt itemEndAt s (item-onward s) at h
 
 -- items that are all of the shape have these values
-shaped-step : (b : Bool) (s : List ℕ) (p : ℕ) (is : List Item) (vs ws : List Word) → eqb (getD s p 0) 40 ≡ b → shapedValues b (itemAt s p ∷ is) ≡ some ws
+shaped-step : (b : Bool) (s : List ℕ) (p : ℕ) (is : List Item) (vs ws : List Word) → isLabelledAt s p ≡ b → shapedValues b (itemAt s p ∷ is) ≡ some ws
     → ((us : List Word) → shapedValues b is ≡ some us → vs ≡ us) → itemValueAt s p ∷ vs ≡ ws
 shaped-step b s p is vs ws e h rest =
     let m = map-inv (λ us. itemValueAt s p ∷ us) (shapedValues b is) ws (sym (shaped-more s p b is e) ∙ h) in
@@ -115,9 +117,9 @@ shaped-step b s p is vs ws e h rest =
 shaped-up-to : (b : Bool) (s : List ℕ) (n at : ℕ) (ws : List Word) → shapedValues b (listUpTo itemAt itemEndAt n s at) ≡ some ws → listUpTo itemValueAt itemEndAt n s at ≡ ws
 unfolding listUpTo
 shaped-up-to b s zero at ws h = Option·some-injective _ _ (sym (shaped-nil b) ∙ h)
-shaped-up-to b s (suc n) at ws h = go (eqb (getD s at 0) 32) (eqb (getD s (at + 1) 0) 40) refl b h (shaped-up-to b s n (itemEndAt s (at + 1)))
+shaped-up-to b s (suc n) at ws h = go (eqb (getD s at 0) 32) (isLabelledAt s (at + 1)) refl b h (shaped-up-to b s n (itemEndAt s (at + 1)))
   where
-    go : (t o : Bool) → eqb (getD s (at + 1) 0) 40 ≡ o → (b : Bool) → shapedValues b (cond t (itemAt s (at + 1) ∷ listUpTo itemAt itemEndAt n s (itemEndAt s (at + 1))) []) ≡ some ws
+    go : (t o : Bool) → isLabelledAt s (at + 1) ≡ o → (b : Bool) → shapedValues b (cond t (itemAt s (at + 1) ∷ listUpTo itemAt itemEndAt n s (itemEndAt s (at + 1))) []) ≡ some ws
         → ((vs : List Word) → shapedValues b (listUpTo itemAt itemEndAt n s (itemEndAt s (at + 1))) ≡ some vs → listUpTo itemValueAt itemEndAt n s (itemEndAt s (at + 1)) ≡ vs)
         → cond t (itemValueAt s (at + 1) ∷ listUpTo itemValueAt itemEndAt n s (itemEndAt s (at + 1))) [] ≡ ws
     go false o e b h rest = Option·some-injective _ _ (sym (shaped-nil b) ∙ h)

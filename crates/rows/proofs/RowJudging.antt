@@ -8,6 +8,7 @@ use mathlib.Core.List.{List, [], _∷_}
 use mathlib.Core.Option.{Option, Option·getD, none, some}
 use mathlib.Core.Path.{_∙_, _≡_, ap, refl, subst, sym}
 use native.Mathlib.Omega.{arith}
+use Rattle.document.specs.AmountFaults.{brokenRange}
 use Rattle.document.specs.Bounds.{lateAttr, overBound, secondRoot}
 use Rattle.document.specs.Check.{checkForm}
 use Rattle.document.specs.Lookup.{columnsAt, columnsOf, labelOf, schemeAt, schemeOf, tableOf}
@@ -16,9 +17,10 @@ use Rattle.document.specs.NameFaults.{rowLabels, taken, unknown}
 use Rattle.document.specs.Policy.{Doc}
 use Rattle.document.specs.TypeFaults.{mistypedValue, wrongType}
 use Rattle.document.specs.ValueFaults.{misfit, rowValues}
-use Rattle.stepping.proofs.Judging.{judge-bound, judge-fine, judge-type, judge-unknown, judge-values}
+use Rattle.stepping.proofs.Judging.{judge-bound, judge-fine, judge-order, judge-type, judge-unknown, judge-values}
+use Rattle.rows.proofs.RowChecks.{firstBroken}
 use Rattle.rows.proofs.RowItems.{width-fits}
-use Rattle.rows.specs.RowWords.{valuesAt}
+use Rattle.rows.specs.RowWords.{offendingValue, valuesAt}
 use Rattle.form.specs.Form.{Item, Scheme, row}
 use Rattle.relations.proofs.TableLaws.{scheme-read, width-read}
 use Rattle.workspace.specs.Found.{FoundBelow, foundAs}
@@ -35,7 +37,7 @@ use Rattle.text.proofs.OffendingLaws.{leftmost-fail, leftmost-on}
 use Rattle.text.specs.CodeEnds.{offendingOf}
 use Rattle.text.specs.Offending.{leftmost, missing, unless}
 use Rattle.text.specs.Refusal.{accepted, document, pointing, pointingAll, refused}
-use Rattle.text.specs.Words.{Word, wordOf}
+use Rattle.text.specs.Words.{Word, wordOf, writtenOf}
 
 -- a number that was found is below k
 below-at : (r : Found) (x k : ℕ) → r ≡ found.At x → FoundBelow r k → x < k
@@ -103,12 +105,21 @@ module _ (d : Doc) (line : List ℕ) (w : Word) (is : List Item) (k : ℕ) (coun
           pub row-mistyped : (u : Word) → mistypedValue (columnsAt (d .policy) x) ws ≡ some u → checkForm d line (row w is) ≡ refused (pointing 8 document u)
           row-mistyped u m = judge-type d line (row w is) row-room row-new (unknown-is ∙ l) one-root (misfit-is ∙ ap not f) u (types-are ∙ m)
 
-          pub row-fine : mistypedValue (columnsAt (d .policy) x) ws ≡ none → checkForm d line (row w is) ≡ accepted (add d (row w is))
-          unfolding lateAttr
-          row-fine m = judge-fine d line (row w is) row-room row-new (unknown-is ∙ l) one-root (misfit-is ∙ ap not f) (types-are ∙ m) late
-            where
-              late : lateAttr (d .policy) (row w is) ≡ false
-              late = refl
+          -- they are typed right
+          module _ (m : mistypedValue (columnsAt (d .policy) x) ws ≡ none) where
+            order-is : brokenRange (d .policy) (row w is) ≡ firstBroken ws
+            unfolding brokenRange
+            order-is = ap (λ z. firstBroken (Option·getD (rowValues z is) [])) scheme-is ∙ ap (λ o. firstBroken (Option·getD o [])) v
+
+            pub row-broken : (u : Word) → firstBroken ws ≡ some u → checkForm d line (row w is) ≡ refused (pointing 28 document u)
+            row-broken u o = judge-order d line (row w is) row-room row-new (unknown-is ∙ l) one-root (misfit-is ∙ ap not f) (types-are ∙ m) u (order-is ∙ o)
+
+            pub row-fine : firstBroken ws ≡ none → checkForm d line (row w is) ≡ accepted (add d (row w is))
+            unfolding lateAttr
+            row-fine o = judge-fine d line (row w is) row-room row-new (unknown-is ∙ l) one-root (misfit-is ∙ ap not f) (types-are ∙ m) (order-is ∙ o) late
+              where
+                late : lateAttr (d .policy) (row w is) ≡ false
+                late = refl
 
 -- ---- what the code found of the table
 
@@ -149,21 +160,34 @@ module _ (text tables line : List ℕ) (n k t : ℕ) (is : List Item) (d : Doc) 
     found-misfit e = row-misfit d line (wordOf line t) is k counted room x table-is schemeRead scheme-of labelled-all (fits-is ∙ e)
 
     module _ (fit : b ≡ true) (start : ℕ) (values : (l : ℕ) (ls : List ℕ) (ws : List Word) → rowValues (schemeBy s l ls) is ≡ some ws → valuesAt line start ≡ ws)
-        (m : Offending) (types : x < n → offendingOf line m ≡ mistypedValue (columnsAt (d .policy) x) (valuesAt line start)) where
+        (m : Offending) (types : x < n → offendingValue line m ≡ mistypedValue (columnsAt (d .policy) x) (valuesAt line start)) where
       found-values : (ws : List Word) × (rowValues schemeRead is ≡ some ws) × (eqb (length ws) (length (columnsAt (d .policy) x)) ≡ true)
       found-values = holdsOf-some (λ ws. eqb (length ws) (length (columnsAt (d .policy) x))) (rowValues schemeRead is) (fits-is ∙ fit)
 
-      types-of : offendingOf line m ≡ mistypedValue (columnsAt (d .policy) x) (found-values .0)
-      types-of =
-          types inside
-          ∙ ap (mistypedValue (columnsAt (d .policy) x)) (values (tableLabelIn tables x) (tabulated (columnLabelIn tables x) (length (columnsAt (d .policy) x))) (found-values .0) (found-values .1))
+      values-are : valuesAt line start ≡ found-values .0
+      values-are = values (tableLabelIn tables x) (tabulated (columnLabelIn tables x) (length (columnsAt (d .policy) x))) (found-values .0) (found-values .1)
 
-      pub found-mistyped : (p : ℕ) → m ≡ offending.At p → checkForm d line (row (wordOf line t) is) ≡ refused (pointing 8 document (wordOf line p))
+      types-of : offendingValue line m ≡ mistypedValue (columnsAt (d .policy) x) (found-values .0)
+      types-of = types inside ∙ ap (mistypedValue (columnsAt (d .policy) x)) values-are
+
+      pub found-mistyped : (p : ℕ) → m ≡ offending.At p → checkForm d line (row (wordOf line t) is) ≡ refused (pointing 8 document (writtenOf line p))
       found-mistyped p e =
-          row-mistyped d line (wordOf line t) is k counted room x table-is schemeRead scheme-of labelled-all (fits-is ∙ fit) (found-values .0) (found-values .1) (wordOf line p)
-          (sym types-of ∙ ap (offendingOf line) e)
+          row-mistyped d line (wordOf line t) is k counted room x table-is schemeRead scheme-of labelled-all (fits-is ∙ fit) (found-values .0) (found-values .1) (writtenOf line p)
+          (sym types-of ∙ ap (offendingValue line) e)
 
-      pub found-fine : m ≡ offending.Nothing → checkForm d line (row (wordOf line t) is) ≡ accepted (add d (row (wordOf line t) is))
-      found-fine e =
-          row-fine d line (wordOf line t) is k counted room x table-is schemeRead scheme-of labelled-all (fits-is ∙ fit) (found-values .0) (found-values .1)
-          (sym types-of ∙ ap (offendingOf line) e)
+      module _ (none-mistyped : m ≡ offending.Nothing) (o : Offending) (order : offendingValue line o ≡ firstBroken (valuesAt line start)) where
+        order-of : offendingValue line o ≡ firstBroken (found-values .0)
+        order-of = order ∙ ap firstBroken values-are
+
+        typed-all : mistypedValue (columnsAt (d .policy) x) (found-values .0) ≡ none
+        typed-all = sym types-of ∙ ap (offendingValue line) none-mistyped
+
+        pub found-broken : (p : ℕ) → o ≡ offending.At p → checkForm d line (row (wordOf line t) is) ≡ refused (pointing 28 document (writtenOf line p))
+        found-broken p e =
+            row-broken d line (wordOf line t) is k counted room x table-is schemeRead scheme-of labelled-all (fits-is ∙ fit) (found-values .0) (found-values .1) typed-all (writtenOf line p)
+            (sym order-of ∙ ap (offendingValue line) e)
+
+        pub found-fine : o ≡ offending.Nothing → checkForm d line (row (wordOf line t) is) ≡ accepted (add d (row (wordOf line t) is))
+        found-fine e =
+            row-fine d line (wordOf line t) is k counted room x table-is schemeRead scheme-of labelled-all (fits-is ∙ fit) (found-values .0) (found-values .1) typed-all
+            (sym order-of ∙ ap (offendingValue line) e)

@@ -1,6 +1,7 @@
 -- The items of a row that are shaped for the table's scheme, as the code walks through them: values, or brackets of a value and a label. Assumes
 -- nothing.
 use Prim.Native.Nat.{_+_, suc, zero, ℕ}
+use borrow.Author.Tests.{eqb-false, eqb-true}
 use lib.Dec.{eqb}
 use lib.ListN.{getD, length}
 use mathlib.Core.Bool.{Bool, cond, false, true}
@@ -11,7 +12,7 @@ use Rattle.document.proofs.RowItems.{bracket-behind, led-name, led-values, no-v
 use Rattle.document.specs.NameFaults.{bracketLabels, leadingName}
 use Rattle.document.specs.ValueFaults.{bracketValues, plainValues, valuesBehindLabel}
 use Rattle.form.specs.Form.{Item, labelled, plain}
-use Rattle.form.specs.Walks.{cellAt, cellEndAt, cellLabelIn, cellsAt, firstIn, itemAt, itemEndAt, itemsAt, listAt, listUpTo, plainAt}
+use Rattle.form.specs.Walks.{cellAt, cellEndAt, cellLabelIn, cellsAt, firstIn, isLabelledAt, itemAt, itemEndAt, itemsAt, listAt, listUpTo, plainAt}
 use Rattle.lists.proofs.ListLaws.{map-inv}
 use Rattle.text.specs.Names.{isName}
 use Rattle.text.specs.Walking.{wordEndAt, writtenEndAt}
@@ -32,7 +33,7 @@ plain-turn s n p ws ih true false h =
 plain-upTo : (s : List ℕ) (n at : ℕ) (ws : List Word) → plainValues (listUpTo itemAt itemEndAt n s at) ≡ some ws → ws ≡ listUpTo writtenOf writtenEndAt n s at
 unfolding plainValues listUpTo itemAt itemEndAt
 plain-upTo s zero at ws h = sym (Option·some-injective _ _ h)
-plain-upTo s (suc n) at ws h = plain-turn s n (at + 1) ws (plain-upTo s n) (eqb (getD s at 0) 32) (eqb (getD s (at + 1) 0) 40) h
+plain-upTo s (suc n) at ws h = plain-turn s n (at + 1) ws (plain-upTo s n) (eqb (getD s at 0) 32) (isLabelledAt s (at + 1)) h
 
 pub plain-values : (s : List ℕ) (at : ℕ) (ws : List Word) → plainValues (itemsAt s at) ≡ some ws → ws ≡ plainAt s at
 unfolding itemsAt plainAt listAt
@@ -61,7 +62,7 @@ bracket-turn s n p ws ih true true h =
 bracket-upTo : (s : List ℕ) (n at : ℕ) (ws : List Word) → bracketValues (listUpTo itemAt itemEndAt n s at) ≡ some ws → Bracketed (listUpTo cellAt cellEndAt n s at) (listUpTo itemAt itemEndAt n s at) ws
 unfolding bracketValues bracketLabels listUpTo itemAt itemEndAt
 bracket-upTo s zero at ws h = record { values = sym (Option·some-injective _ _ h); labels = refl }
-bracket-upTo s (suc n) at ws h = bracket-turn s n (at + 1) ws (bracket-upTo s n) (eqb (getD s at 0) 32) (eqb (getD s (at + 1) 0) 40) h
+bracket-upTo s (suc n) at ws h = bracket-turn s n (at + 1) ws (bracket-upTo s n) (eqb (getD s at 0) 32) (isLabelledAt s (at + 1)) h
 
 module _ (s : List ℕ) (at : ℕ) (ws : List Word) (h : bracketValues (itemsAt s at) ≡ some ws) where
   pub bracket-values : ws ≡ map (λ g. g .0) (cellsAt s at)
@@ -86,6 +87,6 @@ module _ (s : List ℕ) (at : ℕ) (ws : List Word) (h : valuesBehindLabel (item
   leading g = go (eqb (getD s (at + 1) 0) 40) refl (isName (wordAt s (at + 1))) refl
     where
       go : (o : Bool) → eqb (getD s (at + 1) 0) 40 ≡ o → (n : Bool) → isName (wordAt s (at + 1)) ≡ n → Leading s at ws
-      go true o n e = absurd (Option·none-ne-some ws (sym (bracket-behind s at g o) ∙ h))
-      go false o false e = absurd (Option·none-ne-some ws (sym (led-values s at g o false e) ∙ h))
-      go false o true e = record { label = led-name s at g o true e; values = plain-values s (wordEndAt s (at + 1)) ws (sym (led-values s at g o true e) ∙ h) }
+      go true o n e = absurd (Option·none-ne-some ws (sym (bracket-behind s at g (eqb-true _ _ o)) ∙ h))
+      go false o false e = absurd (Option·none-ne-some ws (sym (led-values s at g (eqb-false _ _ o) false e) ∙ h))
+      go false o true e = record { label = led-name s at g (eqb-false _ _ o) true e; values = plain-values s (wordEndAt s (at + 1)) ws (sym (led-values s at g (eqb-false _ _ o) true e) ∙ h) }

@@ -2,15 +2,17 @@
 use Prim.Native.Nat.{ℕ}
 use mathlib.Core.Bool.{Bool, false, true}
 use mathlib.Core.List.{List}
-use mathlib.Core.Option.{Option}
+use mathlib.Core.Option.{Option, none, some}
 use Rattle.document.specs.ValueFaults.{bracketValues, plainValues}
 use Rattle.form.specs.Form.{Item}
-use Rattle.form.specs.Walks.{cellLabelIn, firstIn, itemEndAt, listAt}
+use Rattle.form.specs.Walks.{cellLabelIn, itemEndAt, listAt, valuePlace}
 use Rattle.text.specs.Words.{Word, wordOf, writtenOf}
+use Rattle.text.specs.declared.offending.Offending.{Offending}
+use Rattle.text.specs.declared.offending.Offending.the-variants.{At, Nothing}
 
--- the value of the item at a position: it stands there, or behind the bracket that opens there
+-- the value of the item at a position: it stands there, or behind the bracket of `(v L)`
 unfoldable pub itemValueAt : List ℕ → ℕ → Word
-itemValueAt s at = writtenOf s (firstIn s at)
+itemValueAt s at = writtenOf s (valuePlace s at)
 
 -- the values of the items from a position on
 unfoldable pub valuesAt : List ℕ → ℕ → List Word
@@ -24,3 +26,8 @@ labelAt s at = wordOf s (cellLabelIn s at)
 unfoldable pub shapedValues : Bool → List Item → Option (List Word)
 shapedValues true is = bracketValues is
 shapedValues false is = plainValues is
+
+-- the value of a cell at the place that the code's answer names, if it names one
+abbrev pub offendingValue : List ℕ → Offending → Option Word
+offendingValue s Nothing = none
+offendingValue s (At at) = some (writtenOf s at)

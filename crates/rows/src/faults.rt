@@ -7,8 +7,9 @@ use condition::kinds::Kind;
 use condition::kinds::has_kind;
 use form::lines::Scheme;
 use form::walks::cell_label;
-use form::walks::first_in;
+use form::walks::is_labelled;
 use form::walks::item_end_at;
+use form::walks::value_place;
 use relations::labels::find_label;
 use relations::tables::column_kind;
 use relations::tables::find_table;
@@ -16,9 +17,13 @@ use relations::tables::table_scheme;
 use relations::tables::table_width;
 use stepping::fault::Fault;
 use stepping::fault::Verdict;
+use text::amounts::Span;
+use text::amounts::range_end;
+use text::amounts::read_range;
 use text::bytes::byte_at;
 use text::offending::Offending;
 use text::refusals::Reason;
+use text::words::End;
 use workspace::found::Found;
 use workspace::layout::LABELS;
 use workspace::layout::ROWS;
@@ -30,18 +35,19 @@ ghost use mathlib.Core.List.{List, [], _∷_};
 ghost use mathlib.Core.Option.{some};
 ghost use mathlib.Core.Path.{_≡_};
 ghost use Rattle.condition.specs.Answers.{kindOf};
-ghost use Rattle.condition.specs.Kinds.{hasKind};
+ghost use Rattle.document.specs.AmountFaults.{inOrder};
 ghost use Rattle.document.specs.Lookup.{columnsAt, labelOf};
 ghost use Rattle.document.specs.NameFaults.{bracketLabels, leadingName, rowLabels};
 ghost use Rattle.document.specs.Policy.{Policy};
-ghost use Rattle.document.specs.TypeFaults.{mistypedValue};
+ghost use Rattle.document.specs.TypeFaults.{cellHasKind, mistypedValue};
 ghost use Rattle.document.specs.ValueFaults.{rowValues};
 ghost use Rattle.stepping.specs.Places.{Near};
-ghost use Rattle.rows.specs.RowWords.{labelAt, valuesAt};
+ghost use Rattle.rows.specs.RowWords.{labelAt, offendingValue, valuesAt};
 ghost use Rattle.form.specs.Walks.{itemAt, itemsAt};
 ghost use Rattle.relations.specs.Labels.{Labels};
 ghost use Rattle.relations.specs.Tables.{Tables, schemeBy};
 ghost use Rattle.lists.specs.Lists.{holdsOf, there};
+ghost use Rattle.text.specs.Amounts.{isRange, rangeOf};
 ghost use Rattle.text.specs.Offending.{missing, unless};
 ghost use Rattle.text.specs.Words.{Word, writtenAt};
 ghost use Rattle.text.specs.CodeEnds.{offendingOf};
@@ -73,16 +79,44 @@ pub fn values_start(scheme: Scheme, line: &[u8], at: usize) -> usize
     }
 }
 
-// Whether the value at a position is of the type.
-fn typed(line: &[u8], at: usize, kind: Kind) -> bool
-    ensures { λ r. ⌜ r ≡ hasKind (kindOf kind) (writtenAt (now (line .entry)) at) ⌝ }
+// Whether a range stands at a position.
+fn is_range(line: &[u8], at: usize) -> bool
+    ensures { λ r. ⌜ r ≡ isRange (writtenAt (now (line .entry)) at) ⌝ }
 {
-    has_kind(line, at, kind)
+    let k = range_end(line, at);
+    match k {
+        End::At(_) => true,
+        End::Nothing => false,
+    }
+}
+
+// Whether the value at a position is of the type: numbers take a range as well.
+fn typed(line: &[u8], at: usize, kind: Kind) -> bool
+    ensures { λ r. ⌜ r ≡ cellHasKind (kindOf kind) (writtenAt (now (line .entry)) at) ⌝ }
+{
+    if byte_at(line, at) != b'(' {
+        return has_kind(line, at, kind);
+    }
+    match kind {
+        Kind::Name => false,
+        Kind::Num => is_range(line, at),
+    }
+}
+
+// Whether the value at a position is in order: a range has LOW at most HIGH.
+fn in_order(line: &[u8], at: usize) -> bool
+    ensures { λ r. ⌜ r ≡ inOrder (rangeOf (writtenAt (now (line .entry)) at)) ⌝ }
+{
+    let k = read_range(line, at);
+    match k {
+        Span::At(_, low, high) => low <= high,
+        Span::Nothing => true,
+    }
 }
 
 // The first value of the items from a position on that is not of its column's type.
 fn first_mistyped(tables: &[usize; TABLE_CELLS], t: usize, line: &[u8], at: usize) -> Offending
-    ensures { λ r. ⌜ ((text : List ℕ) (k : ℕ) (d : Policy) → Tables text (now (tables .entry)) k (d .tables) → t < k → offendingOf (now (line .entry)) r ≡ mistypedValue (columnsAt d t) (valuesAt (now (line .entry)) at)) × Near (now (line .entry)) r ⌝ }
+    ensures { λ r. ⌜ ((text : List ℕ) (k : ℕ) (d : Policy) → Tables text (now (tables .entry)) k (d .tables) → t < k → offendingValue (now (line .entry)) r ≡ mistypedValue (columnsAt d t) (valuesAt (now (line .entry)) at)) × Near (now (line .entry)) r ⌝ }
 {
     let n = table_width(tables, t);
     let mut c = 0;
@@ -91,7 +125,7 @@ fn first_mistyped(tables: &[usize; TABLE_CELLS], t: usize, line: &[u8], at: usiz
         if byte_at(line, i) != b' ' {
             return Offending::Nothing;
         }
-        let v = first_in(line, i + 1);
+        let v = value_place(line, i + 1);
         let kind = column_kind(tables, t, c);
         if !typed(line, v, kind) {
             return Offending::At(v);
@@ -102,11 +136,26 @@ fn first_mistyped(tables: &[usize; TABLE_CELLS], t: usize, line: &[u8], at: usiz
     Offending::Nothing
 }
 
+// The first value of the items from a position on that is a range with LOW above HIGH.
+fn first_broken(line: &[u8], at: usize) -> Offending
+    ensures { λ r. ⌜ (offendingValue (now (line .entry)) r ≡ missing (λ w. inOrder (rangeOf (w .bytes))) (valuesAt (now (line .entry)) at)) × Near (now (line .entry)) r ⌝ }
+{
+    let mut i = at;
+    while byte_at(line, i) == b' ' {
+        let v = value_place(line, i + 1);
+        if !in_order(line, v) {
+            return Offending::At(v);
+        }
+        i = item_end_at(line, i + 1);
+    }
+    Offending::Nothing
+}
+
 // Whether the label of the item at a position is known; where it has none, there is nothing to know.
 fn label_known(text: &[u8], labels: &[usize; LABELS], k: usize, line: &[u8], at: usize) -> bool
     ensures { λ r. ⌜ ((sets : List ℕ) (d : Policy) → Labels (now (text .entry)) (now (labels .entry)) sets k (d .labels) → missing (λ w. there (labelOf d w)) (bracketLabels (itemAt (now (line .entry)) at ∷ [])) ≡ unless r (labelAt (now (line .entry)) at)) ⌝ }
 {
-    if byte_at(line, at) != b'(' {
+    if !is_labelled(line, at) {
         return true;
     }
     let f = find_label(text, labels, k, line, cell_label(line, at));
@@ -205,9 +254,14 @@ pub fn row_fault(
     if !row_fits(scheme, line, is, table_width(tables, x)) {
         return Verdict::Faulty(Fault::Whole(Reason::WrongValues));
     }
-    let wrong = first_mistyped(tables, x, line, values_start(scheme, line, is));
-    match wrong {
-        Offending::At(p) => Verdict::Faulty(Fault::Item(Reason::WrongType, p)),
+    let start = values_start(scheme, line, is);
+    let wrong = first_mistyped(tables, x, line, start);
+    if let Offending::At(p) = wrong {
+        return Verdict::Faulty(Fault::Value(Reason::WrongType, p));
+    }
+    let broken = first_broken(line, start);
+    match broken {
+        Offending::At(p) => Verdict::Faulty(Fault::Value(Reason::RangeReversed, p)),
         Offending::Nothing => Verdict::Fine,
     }
 }

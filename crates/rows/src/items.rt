@@ -1,4 +1,5 @@
 // The items of a row, by their places in the line: whether they are shaped for a scheme, and how many there are.
+use form::walks::is_labelled;
 use form::walks::item_end_at;
 use text::bytes::byte_at;
 use text::words::End;
@@ -14,16 +15,16 @@ ghost use mathlib.Core.Path.{_≡_};
 ghost use Rattle.document.specs.NameFaults.{leadingName};
 ghost use Rattle.document.specs.ValueFaults.{valuesBehindLabel};
 ghost use Rattle.rows.specs.RowWords.{shapedValues, valuesAt};
-ghost use Rattle.form.specs.Walks.{itemsAt};
+ghost use Rattle.form.specs.Walks.{isLabelledAt, itemsAt};
 ghost use Rattle.lists.specs.Lists.{holdsOf};
 ghost use Rattle.text.specs.Names.{isName};
 ghost use Rattle.text.specs.Words.{Word, wordAt};
 
-// Whether the item at a position is a bracket, where brackets are wanted, and else is none.
+// Whether the item at a position is `(v L)`, where such are wanted, and else is none.
 fn item_fits(line: &[u8], at: usize, bracketed: bool) -> bool
-    ensures { λ r. ⌜ eqb (getD (now (line .entry)) at 0) 40 ≡ cond r bracketed (not bracketed) ⌝ }
+    ensures { λ r. ⌜ isLabelledAt (now (line .entry)) at ≡ cond r bracketed (not bracketed) ⌝ }
 {
-    if byte_at(line, at) == b'(' {
+    if is_labelled(line, at) {
         bracketed
     } else {
         !bracketed
@@ -48,7 +49,7 @@ pub(crate) fn values_fit(line: &[u8], at: usize, bracketed: bool, width: usize) 
 
 // Whether the first item from a position on is a name without a bracket.
 pub(crate) fn leads(line: &[u8], at: usize) -> bool
-    ensures { λ r. ⌜ (r ≡ true → (getD (now (line .entry)) at 0 ≡ 32) × (eqb (getD (now (line .entry)) (at + 1) 0) 40 ≡ false) × (isName (wordAt (now (line .entry)) (at + 1)) ≡ true)) × (r ≡ false → (leadingName (itemsAt (now (line .entry)) at) ≡ []) × (valuesBehindLabel (itemsAt (now (line .entry)) at) ≡ none)) ⌝ }
+    ensures { λ r. ⌜ (r ≡ true → (getD (now (line .entry)) at 0 ≡ 32) × (getD (now (line .entry)) (at + 1) 0 ≡ 40 → ⊥) × (isName (wordAt (now (line .entry)) (at + 1)) ≡ true)) × (r ≡ false → (leadingName (itemsAt (now (line .entry)) at) ≡ []) × (valuesBehindLabel (itemsAt (now (line .entry)) at) ≡ none)) ⌝ }
 {
     if byte_at(line, at) != b' ' {
         return false;

@@ -6,6 +6,7 @@ use mathlib.Core.Option.{Option, none, some}
 use mathlib.Core.Path.{_∙_, _≡_, ap, refl, subst, sym}
 use Rattle.answer.specs.Answer.{Answer}
 use Rattle.answer.specs.Ask.{Outcome, answerForm}
+use Rattle.answer.specs.Ranged.{rangedColumn}
 use Rattle.answering.specs.Answering.{Writes, measuredOf}
 use Rattle.document.specs.Lookup.{purposeOf}
 use Rattle.document.specs.Policy.{Doc}
@@ -19,7 +20,7 @@ use Rattle.text.specs.CodeEnds.{offendingOf}
 use Rattle.text.specs.Refusal.{Refusal, _>>=_, _>>_, accepted, need, pointing, pointingAll, pointingNowhere, query, refuseAt, refuseIf, refused}
 use Rattle.text.specs.Words.{Word, wordOf}
 use Rattle.stages.specs.Figures.{answeredAs, figuresOf, inFigures}
-use Rattle.stages.specs.Tails.{Gives, afterFitting, answerUnder, ifActing, ifGranted, ifKnown, ifOpen, ifParties, ifRead, ifTimed, ifTyped, refusedAt}
+use Rattle.stages.specs.Tails.{Gives, afterFitting, answerUnder, ifActing, ifGranted, ifKnown, ifOpen, ifParties, ifPlain, ifRead, ifTimed, ifTyped, refusedAt}
 use Rattle.answering.specs.declared.answers.Measured.{Measured}
 use Rattle.index.specs.declared.counts.Counts.{Counts}
 use Rattle.workspace.specs.declared.found.Found.{Found}
@@ -74,13 +75,21 @@ module _ (d : Doc) (q : QueryForm) (g : ℕ) (s : List ℕ) {x : Offending} wher
   unfolding ifOpen
   open-passes e h = passes 17 (accepted (answerUnder d q g)) (no-word s e h)
 
+  pub plain-refused : {at : ℕ} → x ≡ offending.At at → offendingOf s x ≡ rangedColumn d q → ifPlain d q g ≡ refused (refusedAt 27 s at)
+  unfolding ifPlain refusedAt
+  plain-refused e h = offends 27 (ifOpen d q g) (named-word s e h)
+
+  pub plain-passes : x ≡ offending.Nothing → offendingOf s x ≡ rangedColumn d q → ifPlain d q g ≡ ifOpen d q g
+  unfolding ifPlain
+  plain-passes e h = passes 27 (ifOpen d q g) (no-word s e h)
+
   pub typed-refused : {at : ℕ} → x ≡ offending.At at → offendingOf s x ≡ mistypedQuery (d .policy) q → ifTyped d q g ≡ refused (refusedAt 16 s at)
   unfolding ifTyped refusedAt
-  typed-refused e h = offends 16 (ifOpen d q g) (named-word s e h)
+  typed-refused e h = offends 16 (ifPlain d q g) (named-word s e h)
 
-  pub typed-passes : x ≡ offending.Nothing → offendingOf s x ≡ mistypedQuery (d .policy) q → ifTyped d q g ≡ ifOpen d q g
+  pub typed-passes : x ≡ offending.Nothing → offendingOf s x ≡ mistypedQuery (d .policy) q → ifTyped d q g ≡ ifPlain d q g
   unfolding ifTyped
-  typed-passes e h = passes 16 (ifOpen d q g) (no-word s e h)
+  typed-passes e h = passes 16 (ifPlain d q g) (no-word s e h)
 
   pub known-refused : {at : ℕ} → x ≡ offending.At at → offendingOf s x ≡ unknownColumn (d .policy) q → ifKnown d q g ≡ refused (refusedAt 15 s at)
   unfolding ifKnown refusedAt
@@ -122,7 +131,7 @@ module _ (d : Doc) (c : Clock) (q : QueryForm) where
 
   -- the definition's chain is that of the tails
   pub form-tails : answerForm d c q ≡ ifParties d c q
-  unfolding answerForm ifParties ifActing ifGranted ifKnown ifTyped ifOpen answerUnder
+  unfolding answerForm ifParties ifActing ifGranted ifKnown ifTyped ifPlain ifOpen answerUnder
   form-tails = refl
 
 module _ (d : Doc) (c : Clock) (text : List ℕ) where

@@ -2,3 +2,4 @@
 pub mod Chain
 pub mod Preparing
 pub mod Parties
+pub mod RangedLaws

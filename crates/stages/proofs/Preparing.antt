@@ -2,11 +2,12 @@
 use Prim.Native.Nat.{_+_, _≤_, ℕ}
 use lib.ListN.{drop, length, length-append, length-map, take, take-append-drop}
 use lib.Seq.{drop-at, take-at}
-use mathlib.Core.Bool.{Bool, cond, false, true}
+use mathlib.Core.Bool.{Bool, cond, false, not, true}
 use mathlib.Core.List.{List, [], _++_, _∷_, append-assoc, map}
 use mathlib.Core.Option.{Option, Option·map, none, some}
 use mathlib.Core.Path.{_∙_, _≡_, ap, refl, subst, sym}
 use native.Mathlib.Omega.{arith}
+use Rattle.answer.specs.Ranged.{hasRange, rangedColumn, rangedWord}
 use Rattle.condition.specs.Cond.{comparisonsIn, mapCond}
 use Rattle.condition.specs.CondForm.{Compared, mistyped}
 use Rattle.document.specs.Lookup.{columnKind, columnOf, columnsAt, columnsOf, labellingAt, labellingOf, purposeOf, tableOf}
@@ -22,16 +23,18 @@ use Rattle.judging.specs.Tests.{Tested}
 use Rattle.lists.proofs.ListLaws.{all-map, all-parts, map-append, map-map}
 use Rattle.lists.specs.Lists.{allOf, orZero, there}
 use Rattle.query.proofs.BodiesRead as body
-use Rattle.query.proofs.BodiesRead.{gaps-are, wanted-count}
+use Rattle.query.proofs.BodiesRead.{gaps-are, mode-is, ranges-are, wanted-count}
+use Rattle.query.proofs.WantedLaws.{mode-map}
 use Rattle.query.proofs.NamedColumns.{columnNumber, names-parts, parts-open, withholding-words}
 use Rattle.query.proofs.Sources.{named-words-are, withholding-words-are, withholdingWords}
 use Rattle.query.specs.Naming.{NamesPlaced, TestsPlaced, wordsAt}
 use Rattle.query.specs.Query.{NamesParts, PartsOpen, closedPart, columnComparison, mistypedQuery, openFor, resolved, sourceOf, unknownColumn, wantedOf}
-use Rattle.query.specs.QueryForm.{QueryForm, countsOnly, hasGaps, leavesGaps, mapWanted, namedWords, rowsOf, selected, selectedWords}
+use Rattle.query.specs.QueryForm.{QueryForm, admitsRanges, countsOnly, hasGaps, leavesGaps, mapWanted, modeIn, modeOf, namedWords, rowsOf, selected, selectedWords, takesRanges}
 use Rattle.query.specs.QueryPlaces.{IsQuery, asksRows, chosenCount, comparisonCount, conditionAt, formAt, verbIn, verbOf, wantedAt}
 use Rattle.resolving.specs.Resolved.{Resolves}
 use Rattle.text.specs.CodeEnds.{offendingOf}
 use Rattle.stages.proofs.Chain.{no-word, number-found}
+use Rattle.stages.specs.Promises.{plainAt}
 use Rattle.stages.specs.Stages.{ColumnsKnown, Granted, InTable, soughtIn}
 use Rattle.text.proofs.OffendingLaws.{leftmost-only, missing-none}
 use Rattle.text.specs.Offending.{leftmost, missing, unless}
@@ -130,6 +133,30 @@ module _ {d : Policy} {s : List ℕ} (q : Question) {t k n : ℕ} {places ops nu
       → (n ≤ 80 → Opened d purpose-of os → take n numbers ≡ map (λ w. orZero (columnOf (columnsAt d t) w)) (wordsAt s n places) → offendingOf s y ≡ closed purpose-of (labellingAt d t) (columnsAt d t) (wordsAt s n places))
       → offendingOf s y ≡ closedPart d (formAt s q)
   parts-judged e y o f = f (placed .small) o (r .numbered e) ∙ parts-are
+
+-- 27: what has ranges is what the definition says
+module _ (d : Doc) {s : List ℕ} (q : Question) {t k n : ℕ} {places ops numbers : List ℕ} {x : Offending} (table : InTable (d .policy) (formAt s q) t k)
+    (placed : NamesPlaced s q n places ops) (r : Resolves (columnsAt (d .policy) t) s n places x numbers) where
+  admits : admitsRanges (formAt s q .wanted) ≡ takesRanges (verbOf (verbIn (q .wanted)))
+  unfolding formAt
+  admits = ranges-are s (q .wanted)
+
+  ranged-are : cond (takesRanges (verbOf (verbIn (q .wanted)))) none (missing (plainAt d t) (wordsAt s n places)) ≡ rangedColumn d (formAt s q)
+  unfolding rangedColumn rangedWord
+  ranged-are =
+      ap (λ ws. cond (takesRanges (verbOf (verbIn (q .wanted)))) none (missing (plainAt d t) ws)) (placed .words)
+      ∙ ap (λ b. cond b none (missing (plainAt d t) (namedWords (formAt s q)))) (sym admits)
+      ∙ (λ i. cond (admitsRanges (formAt s q .wanted)) none (missing (λ w. not (hasRange d (sym (number-is table) i) (orZero (columnOf (sym (columns-are table) i) w)))) (namedWords (formAt s q))))
+
+  pub ranges-judged : x ≡ offending.Nothing → (y : Offending) (b : Bool) → b ≡ takesRanges (verbOf (verbIn (q .wanted)))
+      → (n ≤ 80 → take n numbers ≡ map (λ w. orZero (columnOf (columnsAt (d .policy) t) w)) (wordsAt s n places) → offendingOf s y ≡ cond b none (missing (plainAt d t) (wordsAt s n places)))
+      → offendingOf s y ≡ rangedColumn d (formAt s q)
+  ranges-judged e y b is f = f (placed .small) (r .numbered e) ∙ ap (λ (z : Bool). cond z none (missing (plainAt d t) (wordsAt s n places))) is ∙ ranged-are
+
+-- what is sought is asked for as the question says
+pub verb-is : (q : Question) (t : ℕ) {g : Sought} → g ≡ soughtIn q t → takesRanges (verbOf (g .verb)) ≡ takesRanges (verbOf (verbIn (q .wanted)))
+unfolding soughtIn
+verb-is q t e = ap (λ (g : Sought). takesRanges (verbOf (g .verb))) e
 
 -- what is asked for, by the numbers of the columns
 wanted-by : (ws : List Word) (ys : List Column) (b : Bool) (v : Verb) (ns : List ℕ) → ns ≡ map (λ w. orZero (columnOf ys w)) ws → wantedOf ys (cond b (rowsOf (verbOf v) ws) countsOnly) ≡ wantedBy b v ns
@@ -252,6 +279,11 @@ pub parts-known : {d : Policy} (s : List ℕ) (q : Question) {x y : Offending} �
     → y ≡ offending.Nothing → offendingOf s y ≡ closedPart d (formAt s q) → PartsOpen d (resolved d (formAt s q))
 parts-known {d} s q e known f opens = parts-open d (formAt s q) (sym (no-word s e known)) (sym (no-word s f opens))
 
+-- rows pass as the verb says
+mode-same : (d : Policy) (s : List ℕ) (q : Question) → modeIn (wantedOf (columnsOf d (wordOf s (q .head .table))) (wantedAt s (q .wanted))) ≡ modeOf (verbOf (verbIn (q .wanted)))
+unfolding wantedOf
+mode-same d s q = mode-map _ (wantedAt s (q .wanted)) ∙ mode-is s (q .wanted)
+
 -- the query is prepared for the rows, once its comparisons are read
 module _ {text ts ws : List ℕ} {c : Counts} {os : List Bool} {s : List ℕ} (q : Question) {t : ℕ} {numbers ops rs : List ℕ} {d : Doc}
     (h : Granted text ts ws c os s q d) (table : InTable (d .policy) (formAt s q) t (c .tables)) (columns : ColumnsKnown (d .policy) (formAt s q) t numbers) (tests : TestsPlaced s (q .test) ops)
@@ -271,7 +303,8 @@ module _ {text ts ws : List ℕ} {c : Counts} {os : List Bool} {s : List ℕ} (q
     named = names-are q (h .query) table columns tests;
     parts = parts;
     withholding = withholding-are q (h .query) table columns tests;
-    tested = subst (Tested s rs (comparisonCount (q .test))) (sym (condition-is q (h .query) table columns tests)) (r .tested);
+    tested = subst (Tested s rs (comparisonCount (q .test)) (modeIn (wantedOf (columnsOf (d .policy) (wordOf s (q .head .table))) (wantedAt s (q .wanted))))) (sym (condition-is q (h .query) table columns tests))
+        (subst (λ m. Tested s rs (comparisonCount (q .test)) m (Option·map (mapCond (columnComparison (columnsAt (d .policy) t))) (conditionAt s (q .test)))) (sym (mode-same (d .policy) s q)) (r .tested));
   }
 
   -- by what is sought as the code finds it

@@ -2,3 +2,4 @@
 pub mod Figures
 pub mod Tails
 pub mod Stages
+pub mod Promises

@@ -1,10 +1,11 @@
--- Contract: the tails of asking: what is left of it from one of the refusals 10 to 17 on, the lent buffer's length aside.
+-- Contract: the tails of asking: what is left of it from one of the refusals 10 to 17 and 27 on, the lent buffer's length aside.
 use Prim.Native.Nat.{ℕ}
 use mathlib.Core.Bool.{not}
 use mathlib.Core.List.{List}
 use mathlib.Core.Path.{_≡_}
 use Rattle.answer.specs.Answer.{answerTo}
 use Rattle.answer.specs.Ask.{Answered, Outcome}
+use Rattle.answer.specs.Ranged.{rangedColumn}
 use Rattle.answer.specs.Seen.{seenRows}
 use Rattle.answering.specs.Answering.{bufferAfter}
 use Rattle.document.specs.Lookup.{purposeOf, userOf}
@@ -28,11 +29,17 @@ ifOpen d q g = do
   refuseAt 17 query (closedPart (d .policy) q)
   accepted (answerUnder d q g)
 
+-- 27 on
+unfoldable pub ifPlain : Doc → QueryForm → ℕ → Outcome
+ifPlain d q g = do
+  refuseAt 27 query (rangedColumn d q)
+  ifOpen d q g
+
 -- 16 on
 unfoldable pub ifTyped : Doc → QueryForm → ℕ → Outcome
 ifTyped d q g = do
   refuseAt 16 query (mistypedQuery (d .policy) q)
-  ifOpen d q g
+  ifPlain d q g
 
 -- 15 on
 unfoldable pub ifKnown : Doc → QueryForm → ℕ → Outcome

@@ -1,6 +1,7 @@
 // The answer under a grant: what the query names, and the rows.
 use crate::answered::Answered;
 use crate::answered::Figures;
+use crate::ranged::ranged_column;
 use crate::refusing::refused_at;
 use answering::answers::answer_rows;
 use index::counts::Counts;
@@ -13,6 +14,7 @@ use query::reading::Question;
 use query::reading::asks_rows;
 use query::reading::chosen_count;
 use query::reading::comparison_count;
+use query::reading::takes_ranges;
 use query::reading::verb_in;
 use relations::tables::find_table;
 use resolving::columns::NAMED;
@@ -91,7 +93,7 @@ fn ask_rows(
     })
 }
 
-// The answer under a grant (15 to 17, and the rows). Which labels are open to the purpose is given.
+// The answer under a grant (15, 16, 27 and 17, and the rows). Which labels are open to the purpose is given.
 pub(crate) fn ask_granted(
     text: &[u8],
     tables: &[usize; TABLE_CELLS],
@@ -124,6 +126,12 @@ pub(crate) fn ask_granted(
     let wrong = mistyped_test(&tests, s.tests);
     if let Offending::At(at) = wrong {
         return refused_at(query, Reason::MistypedQuery, at);
+    }
+    let verb = s.verb;
+    let taken = takes_ranges(verb);
+    let ranged = ranged_column(taken, text, rows, c.rows, t, &places, n, &columns);
+    if let Offending::At(at) = ranged {
+        return refused_at(query, Reason::RangeNotTaken, at);
     }
     let closed = closed_part(tables, t, opened, query, h.table, &places, n, &columns);
     if let Offending::At(at) = closed {

@@ -4,6 +4,7 @@ use mathlib.Core.Bool.{false, true}
 use mathlib.Core.List.{List}
 use mathlib.Core.Option.{none, some}
 use mathlib.Core.Path.{_≡_}
+use Rattle.document.specs.AmountFaults.{brokenRange}
 use Rattle.document.specs.Bounds.{lateAttr, overBound, secondRoot}
 use Rattle.document.specs.Check.{checkForm}
 use Rattle.document.specs.Meaning.{add}
@@ -46,10 +47,15 @@ module _ (d : Doc) (line : List ℕ) (f : Form) where
             judge-type w h = rw (a, b, c, e, g, h)
 
             module _ (h : wrongType (d .policy) f ≡ none) where
-              pub judge-late : lateAttr (d .policy) f ≡ true → checkForm d line f ≡ refused (pointingAll 9 document line)
+              pub judge-order : (w : Word) → brokenRange (d .policy) f ≡ some w → checkForm d line f ≡ refused (pointing 28 document w)
               unfolding checkForm _>>_ refuseIf refuseAt
-              judge-late i = rw (a, b, c, e, g, h, i)
+              judge-order w o = rw (a, b, c, e, g, h, o)
 
-              pub judge-fine : lateAttr (d .policy) f ≡ false → checkForm d line f ≡ accepted (add d f)
-              unfolding checkForm _>>_ refuseIf refuseAt
-              judge-fine i = rw (a, b, c, e, g, h, i)
+              module _ (o : brokenRange (d .policy) f ≡ none) where
+                pub judge-late : lateAttr (d .policy) f ≡ true → checkForm d line f ≡ refused (pointingAll 9 document line)
+                unfolding checkForm _>>_ refuseIf refuseAt
+                judge-late i = rw (a, b, c, e, g, h, o, i)
+
+                pub judge-fine : lateAttr (d .policy) f ≡ false → checkForm d line f ≡ accepted (add d f)
+                unfolding checkForm _>>_ refuseIf refuseAt
+                judge-fine i = rw (a, b, c, e, g, h, o, i)

@@ -1,8 +1,8 @@
 -- A line in its text: its words stand there, and it is the bytes from its start to its end. Assumes nothing.
 use Prim.Native.Nat.{_+_, _-_, _≤_, ℕ}
-use borrow.Author.Tests.{ltb-false, ltb-true}
-use lib.Dec.{ltb}
-use lib.ListN.{drop, drop-of-length-le, length, length-drop, length-take, take, take-append-drop}
+use borrow.Author.Tests.{eqb-true, ltb-false, ltb-true}
+use lib.Dec.{eqb, ltb}
+use lib.ListN.{drop, drop-of-length-le, getD, length, length-drop, length-take, take, take-append-drop}
 use lib.Seq.{drop-append-le, drop-drop, take-at}
 use mathlib.Core.Bool.{cond, false}
 use mathlib.Core.List.{List, [], _++_, _∷_}
@@ -10,18 +10,29 @@ use mathlib.Core.Logic.{⊎-elim}
 use mathlib.Core.Path.{_∙_, _≡_, ap, refl, sym}
 use native.Mathlib.Omega.{arith}
 use Rattle.workspace.specs.Cells.{lineIn}
-use Rattle.lists.proofs.Tests.{decide}
+use Rattle.lists.proofs.Tests.{decide, never}
 use Rattle.stepping.specs.Stored.{LineAt}
-use Rattle.text.specs.Bytes.{isDigit, isLetter, isNameByte}
+use Rattle.text.specs.Bytes.{firstByte, isDigit, isLetter, isNameByte}
 use Rattle.text.specs.Lines.{LineEnd}
-use Rattle.text.specs.Words.{nameBytes, wordAt, writtenAt}
-use Rattle.text.proofs.WordLaws.{word-stop, written-word}
+use Rattle.text.specs.Words.{nameBytes, toClosing, wordAt, writtenAt}
+use Rattle.text.proofs.Closings.{closing-append, closing-feed, closing-none}
+use Rattle.text.proofs.Lefts.{first-drop}
+use Rattle.text.proofs.WordLaws.{word-stop}
 
 -- name bytes before something that does not begin with one
 run-before : (bs rest : List ℕ) → nameBytes rest ≡ [] → nameBytes (bs ++ rest) ≡ nameBytes bs
 unfolding nameBytes
 run-before [] rest h = h
 run-before (b ∷ bs) rest h = ap (λ l. cond (isNameByte b) (b ∷ l) []) (run-before bs rest h)
+
+-- what no bracket closes opens none
+no-bracket : (bs : List ℕ) → toClosing bs ≡ [] → eqb (firstByte bs) 40 ≡ false
+unfolding toClosing
+no-bracket [] h = refl
+no-bracket (b ∷ bs) h = never (eqb b 40) (λ e. go (eqb-true b 40 e) h)
+  where
+    go : b ≡ 40 → cond (eqb b 10) [] (b ∷ cond (eqb b 41) [] (toClosing bs)) ≡ [] → ⊥
+    go e k = absurd (omega (arith, ap length (rw e at k)))
 
 module _ {text : List ℕ} {at : ℕ} {line : List ℕ} (l : LineAt text at line) where
   -- a word of the line stands in the text
@@ -34,9 +45,27 @@ module _ {text : List ℕ} {at : ℕ} {line : List ℕ} (l : LineAt text at line
   pub word-placed : (p r : ℕ) → p ≤ length line → (at + p ≤ length text → r ≡ at + p) → wordAt text r ≡ wordAt line p
   word-placed p r h e = ap (wordAt text) (e (omega (arith, l .within))) ∙ word-in-line p h
 
-  -- and a value, being a word
+  left-in-line : (p : ℕ) → p ≤ length line → drop (at + p) text ≡ drop p line ++ l .rest
+  left-in-line p h = sym (drop-drop p at text) ∙ ap (drop p) (l .is) ∙ drop-append-le p line (l .rest) h
+
+  -- the byte at a place of the line, and where it ends none that opens a bracket
+  opens-in-line : (p : ℕ) → p ≤ length line → eqb (getD text (at + p) 0) 40 ≡ eqb (getD line p 0) 40
+  opens-in-line p h = ap (λ (b : ℕ). eqb b 40) (sym (first-drop text (at + p)) ∙ ap firstByte (left-in-line p h)) ∙ go (drop p line) refl
+    where
+      go : (bs : List ℕ) → drop p line ≡ bs → eqb (firstByte (bs ++ l .rest)) 40 ≡ eqb (getD line p 0) 40
+      go [] e = no-bracket (l .rest) (l .closes) ∙ ap (λ (b : ℕ). eqb b 40) (sym (ap firstByte e) ∙ first-drop line p)
+      go (b ∷ bs) e = ap (λ (b : ℕ). eqb b 40) (sym (ap firstByte e) ∙ first-drop line p)
+
+  -- and a value does, as it is written
+  written-in-line : (p : ℕ) → p ≤ length line → writtenAt text (at + p) ≡ writtenAt line p
+  unfolding writtenAt
+  written-in-line p h = λ j. cond (opens-in-line p h j) (closing j) (word-in-line p h j)
+    where
+      closing : toClosing (drop (at + p) text) ≡ toClosing (drop p line)
+      closing = ap toClosing (left-in-line p h) ∙ closing-append (drop p line) (l .rest) (l .closes)
+
   pub written-placed : (p r : ℕ) → p ≤ length line → (at + p ≤ length text → r ≡ at + p) → writtenAt text r ≡ writtenAt line p
-  written-placed p r h e = written-word text r ∙ word-placed p r h e ∙ sym (written-word line p)
+  written-placed p r h e = ap (writtenAt text) (e (omega (arith, l .within))) ∙ written-in-line p h
 
   -- the line itself
   pub line-placed : (e : ℕ) → (at + length line ≤ length text → e ≡ at + length line) → lineIn text at e ≡ line
@@ -55,6 +84,7 @@ line-at text at e h k l = record {
   rest = drop e text;
   is = sym (ap (λ x. take (e - at) (drop at text) ++ x) tail ∙ take-append-drop (e - at) (drop at text));
   ends = ⊎-elim (λ t. word-stop text e (ap isNameByte (l .feed (ltb-true e (length text) t)) ∙ feed-none)) (λ f. last (ltb-false e (length text) f)) (decide (ltb e (length text)));
+  closes = ⊎-elim (λ t. closing-feed text e (ltb-true e (length text) t) (l .feed (ltb-true e (length text) t))) (λ f. closing-none text e (ltb-false e (length text) f)) (decide (ltb e (length text)));
   within = omega (arith, length-take (e - at) (drop at text), length-drop at text, l .within h);
 }
   where

@@ -9,9 +9,9 @@ use Rattle.document.specs.Policy.{Doc}
 use Rattle.form.specs.Form.{Form}
 use Rattle.text.specs.Reasons.{reasonNumber}
 use Rattle.text.specs.Refusal.{Refusal, Result, accepted, document, pointing, pointingAll, refused}
-use Rattle.text.specs.Words.{wordOf}
+use Rattle.text.specs.Words.{wordOf, writtenOf}
 use Rattle.stepping.specs.declared.fault.Fault.{Fault}
-use Rattle.stepping.specs.declared.fault.Fault.the-variants.{Item, Whole}
+use Rattle.stepping.specs.declared.fault.Fault.the-variants.{Item, Value, Whole}
 use Rattle.stepping.specs.declared.fault.Verdict.{Verdict}
 use Rattle.stepping.specs.declared.fault.Verdict.the-variants.{Faulty, Fine}
 
@@ -19,16 +19,18 @@ use Rattle.stepping.specs.declared.fault.Verdict.the-variants.{Faulty, F
 abbrev pub refusalIn : List ℕ → Fault → Refusal
 refusalIn line (Whole x) = pointingAll (reasonNumber x) document line
 refusalIn line (Item x at) = pointing (reasonNumber x) document (wordOf line at)
+refusalIn line (Value x at) = pointing (reasonNumber x) document (writtenOf line at)
 
 -- the document with the form added, or the refusal
 abbrev pub judged : Doc → List ℕ → Form → Verdict → Result Doc
 judged d line f Fine = accepted (add d f)
 judged d line f (Faulty x) = refused (refusalIn line x)
 
--- the item that is refused stands in the line
+-- the word or value that is refused stands in the line
 abbrev pub Reaches : List ℕ → Fault → Type 0
 Reaches line (Whole x) = Unit {0}
 Reaches line (Item x at) = at ≤ length line
+Reaches line (Value x at) = at ≤ length line
 
 -- the same of the item that the verdict refuses, if it refuses one
 abbrev pub ReachesBy : List ℕ → Verdict → Type 0

@@ -12,13 +12,14 @@ use Rattle.relations.specs.Rows.{FillingRow, Rows}
 use Rattle.relations.specs.Tables.{Filling, Tables}
 use Rattle.text.specs.Numbers.{Value}
 use Rattle.text.specs.Refusal.{accepted}
-use Rattle.text.specs.Words.{nameBytes}
+use Rattle.text.specs.Words.{nameBytes, toClosing}
 
--- the line stands at a position of the text, and what stands behind it does not go on with a name
+-- the line stands at a position of the text, and what stands behind it goes on with neither a name nor a bracket
 pub record LineAt (text : List ℕ) (at : ℕ) (line : List ℕ) : Type 0 where
   pub rest : List ℕ
   pub is : drop at text ≡ line ++ rest
   pub ends : nameBytes rest ≡ []
+  pub closes : toClosing rest ≡ []
   pub within : at + length line ≤ length text
 
 -- the check of the form finds nothing wrong

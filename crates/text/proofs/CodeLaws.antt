@@ -14,13 +14,15 @@ use Rattle.text.proofs.NumberLaws.{digits-digit, digits-other, number-r
 use Rattle.text.proofs.ReaderLaws.{eats-number}
 use Rattle.text.proofs.Spaces.{optional-here, optional-not}
 use Rattle.text.proofs.WordLaws.{word-more, word-read, word-refused, word-stop}
+use Rattle.text.specs.Amounts.{Range}
 use Rattle.text.specs.Brackets.{optional}
 use Rattle.text.specs.Bytes.{isDigit, isNameByte}
-use Rattle.text.specs.CodeEnds.{amountOf, endOfNumber, endedAt, limited, optionalOf, wordEnd}
+use Rattle.text.specs.CodeEnds.{amountOf, endOfNumber, endOfRange, endedAt, limited, optionalOf, wordEnd}
 use Rattle.text.specs.Names.{isName}
 use Rattle.text.specs.Numbers.{digitsFrom, rank, rankDown, rankUp}
-use Rattle.text.specs.Reader.{Left, andThen, from, give}
-use Rattle.text.specs.Words.{Word, name, readNumber, wordAt, wordOf, wordThat}
+use Rattle.text.specs.Reader.{Left, Reader, andThen, from, give}
+use Rattle.text.specs.Words.{Word, cutOut, name, readNumber, wordAt, wordOf, wordThat, written}
+use Rattle.text.specs.declared.amounts.Span.the-variants as span
 use Rattle.text.specs.declared.brackets.Optional.{Optional}
 use Rattle.text.specs.declared.brackets.Optional.the-variants as optionalName
 use Rattle.text.specs.declared.numbers.Amount.{Amount}
@@ -228,6 +230,27 @@ module _ (s : List ℕ) (at : ℕ) where
 
   pub number-none : endOfNumber (readNumber (from s at)) ≡ number.Nothing → readNumber (from s at) ≡ none
   number-none h = read-refused numberAnswer readNumber (λ n. n) (λ n. 1) eats-number s at (sym (number-answer (readNumber (from s at))) ∙ h)
+
+-- ---- ranges
+
+-- an end and two ranks: the reader of a range ends there
+pub span-at : (o : Option (Range × Left)) (e l h : ℕ) → endOfRange o ≡ span.At e l h → At e ≡ wordEnd o
+span-at none e l h k = let z : _≡_ {A = ℕ} 0 1 = cc in absurd (omega arith)
+span-at (some r) e l h k = let q : r .1 .at ≡ e = cc in ap At (sym q)
+
+-- none: it refuses
+pub span-nothing : (o : Option (Range × Left)) → endOfRange o ≡ span.Nothing → Nothing ≡ wordEnd o
+span-nothing none k = refl
+span-nothing (some r) k = let z : _≡_ {A = ℕ} 0 1 = cc in absurd (omega arith)
+
+-- what a reader reads, as it was written, ends where the reader does
+pub written-ends : {A : Type 0} (R : Reader A) (s : List ℕ) (at : ℕ) → wordEnd (R (from s at)) ≡ wordEnd (written R (from s at))
+unfolding written
+written-ends {A} R s at = go (R (from s at))
+  where
+    go : (o : Option (A × Left)) → wordEnd o ≡ wordEnd (cutOut (from s at) o)
+    go none = refl
+    go (some r) = refl
 
 -- ---- an optional name
 

@@ -21,5 +21,8 @@ pub mod Written
 pub mod Integers
 pub mod DecimalLaws
 pub mod WalkingLaws
+pub mod Closings
+pub mod RangeLaws
+pub mod CellValues
 pub mod CodeLaws
 pub mod EndLaws

@@ -16,8 +16,8 @@ use Rattle.text.proofs.ReaderLaws.{byte-at-read, byte-at-refused, got, 
 use Rattle.text.proofs.WordLaws.{word-always, word-read, word-refused}
 use Rattle.text.specs.Brackets.{bracketed, next}
 use Rattle.text.specs.Reader.{Left, Reader, _>>=_, _>>_, byte, from, give, ifNext}
-use Rattle.text.specs.Walking.{nextWord, past, wordEndAt, writtenEndAt}
-use Rattle.text.specs.Words.{Word, word, wordAt, wordOf, wordThat, writtenAt}
+use Rattle.text.specs.Walking.{nextWord, past, wordEndAt}
+use Rattle.text.specs.Words.{Word, word, wordAt, wordOf, wordThat}
 
 module _ (b : ℕ) (s : List ℕ) (at : ℕ) where
   -- the byte stands there
@@ -51,11 +51,6 @@ module _ (b : ℕ) (s : List ℕ) (at : ℕ) where
   past-within = past-by (ltb at (length s) && eqb (getD s at 0) b) refl .1
 
 module _ (s : List ℕ) (at : ℕ) where
-  -- a value ends where the word there does
-  pub written-end : writtenEndAt s at ≡ wordEndAt s at
-  unfolding writtenEndAt writtenAt wordEndAt
-  written-end = refl
-
   pub word-forward : at ≤ wordEndAt s at
   unfolding wordEndAt
   word-forward = omega arith

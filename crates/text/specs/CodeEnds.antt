@@ -5,9 +5,12 @@ use lib.Dec.{eqb, leb}
 use mathlib.Core.Bool.{cond}
 use mathlib.Core.List.{List}
 use mathlib.Core.Option.{Option, none, some}
+use Rattle.text.specs.Amounts.{Range}
 use Rattle.text.specs.Ends.{endOf}
 use Rattle.text.specs.Reader.{Left, byte}
 use Rattle.text.specs.Words.{Word, wordOf}
+use Rattle.text.specs.declared.amounts.Span.{Span}
+use Rattle.text.specs.declared.amounts.Span.the-variants as span
 use Rattle.text.specs.declared.brackets.Optional.{Optional}
 use Rattle.text.specs.declared.brackets.Optional.the-variants as optionalName
 use Rattle.text.specs.declared.numbers.Amount.{Amount}
@@ -56,6 +59,11 @@ endedAt e (amount.Is n) = number.At e n
 abbrev pub endOfNumber : Option (ℕ × Left) → Number
 endOfNumber none = number.Nothing
 endOfNumber (some r) = number.At (r .1 .at) (r .0)
+
+-- where the reader of a range ends, and the ranks of LOW and HIGH; or that it refuses
+abbrev pub endOfRange : Option (Range × Left) → Span
+endOfRange none = span.Nothing
+endOfRange (some r) = span.At (r .1 .at) (r .0 .low) (r .0 .high)
 
 -- the word of a text at the place that the code's answer names, if it names one
 abbrev pub offendingOf : List ℕ → Offending → Option Word

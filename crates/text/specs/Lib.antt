@@ -5,6 +5,7 @@ pub mod Numbers
 pub mod Reader
 pub mod Words
 pub mod Brackets
+pub mod Amounts
 pub mod Lines
 pub mod Refusal
 pub mod Offending

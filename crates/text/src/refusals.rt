@@ -25,6 +25,8 @@ pub enum Reason {
     MalformedRecord,
     UnfitField,
     ImportTooShort,
+    RangeNotTaken,
+    RangeReversed,
 }
 
 // The text that a refusal points into.
@@ -68,5 +70,7 @@ pub fn number(r: Reason) -> usize
         Reason::MalformedRecord => 19,
         Reason::UnfitField => 20,
         Reason::ImportTooShort => 21,
+        Reason::RangeNotTaken => 27,
+        Reason::RangeReversed => 28,
     }
 }

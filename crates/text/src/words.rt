@@ -7,11 +7,11 @@ use crate::numbers::Number;
 use crate::numbers::read_number;
 ghost use mathlib.Core.Path.{_≡_};
 ghost use Rattle.text.specs.Reader.{from};
-ghost use Rattle.text.specs.Words.{wordAt, writtenAt, name, value};
+ghost use Rattle.text.specs.Words.{wordAt, toClosing, writtenAt, name, value};
 ghost use Rattle.text.specs.Names.{sameByte, sameName};
 ghost use Rattle.text.specs.CodeEnds.{wordEnd};
 ghost use Prim.Native.Nat.{_+_};
-ghost use lib.ListN.{length};
+ghost use lib.ListN.{drop, length};
 
 // Where a reader ends, or that it refuses.
 pub enum End {
@@ -30,10 +30,30 @@ pub fn word_end(s: &[u8], at: usize) -> usize
     i
 }
 
+// The position behind the first closing bracket from a position on, or the line's end where there is none.
+fn closing_end(s: &[u8], at: usize) -> usize
+    ensures { λ r. ⌜ r ≡ at + length (toClosing (drop at (now (s .entry)))) ⌝ }
+{
+    let mut i = at;
+    while i < s.len() {
+        if s[i] == b'\n' {
+            return i;
+        }
+        if s[i] == b')' {
+            return i + 1;
+        }
+        i += 1;
+    }
+    i
+}
+
 // The end of the value of a cell that stands at a position.
 pub fn written_end(s: &[u8], at: usize) -> usize
     ensures { λ r. ⌜ r ≡ at + length (writtenAt (now (s .entry)) at) ⌝ }
 {
+    if byte_at(s, at) == b'(' {
+        return closing_end(s, at);
+    }
     word_end(s, at)
 }
 

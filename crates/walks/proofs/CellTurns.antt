@@ -1,44 +1,46 @@
 -- The cells `(v L)` of a row line, taken one by one: what the walk over them keeps, and that one cell more keeps it. Assumes nothing.
 use Prim.Native.Nat.{_+_, _<_, _≤_, ℕ}
-use borrow.Author.Tests.{eq-eqb}
 use lib.ListN.{getD, length}
 use mathlib.Core.Bool.{true}
 use mathlib.Core.List.{List, _∷_, map}
 use mathlib.Core.Option.{some}
 use mathlib.Core.Path.{_∙_, _≡_, ap, refl, subst, sym}
 use native.Mathlib.Omega.{arith}
-use Rattle.condition.specs.Kinds.{Kind, hasKind}
+use Rattle.condition.specs.Kinds.{Kind}
 use Rattle.document.specs.Lookup.{columnsAt, labelOf}
 use Rattle.document.specs.NameFaults.{bracketLabels}
 use Rattle.document.specs.Policy.{Column, Policy}
 use Rattle.rows.proofs.RowChecks.{bracket-known, labels-on}
-use Rattle.form.proofs.WalkSteps.{cells-more, item-bracket-end}
-use Rattle.form.specs.Form.{labelled}
-use Rattle.form.specs.FormReader.{cellValue, item, labelledItem, plainItem}
-use Rattle.form.specs.Walks.{cellAt, cellEndAt, cellLabelIn, cellsAt, firstIn, itemEndAt, itemsAt}
+use Rattle.document.specs.TypeFaults.{cellHasKind}
+use Rattle.form.proofs.RowWritten.{labelled-here, labelled-item}
+use Rattle.form.proofs.WalkSteps.{cells-more, item-bracket-end, place-bracket}
+use Rattle.form.specs.Form.{Item, labelled}
+use Rattle.form.specs.FormReader.{item, labelledItem}
+use Rattle.form.specs.Walks.{cellAt, cellEndAt, cellLabelIn, cellsAt, firstIn, isLabelledAt, itemEndAt, itemsAt, valuePlace}
 use Rattle.relations.proofs.TableLaws.{column-inside}
 use Rattle.relations.specs.Rows.{LabelStored, ValueStored}
 use Rattle.relations.specs.Tables.{Tables, columnKindIn}
 use Rattle.lists.specs.Lists.{orZero, there}
-use Rattle.walks.proofs.Typed.{ItemsPassed, all-passed, items-turn, none-passed, typed-at, typed-value}
+use Rattle.walks.proofs.Typed.{ItemsPassed, all-passed, end-some, items-turn, none-passed, typed-at, typed-value}
 use Rattle.walks.specs.Walked.{CellsTaken, LabelTaken, LabelWalked, typedEnd}
 use Rattle.stepping.proofs.PlaceLaws.{written-placed}
 use Rattle.rows.proofs.RowTurns.{Rowed, label-added, rowed-all, rowed-none, value-added}
 use Rattle.stepping.specs.Stored.{LineAt}
+use Rattle.text.proofs.CellValues.{forward-cellValue}
 use Rattle.text.proofs.CodeLaws.{word-at}
 use Rattle.text.proofs.EndLaws.{held-end}
 use Rattle.text.proofs.Forward.{forward-next, forward-wordThat}
 use Rattle.text.proofs.Lefts.{before-end}
 use Rattle.text.proofs.ReaderLaws.{byte-at-read}
-use Rattle.text.proofs.Spaces.{if-here, next-here}
+use Rattle.text.proofs.Spaces.{next-here}
 use Rattle.text.proofs.WalkingLaws.{past-here}
 use Rattle.text.proofs.WordLaws.{word-read}
+use Rattle.text.specs.Amounts.{cellValue}
 use Rattle.text.specs.Brackets.{next}
 use Rattle.text.specs.CodeEnds.{wordEnd}
 use Rattle.text.specs.Names.{isName}
-use Rattle.text.specs.Numbers.{isValue}
 use Rattle.text.specs.Offending.{missing}
-use Rattle.text.specs.Reader.{from}
+use Rattle.text.specs.Reader.{Left, from}
 use Rattle.text.specs.Walking.{past, wordEndAt, writtenEndAt}
 use Rattle.text.specs.Words.{Word, name, wordAt, wordOf, writtenAt}
 use Rattle.text.specs.declared.words.End.{End}
@@ -102,18 +104,31 @@ module _ (line : List ℕ) (j e f : ℕ) (opened : getD line (j + 1) 0 ≡ 40) (
   unfolding cellEndAt
   pair-at = sym (past-here 41 line f (λ z. absurd (omega arith)) closed) ∙ ap (past 41 line) (second ∙ ap (wordEndAt line) second-at)
 
-  cell-end : f + 1 ≡ itemEndAt line (j + 1)
-  cell-end = pair-at ∙ sym (item-bracket-end line (j + 1) (eq-eqb _ _ opened))
+  module _ (type : Kind) (v : cellHasKind type (writtenAt line (j + 2)) ≡ true) (n : isName (wordAt line (e + 1)) ≡ true) where
+    pair-read : wordEnd (labelledItem (from line (j + 1))) ≡ At (f + 1)
+    unfolding labelledItem wordEndAt
+    pair-read =
+        let two : j + 1 + 1 ≡ j + 2 = omega arith in
+        sym (held-end cellValue (next name) labelled forward-cellValue line (j + 1) refl (ap wordEnd (byte-at-read line (j + 1) 40 opened) ∙ ap At two)
+        refl (typed-value line (j + 2) type v ∙ ap At (sym first))
+        refl (forward-next name (forward-wordThat isName)) (ap wordEnd (next-here name line e gap ∙ word-read line (e + 1) isName n) ∙ ap At (sym second))
+        (sym (ap wordEnd (byte-at-read line f 41 closed))))
 
-  cell-read : (type : Kind) → hasKind type (writtenAt line (j + 2)) ≡ true → isName (wordAt line (e + 1)) ≡ true → wordEnd (item (from line (j + 1))) ≡ At (f + 1)
-  unfolding item labelledItem wordEndAt
-  cell-read type v n =
-      let two : j + 1 + 1 ≡ j + 2 = omega arith in
-      ap wordEnd (if-here 40 labelledItem plainItem line (j + 1) opened)
-      ∙ sym (held-end cellValue (next name) labelled (forward-wordThat isValue) line (j + 1) refl (ap wordEnd (byte-at-read line (j + 1) 40 opened) ∙ ap At two)
-      refl (typed-value line (j + 2) type v ∙ ap At (sym first))
-      refl (forward-next name (forward-wordThat isName)) (ap wordEnd (next-here name line e gap ∙ word-read line (e + 1) isName n) ∙ ap At (sym second))
-      (sym (ap wordEnd (byte-at-read line f 41 closed))))
+    is-pair : (r : Item × Left) × (labelledItem (from line (j + 1)) ≡ some r)
+    is-pair = end-some (labelledItem (from line (j + 1))) pair-read
+
+    cell-labelled : isLabelledAt line (j + 1) ≡ true
+    cell-labelled = labelled-here line (j + 1) (is-pair .0 .0) (is-pair .0 .1) (is-pair .1)
+
+    cell-end : f + 1 ≡ itemEndAt line (j + 1)
+    cell-end = pair-at ∙ sym (item-bracket-end line (j + 1) cell-labelled)
+
+    value-at : j + 2 ≡ valuePlace line (j + 1)
+    unfolding firstIn
+    value-at = first-at ∙ sym (place-bracket line (j + 1) cell-labelled)
+
+    cell-read : wordEnd (item (from line (j + 1))) ≡ At (f + 1)
+    cell-read = ap wordEnd (labelled-item (from line (j + 1)) (is-pair .0 .0) (is-pair .0 .1) (is-pair .1)) ∙ ap wordEnd (sym (is-pair .1)) ∙ pair-read
 
   cell-stored : {text : List ℕ} {at : ℕ} (l : LineAt text at line) {before ws mid after : List ℕ} {k c : ℕ} (d : Policy) (is pos : ℕ) → getD line j 0 ≡ 32 → (at + (j + 2) ≤ length text → pos ≡ at + (j + 2))
       → ValueStored ws mid k c pos → LabelStored mid after k c (orZero (labelOf d (wordOf line (e + 1)))) → k < 1024 → c < 16
@@ -138,15 +153,16 @@ module _ {text tables : List ℕ} {count x : ℕ} (d : Policy) (T : Tables text 
       → CellsPassed text before ws line k n c d (columnsAt d x) is j → CellsPassed text before after line k n (c + 1) d (columnsAt d x) is (f + 1)
   cells-turn {before} {ws} {mid} {after} {line} {k} {c} {at} {e} {f} {pos} is j type stands small inside space opened kind ends placed s t closed p =
       let v = typed-at line (j + 2) type e ends in
-      let to : f + 1 ≡ itemEndAt line (j + 1) = cell-end line j e f opened (v .1) (t .space) (t .end) closed in
+      let to : f + 1 ≡ itemEndAt line (j + 1) = cell-end line j e f opened (v .1) (t .space) (t .end) closed type (v .0) (t .named) in
+      let marked : isLabelledAt line (j + 1) ≡ true = cell-labelled line j e f opened (v .1) (t .space) (t .end) closed type (v .0) (t .named) in
       let mark : there (labelOf d (wordOf line (cellLabelIn line (j + 1)))) ≡ true = ap (λ q. there (labelOf d (wordOf line q))) (sym (second-at line j e f opened (v .1) (t .space) (t .end) closed)) ∙ t .found in
       record {
         items =
-            items-turn d T b wide true line c is j (f + 1) (j + 2) type inside space (eq-eqb _ _ opened) kind (first-at line j e f opened (v .1) (t .space) (t .end) closed) (v .0)
+            items-turn d T b wide true line c is j (f + 1) (j + 2) type inside space marked kind (value-at line j e f opened (v .1) (t .space) (t .end) closed type (v .0) (t .named)) (v .0) (v .2)
             (cell-read line j e f opened (v .1) (t .space) (t .end) closed type (v .0) (t .named)) to (p .items);
         labelled =
             p .labelled
-            ∙ labels-on (λ w. there (labelOf d w)) line j space true (bracket-known (λ w. there (labelOf d w)) line (j + 1) (eq-eqb _ _ opened) true mark) refl
+            ∙ labels-on (λ w. there (labelOf d w)) line j space true (bracket-known (λ w. there (labelOf d w)) line (j + 1) marked true mark) refl
             ∙ ap (λ i. missing (λ w. there (labelOf d w)) (bracketLabels (itemsAt line i))) (sym to);
         rowed =
             cell-stored line j e f opened (v .1) (t .space) (t .end) closed stands d is pos space placed s (t .stored) small

@@ -14,11 +14,12 @@ use Rattle.document.proofs.RowItems.{led-name, led-values}
 use Rattle.document.specs.Lookup.{columnsAt, labelOf, schemeAt, schemeOf, tableOf}
 use Rattle.document.specs.NameFaults.{rowLabels}
 use Rattle.document.specs.Policy.{Column, Doc, Policy}
-use Rattle.document.specs.TypeFaults.{mistypedValue}
+use Rattle.document.specs.TypeFaults.{cellHasKind, mistypedValue}
 use Rattle.document.specs.ValueFaults.{plainValues, rowValues}
-use Rattle.rows.proofs.RowChecks.{labels-done, no-values-left, one-missing}
+use Rattle.rows.proofs.RowChecks.{firstBroken, labels-done, no-values-left, one-missing, order-done}
 use Rattle.rows.proofs.RowItems.{fits-stop, shaped-at, width-fits}
 use Rattle.rows.proofs.RowJudging.{row-fine}
+use Rattle.rows.proofs.RowTypes.{word-kind}
 use Rattle.rows.specs.RowWords.{shapedValues, valuesAt}
 use Rattle.form.proofs.FormForward.{forward-item}
 use Rattle.form.proofs.WalkSteps.{cells-stop, plain-stop}
@@ -35,10 +36,10 @@ use Rattle.workspace.specs.declared.found.Found.{Found}
 use Rattle.workspace.specs.declared.found.Found.the-variants as found
 use Rattle.form.specs.declared.lines.Scheme as coded
 use Rattle.lists.proofs.ListLaws.{holdsOf-some}
-use Rattle.lists.proofs.Tests.{eqb-self}
+use Rattle.lists.proofs.Tests.{eqb-self, true-not-false}
 use Rattle.lists.specs.Lists.{orZero, there}
 use Rattle.walks.proofs.RowLines.{no-items, no-space}
-use Rattle.walks.proofs.Typed.{typed-bare, typed-plain}
+use Rattle.walks.proofs.Typed.{typed-plain}
 use Rattle.walks.specs.Taken.{ItemsClose, ItemsTaken, NoLabels, closesAt, rowAt}
 use Rattle.walks.specs.Walked.{CellsTaken, ItemsWalked, LabelTaken, ValuesTaken}
 use Rattle.rows.proofs.RowStored.{AddsRow, RowFits, cells-stored, leading-stored, plain-stored, row-stored}
@@ -49,7 +50,9 @@ use Rattle.text.specs.Brackets.{many}
 use Rattle.text.specs.CodeEnds.{wordEnd}
 use Rattle.text.specs.Offending.{missing}
 use Rattle.text.specs.Reader.{from}
-use Rattle.text.proofs.WalkingLaws.{written-end}
+use Rattle.text.proofs.Closings.{written-end}
+use Rattle.text.proofs.WordLaws.{not-name-letter}
+use Rattle.text.specs.Bytes.{isLetter}
 use Rattle.text.specs.Walking.{wordEndAt}
 use Rattle.text.specs.Words.{Word, wordOf, writtenAt}
 use Rattle.text.specs.declared.words.End.the-variants.{At}
@@ -65,6 +68,9 @@ module _ {b : Bool} {line : List ℕ} {n : ℕ} {cs : List Column} {is e : ℕ} 
 
   walked-typed : mistypedValue cs (valuesAt line is) ≡ none
   walked-typed = w .typed ∙ no-values-left (drop n cs) line e (no-space line e shut)
+
+  walked-ordered : firstBroken (valuesAt line is) ≡ none
+  walked-ordered = w .ordered ∙ order-done line e (no-space line e shut)
 
 -- ---- a row of table x, whose scheme is s: its labels are known, and the values of its items are those that were walked from j on
 
@@ -82,6 +88,7 @@ module _ (d : Doc) (line : List ℕ) (is k x : ℕ) (counted : k ≡ length (d .
   row-passes =
       row-fine d line (wordOf line 5) (itemsAt line is) k counted room x table s scheme labelled fits-columns (values-of .0) (values-of .1)
       (ap (mistypedValue (columnsAt (d .policy) x)) (sym (shaped-at b line j (values-of .0) (sym shaped ∙ values-of .1))) ∙ walked-typed w shut)
+      (ap firstBroken (sym (shaped-at b line j (values-of .0) (sym shaped ∙ values-of .1))) ∙ walked-ordered w shut)
 
   row-of : RowFits d (wordOf line 5) (itemsAt line is) k s
   unfolding schemeOf orZero
@@ -123,15 +130,17 @@ cells-labelled d line {cs} {is} {e} t shut = t .labelled ∙ labels-done (λ v. 
 
 -- the first is the label
 module _ {before marked line : List ℕ} {d : Policy} {k is j : ℕ} (l : LabelTaken before marked line d k 0 is j) where
-  is-typed : hasKind names (writtenAt line (is + 1)) ≡ true
-  unfolding hasKind writtenAt
-  is-typed = l .named
+  -- a name begins with no bracket
+  bare : getD line (is + 1) 0 ≡ 40 → ⊥
+  unfolding isLetter
+  bare z = true-not-false (l .named) (not-name-letter line (is + 1) (ap isLetter z))
 
-  bare : eqb (getD line (is + 1) 0) 40 ≡ false
-  bare = typed-bare line (is + 1) names is-typed
+  is-typed : cellHasKind names (writtenAt line (is + 1)) ≡ true
+  unfolding hasKind
+  is-typed = sym (word-kind line (is + 1) names bare) ∙ l .named
 
   led-ends : wordEnd (many item (from line is)) ≡ wordEnd (many item (from line j))
-  led-ends = sym (list-more item forward-item line is refl (l .space) refl (typed-plain line (is + 1) names is-typed ∙ ap At (written-end line (is + 1) ∙ sym (l .end))) refl)
+  led-ends = sym (list-more item forward-item line is refl (l .space) refl (typed-plain line (is + 1) names is-typed ∙ ap At (written-end line (is + 1) bare ∙ sym (l .end))) refl)
 
   led-labelled : missing (λ v. there (labelOf d v)) (rowLabels byRow (itemsAt line is)) ≡ none
   unfolding rowLabels

@@ -1,6 +1,5 @@
 -- The values of a row without brackets: one turn of the walk that reads, judges and stores them. Assumes nothing.
 use Prim.Native.Nat.{_+_, _<_, _≤_, ℕ}
-use borrow.Author.Tests.{eqb-false}
 use lib.ListN.{getD, length}
 use mathlib.Core.Bool.{false}
 use mathlib.Core.List.{List, [], _∷_, map}
@@ -9,7 +8,7 @@ use native.Mathlib.Omega.{arith}
 use Rattle.condition.specs.Kinds.{Kind}
 use Rattle.document.specs.Lookup.{columnsAt}
 use Rattle.document.specs.Policy.{Column, Policy}
-use Rattle.form.proofs.WalkSteps.{item-plain-end, plain-more}
+use Rattle.form.proofs.WalkSteps.{item-plain-end, place-plain, plain-more}
 use Rattle.form.specs.Walks.{plainAt}
 use Rattle.relations.proofs.TableLaws.{column-inside}
 use Rattle.relations.specs.Rows.{FillingRow, ValueStored}
@@ -19,7 +18,6 @@ use Rattle.walks.specs.Walked.{ValuesTaken, typedEnd}
 use Rattle.stepping.proofs.PlaceLaws.{written-placed}
 use Rattle.rows.proofs.RowTurns.{Rowed, rowed-all, rowed-marked, value-added}
 use Rattle.stepping.specs.Stored.{LineAt}
-use Rattle.text.proofs.WalkingLaws.{past-other}
 use Rattle.text.specs.Words.{Word, writtenAt, writtenOf}
 use Rattle.text.specs.declared.words.End.the-variants.{At}
 
@@ -46,7 +44,7 @@ module _ {text tables : List ℕ} {count x : ℕ} (d : Policy) (T : Tables text 
       let bare = typed-bare line (j + 1) type (v .0) in
       record {
         items =
-            items-turn d T l wide false line c is j e (j + 1) type inside (space .0) bare kind (sym (past-other 40 line (j + 1) (eqb-false _ _ bare))) (v .0)
+            items-turn d T l wide false line c is j e (j + 1) type inside (space .0) bare kind (sym (place-plain line (j + 1) bare)) (v .0) (v .2)
             (typed-plain line (j + 1) type (v .0) ∙ ap At (sym (v .1))) (v .1 ∙ sym (item-plain-end line (j + 1) bare)) (p .items);
         rowed =
             value-added (writtenAt line (j + 1))

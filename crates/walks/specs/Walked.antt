@@ -1,44 +1,59 @@
 -- Contract: what one walk over the items of a row line finds and stores; for the functions that are not called from outside.
 use Prim.Native.Nat.{_+_, ℕ}
-use lib.Dec.{eqb}
+use lib.Dec.{eqb, leb}
 use lib.ListN.{drop, getD, length}
-use mathlib.Core.Bool.{Bool, cond, false, true}
+use mathlib.Core.Bool.{Bool, _&&_, cond, false, true}
 use mathlib.Core.List.{List, [], map}
 use mathlib.Core.Path.{_≡_}
-use Rattle.condition.specs.Kinds.{Kind, hasKind}
+use Rattle.condition.specs.Kinds.{Kind}
+use Rattle.document.specs.AmountFaults.{inOrder}
 use Rattle.document.specs.Lookup.{labelOf}
 use Rattle.document.specs.NameFaults.{bracketLabels}
 use Rattle.document.specs.Policy.{Column, Policy, Row}
-use Rattle.document.specs.TypeFaults.{mistypedValue}
+use Rattle.document.specs.TypeFaults.{cellHasKind, mistypedValue}
 use Rattle.rows.specs.RowWords.{shapedValues, valuesAt}
 use Rattle.form.specs.FormReader.{item}
 use Rattle.form.specs.Walks.{cellsAt, itemsAt, plainAt}
 use Rattle.relations.specs.Rows.{LabelStored, Rows}
 use Rattle.lists.specs.Lists.{holdsOf, orZero, there}
 use Rattle.stepping.specs.Stored.{RowFilled}
+use Rattle.text.specs.Amounts.{rangeOf}
 use Rattle.text.specs.Brackets.{many}
 use Rattle.text.specs.CodeEnds.{wordEnd}
 use Rattle.text.specs.Names.{isName}
+use Rattle.text.specs.Numbers.{Value}
 use Rattle.text.specs.Offending.{missing}
 use Rattle.text.specs.Reader.{from}
 use Rattle.text.specs.Walking.{wordEndAt, writtenEndAt}
 use Rattle.text.specs.Words.{wordAt, wordOf, writtenAt}
+use Rattle.text.specs.declared.amounts.Span.{Span}
+use Rattle.text.specs.declared.amounts.Span.the-variants as span
 use Rattle.text.specs.declared.words.End.{End}
 use Rattle.text.specs.declared.words.End.the-variants.{At, Nothing}
 
--- where the value at a place ends, if it is of the type
+-- the value is of the type, and in order if it is a range
+unfoldable pub isTaken : Kind → Value → Bool
+isTaken kind v = cellHasKind kind v && inOrder (rangeOf v)
+
+-- where the value at a place ends, if it is so
 unfoldable pub typedEnd : List ℕ → ℕ → Kind → End
-typedEnd line at kind = cond (hasKind kind (writtenAt line at)) (At (writtenEndAt line at)) Nothing
+typedEnd line at kind = cond (isTaken kind (writtenAt line at)) (At (writtenEndAt line at)) Nothing
+
+-- where a range ends, if LOW is at most HIGH, by the code's answer for its reader
+abbrev pub orderedEnd : Span → End
+orderedEnd span.Nothing = Nothing
+orderedEnd (span.At e l h) = cond (leb l h) (At e) Nothing
 
 -- the first k rows stay
 abbrev pub KeepsRows : (text before after : List ℕ) → ℕ → Type 0
 KeepsRows text before after k = (rs : List Row) → Rows text before k rs → Rows text after k rs
 
--- n items, brackets (true) or none (false), stand from `is` to e, and each has a value of its column's type
+-- n items, with labels (true) or without (false), stand from `is` to e, and each has a value of its column's type that is in order
 pub record ItemsWalked (bracketed : Bool) (line : List ℕ) (n : ℕ) (cs : List Column) (is e : ℕ) : Type 0 where
   pub ends : wordEnd (many item (from line is)) ≡ wordEnd (many item (from line e))
   pub fits : holdsOf (λ ws. eqb (length ws) n) (shapedValues bracketed (itemsAt line is)) ≡ holdsOf (λ ws. eqb (n + length ws) n) (shapedValues bracketed (itemsAt line e))
   pub typed : mistypedValue cs (valuesAt line is) ≡ mistypedValue (drop n cs) (valuesAt line e)
+  pub ordered : missing (λ w. inOrder (rangeOf (w .bytes))) (valuesAt line is) ≡ missing (λ w. inOrder (rangeOf (w .bytes))) (valuesAt line e)
 
 -- n values stand from `is` to e, and if they are all, they are stored as those of row k, which has m labels already
 pub record ValuesTaken (text before after line : List ℕ) (k n m : ℕ) (ls : List ℕ) (cs : List Column) (is e : ℕ) : Type 0 where

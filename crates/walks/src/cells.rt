@@ -5,6 +5,8 @@ use relations::rows::set_label;
 use relations::rows::set_value;
 use relations::tables::column_kind;
 use stepping::places::place;
+use text::amounts::Span;
+use text::amounts::read_range;
 use text::bytes::byte_at;
 use text::numbers::Number;
 use text::numbers::read_number;
@@ -18,24 +20,51 @@ ghost use Prim.Native.Nat.{ℕ};
 ghost use mathlib.Core.List.{List};
 ghost use mathlib.Core.Path.{_≡_};
 ghost use Rattle.condition.specs.Answers.{kindOf};
+ghost use Rattle.condition.specs.Kinds.{numbers};
 ghost use Rattle.document.specs.Policy.{Policy};
 ghost use Rattle.relations.specs.Labels.{Labels};
-ghost use Rattle.walks.specs.Walked.{KeepsRows, LabelWalked, typedEnd};
+ghost use Rattle.text.specs.Amounts.{range};
+ghost use Rattle.text.specs.CodeEnds.{endOfRange};
+ghost use Rattle.text.specs.Reader.{from};
+ghost use Rattle.walks.specs.Walked.{KeepsRows, LabelWalked, orderedEnd, typedEnd};
 ghost use Rattle.walks.specs.Promises.{TakeCellsPromise, TakeValuesPromise};
 
-// The end of the value of the type that stands at a position.
+// The end of the range at a position, if it has LOW at most HIGH.
+fn ordered_end(line: &[u8], at: usize) -> End
+    ensures { λ r. ⌜ r ≡ orderedEnd (endOfRange (range (from (now (line .entry)) at))) ⌝ }
+{
+    let k = read_range(line, at);
+    let Span::At(e, low, high) = k else {
+        return End::Nothing;
+    };
+    if low <= high {
+        End::At(e)
+    } else {
+        End::Nothing
+    }
+}
+
+// The end of the number at a position, or of the range, if it is in order.
+fn number_end(line: &[u8], at: usize) -> End
+    ensures { λ r. ⌜ r ≡ typedEnd (now (line .entry)) at numbers ⌝ }
+{
+    if byte_at(line, at) == b'(' {
+        return ordered_end(line, at);
+    }
+    let n = read_number(line, at);
+    match n {
+        Number::At(e, _) => End::At(e),
+        Number::Nothing => End::Nothing,
+    }
+}
+
+// The end of the value of the type that stands at a position, if it is in order.
 fn typed_end(line: &[u8], at: usize, kind: Kind) -> End
     ensures { λ r. ⌜ r ≡ typedEnd (now (line .entry)) at (kindOf kind) ⌝ }
 {
     match kind {
         Kind::Name => name_end(line, at),
-        Kind::Num => {
-            let n = read_number(line, at);
-            match n {
-                Number::At(e, _) => End::At(e),
-                Number::Nothing => End::Nothing,
-            }
-        }
+        Kind::Num => number_end(line, at),
     }
 }
 

@@ -8,8 +8,9 @@ use mathlib.Core.Path.{_∙_, _≡_, ap, refl, subst, sym}
 use native.Mathlib.Nat.{add-zero}
 use native.Mathlib.Numerals.{add-one}
 use native.Mathlib.Omega.{arith}
-use Rattle.text.specs.Bytes.{isNameByte}
-use Rattle.text.specs.Words.{nameBytes, writtenAt}
+use Rattle.text.proofs.Closings.{written-length, written-taken}
+use Rattle.text.proofs.Lefts.{drop-here}
+use Rattle.text.specs.Words.{writtenAt}
 use Rattle.writing.specs.Write.{Stored, Wrote}
 
 -- bytes stored one run after the other are stored as one run
@@ -92,29 +93,29 @@ filled d s h =
 
 -- ---- a value as one run of bytes
 
--- a value is the first bytes of what stands there
-run-taken : (bs : List ℕ) → take (length (nameBytes bs)) bs ≡ nameBytes bs
-unfolding nameBytes
-run-taken [] = refl
-run-taken (b ∷ bs) = go (isNameByte b) (run-taken bs)
-  where
-    go : (t : Bool) → take (length (nameBytes bs)) bs ≡ nameBytes bs → take (length (cond t (b ∷ nameBytes bs) [])) (b ∷ bs) ≡ cond t (b ∷ nameBytes bs) []
-    go true e = ap (λ (l : List ℕ). b ∷ l) e
-    go false e = refl
-
--- and no longer than that
-run-short : (bs : List ℕ) → length (nameBytes bs) ≤ length bs
-unfolding nameBytes
-run-short [] = omega arith
-run-short (b ∷ bs) = go (isNameByte b) (run-short bs)
-  where
-    go : (t : Bool) → length (nameBytes bs) ≤ length bs → length (cond t (b ∷ nameBytes bs) []) ≤ suc (length bs)
-    go true h = omega (arith, h)
-    go false h = omega arith
-
 pub written-short : (s : List ℕ) (at : ℕ) → length (writtenAt s at) ≤ length s
-unfolding writtenAt
-written-short s at = omega (arith, run-short (drop at s), length-drop at s)
+written-short s at = omega (arith, written-length s at, length-drop at s)
+
+-- ---- a value byte by byte: its bytes from a place i on, where it ends at e
+
+module _ (s : List ℕ) (at i e : ℕ) (from-start : at ≤ i) (is : e ≡ at + length (writtenAt s at)) where
+  pub value-left : i < e → i < length s
+  value-left h = omega (arith, h, from-start, is, written-length s at, length-drop at s)
+
+  pub value-more : i < e → take (e - i) (drop i s) ≡ getD s i 0 ∷ take (e - (i + 1)) (drop (i + 1) s)
+  value-more h =
+      let n : e - i ≡ suc (e - (i + 1)) = omega (arith, h) in
+      rw (n, drop-here s i (value-left h))
+
+-- all of them
+pub value-whole : (s : List ℕ) (at e : ℕ) → e ≡ at + length (writtenAt s at) → take (e - at) (drop at s) ≡ writtenAt s at
+value-whole s at e h =
+    let n : e - at ≡ length (writtenAt s at) = omega (arith, h) in
+    ap (λ (k : ℕ). take k (drop at s)) n ∙ written-taken s at
+
+-- none is left
+pub value-done : (s : List ℕ) (i e : ℕ) → e ≤ i → take (e - i) (drop i s) ≡ []
+value-done s i e h = let n : e - i ≡ 0 = omega (arith, h) in ap (λ (k : ℕ). take k (drop i s)) n
 
 -- nothing is stored past the end
 sets-past : (d : List ℕ) (at : ℕ) (s : List ℕ) → length d ≤ at → sets d at s ≡ d
@@ -136,8 +137,7 @@ copied-more d text at start k h =
 module _ (d : List ℕ) (at : ℕ) (text : List ℕ) (start size : ℕ) (e : size ≡ length (writtenAt text start)) where
   -- behind the text stands nothing
   pub sized-none : size ≤ length text → length text - size < start → Wrote d at (writtenAt text start) d at
-  unfolding writtenAt
-  sized-none l h = subst (λ (w : List ℕ). Wrote d at w d at) (sym (no-bytes (writtenAt text start) (omega (arith, e, l, h, run-short (drop start text), length-drop start text)))) (wrote-nothing d at)
+  sized-none l h = subst (λ (w : List ℕ). Wrote d at w d at) (sym (no-bytes (writtenAt text start) (omega (arith, e, l, h, written-length text start, length-drop start text)))) (wrote-nothing d at)
 
   -- a value past the end of the buffer is counted
   pub sized-past : length d ≤ at → (r : ℕ) → (at + size < 2 ^ 63 → r ≡ at + size) → Wrote d at (writtenAt text start) d r
@@ -145,7 +145,6 @@ module _ (d : List ℕ) (at : ℕ) (text : List ℕ) (start size : ℕ) (e : siz
 
   -- one that was copied
   pub sized-copied : (f : List ℕ) → f ≡ sets d at (take size (drop start text)) → Wrote d at (writtenAt text start) f (at + size)
-  unfolding writtenAt
   sized-copied f h =
-      let same : f ≡ sets d at (writtenAt text start) = h ∙ ap (λ (n : ℕ). sets d at (take n (drop start text))) e ∙ ap (sets d at) (run-taken (drop start text)) in
+      let same : f ≡ sets d at (writtenAt text start) = h ∙ ap (λ (n : ℕ). sets d at (take n (drop start text))) e ∙ ap (sets d at) (written-taken text start) in
       record { kept = ap length same ∙ length-sets d at (writtenAt text start); room = λ k. record { behind = ap (λ (n : ℕ). at + n) e; stored = same } }

@@ -1,7 +1,7 @@
 // Bytes, words and numbers written into a lent buffer. A byte past its end is counted and not stored, so that a writer that is
 // lent an empty buffer measures.
 use text::bytes::byte_at;
-use text::bytes::is_name_byte;
+use text::words::written_end;
 ghost use Prim.Native.Nat.{_+_, _<_, _^_, _≤_};
 ghost use lib.ListN.{drop, length, take};
 ghost use lib.Seq.{sets};
@@ -45,9 +45,10 @@ pub fn put_bytes(out: &mut [u8], at: usize, s: &[u8]) -> usize
 pub fn put_written(out: &mut [u8], at: usize, text: &[u8], start: usize) -> usize
     ensures { λ r. ⌜ Wrote (now (out .entry)) at (writtenAt (now (text .entry)) start) (now (out .exit)) r ⌝ }
 {
+    let end = written_end(text, start);
     let mut to = at;
     let mut i = start;
-    while is_name_byte(byte_at(text, i)) {
+    while i < end {
         to = put_byte(out, to, byte_at(text, i));
         i += 1;
     }

@@ -3,12 +3,13 @@
 use borrow.Author.Needs.{needs}
 use Rattle.form.specs.Form.{labelled}
 use Rattle.form.specs.FormReader.{labelledItem}
+use Rattle.text.proofs.CellValues.{forward-cellValue}
 use Rattle.text.proofs.EndLaws.{bracket-none, held-end, held-first, held-second, pair}
 use Rattle.text.proofs.Forward.{forward-next, forward-wordThat}
+use Rattle.text.specs.Amounts.{cellValue}
 use Rattle.text.specs.Brackets.{next}
 use Rattle.text.specs.Names.{isName}
-use Rattle.text.specs.Numbers.{isValue}
-use Rattle.text.specs.Words.{name, value}
+use Rattle.text.specs.Words.{name}
 use Rattle.form.proofs.parts.labelled_item_end.Statement.{statement}
 use Rattle.form.proofs.parts.labelled_item_end.Tie as tie
 
@@ -26,10 +27,10 @@ unfolding labelledItem
 returns c =
     let s = c .before .before .before .before .args .s .now in
     let at = c .before .before .before .before .args .at in
-    bracket-none (pair value (next name) labelled) s at (c .before .before .byte-end .ensures) (c .enum-told .given .1)
+    bracket-none (pair cellValue (next name) labelled) s at (c .before .before .byte-end .ensures) (c .enum-told .given .1)
 
-value-end-requires : tie.Need-value-end-requires
-value-end-requires c κs = search needs
+cell-value-end-requires : tie.Need-cell-value-end-requires
+cell-value-end-requires c κs = search needs
 
 enum-known-v : tie.Need-enum-known-v
 enum-known-v c = search needs
@@ -42,7 +43,7 @@ unfolding labelledItem
 returns-2 c =
     let s = c .before .before .before .before .before .before .before .before .args .s .now in
     let at = c .before .before .before .before .before .before .before .before .args .at in
-    held-first value (next name) labelled (forward-wordThat isValue) s at (c .before .before .before .before .before .before .byte-end .ensures) (c .before .before .before .before .o .given .1) (c .before .before .value-end .ensures) (c .enum-told2 .given .1)
+    held-first cellValue (next name) labelled forward-cellValue s at (c .before .before .before .before .before .before .byte-end .ensures) (c .before .before .before .before .o .given .1) (c .before .before .cell-value-end .ensures) (c .enum-told2 .given .1)
 
 spaced-name-end-requires : tie.Need-spaced-name-end-requires
 spaced-name-end-requires c κs = search needs
@@ -58,7 +59,7 @@ unfolding labelledItem
 returns-3 c =
     let s = c .before .before .before .before .before .before .before .before .before .before .before .before .args .s .now in
     let at = c .before .before .before .before .before .before .before .before .before .before .before .before .args .at in
-    held-second value (next name) labelled (forward-wordThat isValue) s at (c .before .before .before .before .before .before .before .before .before .before .byte-end .ensures) (c .before .before .before .before .before .before .before .before .o .given .1) (c .before .before .before .before .before .before .value-end .ensures) (c .before .before .before .before .v .given .1) (c .before .before .spaced-name-end .ensures) (c .enum-told3 .given .1)
+    held-second cellValue (next name) labelled forward-cellValue s at (c .before .before .before .before .before .before .before .before .before .before .byte-end .ensures) (c .before .before .before .before .before .before .before .before .o .given .1) (c .before .before .before .before .before .before .cell-value-end .ensures) (c .before .before .before .before .v .given .1) (c .before .before .spaced-name-end .ensures) (c .enum-told3 .given .1)
 
 byte-end-requires-2 : tie.Need-byte-end-requires-2
 byte-end-requires-2 c κs = search needs
@@ -68,7 +69,7 @@ unfolding labelledItem
 returns-4 c =
     let s = c .before .before .before .before .before .before .before .before .before .before .before .before .before .before .args .s .now in
     let at = c .before .before .before .before .before .before .before .before .before .before .before .before .before .before .args .at in
-    held-end value (next name) labelled (forward-wordThat isValue) s at (c .before .before .before .before .before .before .before .before .before .before .before .before .byte-end .ensures) (c .before .before .before .before .before .before .before .before .before .before .o .given .1) (c .before .before .before .before .before .before .before .before .value-end .ensures) (c .before .before .before .before .before .before .v .given .1) (c .before .before .before .before .spaced-name-end .ensures) (forward-next name (forward-wordThat isName)) (c .before .before .l .given .1) (c .byte-end2 .ensures)
+    held-end cellValue (next name) labelled forward-cellValue s at (c .before .before .before .before .before .before .before .before .before .before .before .before .byte-end .ensures) (c .before .before .before .before .before .before .before .before .before .before .o .given .1) (c .before .before .before .before .before .before .before .before .cell-value-end .ensures) (c .before .before .before .before .before .before .v .given .1) (c .before .before .before .before .spaced-name-end .ensures) (forward-next name (forward-wordThat isName)) (c .before .before .l .given .1) (c .byte-end2 .ensures)
 
 pub labelled-item-end-spec : {M : Type 1} → statement M
 labelled-item-end-spec =
@@ -78,7 +79,7 @@ labelled-item-end-spec =
     enum-known-o
     enum-told
     returns
-    value-end-requires
+    cell-value-end-requires
     enum-known-v
     enum-told-2
     returns-2

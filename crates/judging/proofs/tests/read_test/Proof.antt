@@ -1,4 +1,5 @@
 -- `judging::tests::read_test` meets its contract. Assumes nothing.
+use Rattle.condition.specs.Answers.{modeBy}
 use Rattle.condition.specs.Kinds.{hasKind}
 use Rattle.text.specs.Walking.{nextWord}
 use Rattle.text.specs.Words.{wordAt}
@@ -35,20 +36,24 @@ op-code-requires c κs = search needs
 read-constant-requires : tie.Need-read-constant-requires
 read-constant-requires c κs = search needs
 
+flag-number-requires : tie.Need-flag-number-requires
+flag-number-requires c κs = search needs
+
 returns : tie.Need-returns
 returns c =
-    let s = c .before .before .before .before .before .before .before .before .before .args .query .now in
-    let typed = c .before .before .before .kind-cell .ensures in
+    let s = c .before .before .before .before .before .before .before .before .before .before .args .query .now in
+    let typed = c .before .before .before .before .kind-cell .ensures in
     record {
       column = refl;
-      kind = λ small narrow. typed ∙ c .before .before .before .before .column-kind .ensures small narrow;
-      operator = c .before .op-code .ensures ∙ c .before .before .op-at .ensures;
+      kind = λ small narrow. typed ∙ c .before .before .before .before .before .column-kind .ensures small narrow;
+      operator = c .before .before .op-code .ensures ∙ c .before .before .before .op-at .ensures;
       sign = refl;
-      place = c .before .before .before .before .before .before .next-word2 .ensures ∙ ap (nextWord s) (c .before .before .before .before .before .before .before .next-word .ensures);
-      fits = c .read-constant .ensures .fits ∙ ap (λ k. hasKind k (wordAt s (c .before .before .before .before .before .before .next-word2 .result))) (sym typed);
-      sized = record { size = omega (arith, c .before .before .before .before .before .word-end .ensures); ranked = λ e. c .read-constant .ensures .ranked (sym typed ∙ e) };
+      place = c .before .before .before .before .before .before .before .next-word2 .ensures ∙ ap (nextWord s) (c .before .before .before .before .before .before .before .before .next-word .ensures);
+      fits = c .before .read-constant .ensures .fits ∙ ap (λ k. hasKind k (wordAt s (c .before .before .before .before .before .before .before .next-word2 .result))) (sym typed);
+      sized = record { size = omega (arith, c .before .before .before .before .before .before .word-end .ensures); ranked = λ e. c .before .read-constant .ensures .ranked (sym typed ∙ e) };
       hit = refl;
       miss = refl;
+      asked = ap modeBy (c .flag-number .ensures);
     }
 
 pub read-test-spec : {M : Type 1} → statement M
@@ -64,4 +69,5 @@ read-test-spec =
     op-at-requires
     op-code-requires
     read-constant-requires
+    flag-number-requires
     returns)

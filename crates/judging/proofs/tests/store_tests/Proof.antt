@@ -1,19 +1,27 @@
 -- `judging::tests::store_tests` meets its contract. The loop's invariant: the comparisons before j are read. Assumes nothing.
-use Prim.Native.Nat.{_-_, _≤_}
-use Rattle.judging.proofs.TestLaws.{ReadTo, read-more, read-none}
+use Prim.Native.Nat.{_-_, _≤_, _+_}
+use Rattle.condition.specs.Answers.{modeBy}
+use Rattle.condition.specs.Ranges.{Mode}
+use Rattle.judging.proofs.TestLaws.{ReadTo, Reads, read-more, read-none}
+use Rattle.judging.specs.Tests.{TestOf, testIn}
 use borrow.Author.Needs.{needs}
+use lib.ListN.{getD}
+use mathlib.Core.Path.{subst}
 use native.Mathlib.Omega.{arith}
 use Rattle.judging.proofs.tests.store_tests.Statement.{statement}
 use Rattle.judging.proofs.tests.store_tests.Tie as tie
 
 abbrev Inv-loop : tie.InvT-loop
-Inv-loop tables query ops columns trues falses tests₀ t m chosen j₀ tests j = (j ≤ m) × ReadTo tables t query ops columns chosen trues falses tests j
+Inv-loop tables query ops columns trues falses flips tests₀ t m chosen certain j₀ tests j = (j ≤ m) × ReadTo tables t query ops columns chosen trues falses flips (modeBy certain) tests j
 
 abbrev μ-loop : tie.MeasureT-loop
-μ-loop tables query ops columns trues falses tests₀ t m chosen j₀ tests j = m - j
+μ-loop tables query ops columns trues falses flips tests₀ t m chosen certain j₀ tests j = m - j
+
+is-certain-requires : tie.Need-is-certain-requires Inv-loop μ-loop
+is-certain-requires c κs = search needs
 
 loop-holds : tie.Need-loop-holds Inv-loop μ-loop
-loop-holds c = let a = c .before .before .args in (omega arith, read-none (a .tables .now) (a .s .table) (a .query .now) (a .ops .now) (a .columns .now) (a .s .chosen) (a .trues .now) (a .falses .now) (a .tests .now))
+loop-holds c = let a = c .before .before .before .args in (omega arith, read-none (a .tables .now) (a .s .table) (a .query .now) (a .ops .now) (a .columns .now) (a .s .chosen) (a .trues .now) (a .falses .now) (a .flips .now) (modeBy (c .is-certain .result)) (a .tests .now))
 
 mul-read-test : tie.Need-mul-read-test Inv-loop μ-loop
 mul-read-test c = search needs
@@ -42,6 +50,12 @@ mul-read-test-4 c = search needs
 element-copy-out-read-test-3 : tie.Need-element-copy-out-read-test-3 Inv-loop μ-loop
 element-copy-out-read-test-3 c = search needs
 
+element-copy-out-asked-certain : tie.Need-element-copy-out-asked-certain Inv-loop μ-loop
+element-copy-out-asked-certain c = search needs
+
+asked-certain-requires : tie.Need-asked-certain-requires Inv-loop μ-loop
+asked-certain-requires c κs = search needs
+
 read-test-requires : tie.Need-read-test-requires Inv-loop μ-loop
 read-test-requires c κs = search needs
 
@@ -56,12 +70,18 @@ loop-less c = omega arith
 
 loop-again : tie.Need-loop-again Inv-loop μ-loop
 loop-again c =
-    let a = c .before .before .before .before .before .before .before .before .before .before .before .args in
-    (omega arith, read-more (a .tables .now) (a .s .table) (a .query .now) (a .ops .now) (a .columns .now) (a .s .chosen) (a .trues .now) (a .falses .now) (c .before .before .before .before .before .before .before .before .loop .tests) _ (c .before .before .before .before .before .before .before .before .loop .j) (c .before .before .read-test .result) (c .before .before .before .before .before .before .before .before .loop .inv .1) (c .before .before .read-test .ensures) (c .store-test .ensures))
+    let a = c .before .before .before .before .before .before .before .before .before .before .before .before .before .before .args in
+    let l = c .before .before .before .before .before .before .before .before .before .before .loop in
+    let x = c .before .before .read-test in (
+      omega (arith, c .before .before .before .before .before .before .before .before .before .loop-test .taken),
+      read-more (a .tables .now) (a .s .table) (a .query .now) (a .ops .now) (a .columns .now) (a .s .chosen) (a .trues .now) (a .falses .now) (a .flips .now) (modeBy (c .before .before .before .before .before .before .before .before .before .before .before .is-certain .result)) (l .tests) _ (l .j) (x .result) (l .inv .1)
+          (subst (λ (m : Mode). TestOf (a .tables .now) (a .s .table) (a .query .now) (getD (a .ops .now) (l .j) 0) (getD (a .columns .now) (a .s .chosen + l .j) 0) (getD (a .trues .now) (l .j) 0) (getD (a .falses .now) (l .j) 0) m (x .result)) (c .before .before .before .asked-certain .ensures) (x .ensures)) (c .store-test .ensures),
+    )
 
 returns : tie.Need-returns Inv-loop μ-loop
 returns c =
-    λ j l. c .before .loop .inv .1 .each j (omega (arith, l))
+    let a = c .before .before .before .before .before .args in
+    λ j l. subst (λ (m : Mode). Reads (a .tables .now) (a .s .table) (a .query .now) (a .ops .now) (a .columns .now) (a .s .chosen) (a .trues .now) (a .falses .now) (a .flips .now) m j (testIn (c .before .loop .tests) j)) (c .before .before .is-certain .ensures) (c .before .loop .inv .1 .each j (omega (arith, l)))
 
 pub store-tests-spec : {M : Type 1} → statement M
 store-tests-spec =
@@ -69,6 +89,7 @@ store-tests-spec =
     (tie.spec
     Inv-loop
     μ-loop
+    is-certain-requires
     loop-holds
     mul-read-test
     shared-slice-read-read-test
@@ -79,6 +100,8 @@ store-tests-spec =
     element-copy-out-read-test-2
     mul-read-test-4
     element-copy-out-read-test-3
+    element-copy-out-asked-certain
+    asked-certain-requires
     read-test-requires
     store-test-requires
     add-j

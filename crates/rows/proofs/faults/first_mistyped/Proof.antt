@@ -12,11 +12,10 @@ use Rattle.document.specs.Lookup.{columnsAt}
 use Rattle.document.specs.Policy.{Policy}
 use Rattle.document.specs.TypeFaults.{mistypedValue}
 use Rattle.rows.specs.RowWords.{valuesAt}
-use Rattle.form.specs.Walks.{firstIn}
+use Rattle.form.proofs.WalkLaws.{place-within}
 use Rattle.relations.proofs.TableLaws.{width-read}
 use Rattle.relations.specs.Tables.{Tables}
 use Rattle.text.proofs.Spaces.{space-here}
-use Rattle.text.proofs.WalkingLaws.{past-within}
 use Rattle.rows.proofs.RowChecks.{no-columns-left, no-values-left, types-here, types-on}
 use Rattle.rows.proofs.faults.first_mistyped.Statement.{statement}
 use Rattle.rows.proofs.faults.first_mistyped.Tie as tie
@@ -40,11 +39,11 @@ returns : tie.Need-returns Inv-loop μ-loop
 returns c =
     (λ text k d h l. sym (c .before .before .before .loop .inv text k d h l ∙ no-values-left (drop (c .before .before .before .loop .c) (columnsAt d (c .before .before .before .before .before .before .args .t))) (c .before .before .before .before .before .before .args .line .now) (c .before .before .before .loop .i) (λ z. c .if1 .taken (c .before .byte-at .ensures ∙ z))), tt)
 
-add-first-in : tie.Need-add-first-in Inv-loop μ-loop
-add-first-in c = omega (arith, space-here (c .before .before .before .before .before .before .args .line .now) (c .before .before .before .loop .i) _ (c .before .byte-at .ensures) (c .if1 .left) .1)
+add-value-place : tie.Need-add-value-place Inv-loop μ-loop
+add-value-place c = omega (arith, space-here (c .before .before .before .before .before .before .args .line .now) (c .before .before .before .loop .i) _ (c .before .byte-at .ensures) (c .if1 .left) .1)
 
-first-in-requires : tie.Need-first-in-requires Inv-loop μ-loop
-first-in-requires c κs = search needs
+value-place-requires : tie.Need-value-place-requires Inv-loop μ-loop
+value-place-requires c κs = search needs
 
 column-kind-requires : tie.Need-column-kind-requires Inv-loop μ-loop
 column-kind-requires c κs = search needs
@@ -53,15 +52,14 @@ typed-requires : tie.Need-typed-requires Inv-loop μ-loop
 typed-requires c κs = search needs
 
 returns-2 : tie.Need-returns-2 Inv-loop μ-loop
-unfolding firstIn
 returns-2 c =
     let s = c .before .before .before .before .before .before .before .before .before .before .args .line .now in
     let i = c .before .before .before .before .before .before .before .loop .i in
     let e = space-here s i _ (c .before .before .before .before .before .byte-at .ensures) (c .before .before .before .before .if1 .left) in (
       (λ text k d h l. sym (c .before .before .before .before .before .before .before .loop .inv text k d h l
           ∙ types-here text (c .before .before .before .before .before .before .before .before .before .before .args .tables .now) k (c .before .before .before .before .before .before .before .before .before .before .args .t) d h l (c .before .before .before .before .before .before .before .before .table-width .result) (c .before .before .before .before .before .before .before .before .table-width .ensures) s (c .before .before .before .before .before .before .before .loop .c) i (c .before .before .before .before .before .before .loop-test .taken) (e .0) (kindOf (c .before .before .column-kind .result)) (c .before .before .column-kind .ensures)
-          (c .before .before .before .first-in .result) (c .before .before .before .first-in .ensures) (c .before .typed .result) (c .before .typed .ensures) (not-true (c .before .typed .result) (c .if2 .taken)))),
-      subst (λ (v : ℕ). v ≤ length s) (sym (c .before .before .before .first-in .ensures)) (past-within 40 s (i + 1) (omega (arith, e .1))),
+          (c .before .before .before .value-place .result) (c .before .before .before .value-place .ensures) (c .before .typed .result) (c .before .typed .ensures) (not-true (c .before .typed .result) (c .if2 .taken)))),
+      subst (λ (v : ℕ). v ≤ length s) (sym (c .before .before .before .value-place .ensures)) (place-within s (i + 1) (omega (arith, e .1))),
     )
 
 add-c : tie.Need-add-c Inv-loop μ-loop
@@ -77,14 +75,13 @@ loop-less : tie.Need-loop-less Inv-loop μ-loop
 loop-less c = omega (arith, c .before .before .before .before .before .before .before .loop-test .taken)
 
 loop-again : tie.Need-loop-again Inv-loop μ-loop
-unfolding firstIn
 loop-again c =
     let s = c .before .before .before .before .before .before .before .before .before .before .before .args .line .now in
     let i = c .before .before .before .before .before .before .before .before .loop .i in
     let e = space-here s i _ (c .before .before .before .before .before .before .byte-at .ensures) (c .before .before .before .before .before .if1 .left) in
     λ text k d h l. c .before .before .before .before .before .before .before .before .loop .inv text k d h l
     ∙ types-on text (c .before .before .before .before .before .before .before .before .before .before .before .args .tables .now) k (c .before .before .before .before .before .before .before .before .before .before .before .args .t) d h l (c .before .before .before .before .before .before .before .before .before .table-width .result) (c .before .before .before .before .before .before .before .before .before .table-width .ensures) s (c .before .before .before .before .before .before .before .before .loop .c) i (c .before .before .before .before .before .before .before .loop-test .taken) (e .0) (kindOf (c .before .before .before .column-kind .result)) (c .before .before .before .column-kind .ensures)
-    (c .before .before .before .before .first-in .result) (c .before .before .before .before .first-in .ensures) (c .before .before .typed .result) (c .before .before .typed .ensures) (not-false (c .before .before .typed .result) (c .before .if2 .left))
+    (c .before .before .before .before .value-place .result) (c .before .before .before .before .value-place .ensures) (c .before .before .typed .result) (c .before .before .typed .ensures) (not-false (c .before .before .typed .result) (c .before .if2 .left))
     ∙ ap (λ j. mistypedValue (drop (c .before .before .before .before .before .before .before .before .loop .c + 1) (columnsAt d (c .before .before .before .before .before .before .before .before .before .before .before .args .t))) (valuesAt s j)) (sym (c .item-end-at .ensures))
 
 returns-3 : tie.Need-returns-3 Inv-loop μ-loop
@@ -104,8 +101,8 @@ first-mistyped-spec =
     loop-holds
     byte-at-requires
     returns
-    add-first-in
-    first-in-requires
+    add-value-place
+    value-place-requires
     column-kind-requires
     typed-requires
     returns-2

@@ -12,15 +12,13 @@ use Rattle.document.specs.Lookup.{labelOf}
 use Rattle.document.specs.NameFaults.{bracketLabels}
 use Rattle.document.specs.Policy.{Policy}
 use Rattle.rows.specs.RowWords.{labelAt}
-use Rattle.form.proofs.WalkLaws.{cell-label}
+use Rattle.form.proofs.WalkLaws.{label-within}
 use Rattle.form.proofs.WalkSteps.{item-after, item-inside}
-use Rattle.form.specs.Walks.{firstIn, itemsAt, secondIn}
+use Rattle.form.specs.Walks.{itemsAt}
 use Rattle.relations.specs.Labels.{Labels}
 use Rattle.lists.specs.Lists.{there}
 use Rattle.text.proofs.Spaces.{space-here}
-use Rattle.text.proofs.WalkingLaws.{next-within, past-within}
 use Rattle.text.specs.Offending.{missing}
-use Rattle.text.specs.Walking.{past}
 use Rattle.text.specs.Words.{wordOf}
 use Rattle.rows.proofs.RowChecks.{labels-done, labels-here, labels-on}
 use Rattle.rows.proofs.faults.first_unknown_label.Statement.{statement}
@@ -51,14 +49,14 @@ cell-label-requires : tie.Need-cell-label-requires Inv-loop μ-loop
 cell-label-requires c κs = search needs
 
 returns : tie.Need-returns Inv-loop μ-loop
-unfolding labelAt secondIn firstIn
+unfolding labelAt
 returns c =
     let s = c .before .before .before .before .before .before .before .before .args .line .now in
     let i = c .before .before .before .before .before .loop .i in
     let e = space-here s i _ (c .before .before .before .before .byte-at .ensures) (c .before .before .before .if1 .taken) in (
       (λ sets d h. ap (λ p. some (wordOf s p)) (c .cell-label .ensures) ∙ sym (c .before .before .before .before .before .loop .inv sets d h
           ∙ labels-here (λ w. there (labelOf d w)) s i (e .0) (c .before .before .label-known .result) (c .before .before .label-known .ensures sets d h) (not-true (c .before .before .label-known .result) (c .before .if2 .taken)))),
-      subst (λ (v : ℕ). v ≤ length s) (sym (c .cell-label .ensures ∙ cell-label s (i + 1))) (next-within s (past 40 s (i + 1)) (past-within 40 s (i + 1) (omega (arith, e .1)))),
+      subst (λ (v : ℕ). v ≤ length s) (sym (c .cell-label .ensures)) (label-within s (i + 1) (omega (arith, e .1))),
     )
 
 add-item-end-at : tie.Need-add-item-end-at Inv-loop μ-loop

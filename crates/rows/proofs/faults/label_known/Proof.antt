@@ -1,6 +1,5 @@
 -- `rows::faults::label_known` meets its contract. Assumes nothing.
-use borrow.Author.Tests.{eq-eqb, ne-eqb}
-use lib.ListN.{getD}
+use borrow.Author.Tests.{not-false, not-true}
 use mathlib.Core.Bool.{false, true}
 use mathlib.Core.Path.{_∙_, ap, sym}
 use Rattle.document.specs.Lookup.{labelOf}
@@ -12,14 +11,14 @@ use borrow.Author.Needs.{needs}
 use Rattle.rows.proofs.faults.label_known.Statement.{statement}
 use Rattle.rows.proofs.faults.label_known.Tie as tie
 
-byte-at-requires : tie.Need-byte-at-requires
-byte-at-requires c κs = search needs
+is-labelled-requires : tie.Need-is-labelled-requires
+is-labelled-requires c κs = search needs
 
 returns : tie.Need-returns
 returns c =
     let s = c .before .before .before .before .args .line .now in
     let at = c .before .before .before .before .args .at in
-    λ sets d h. plain-known (λ w. there (labelOf d w)) s at (ne-eqb (getD s at 0) 40 (λ z. c .if1 .taken (c .before .byte-at .ensures ∙ z)))
+    λ sets d h. plain-known (λ w. there (labelOf d w)) s at (sym (c .before .is-labelled .ensures) ∙ not-true (c .before .is-labelled .result) (c .if1 .taken))
 
 cell-label-requires : tie.Need-cell-label-requires
 cell-label-requires c κs = search needs
@@ -40,7 +39,7 @@ returns-2 c =
     let at = c .before .before .before .before .before .before .before .before .args .at in
     let second = c .before .before .before .cell-label .ensures in
     λ sets d h.
-    bracket-known (λ w. there (labelOf d w)) s at (eq-eqb (getD s at 0) 40 (sym (c .before .before .before .before .before .byte-at .ensures) ∙ c .before .before .before .before .if1 .left)) true
+    bracket-known (λ w. there (labelOf d w)) s at (sym (c .before .before .before .before .before .is-labelled .ensures) ∙ not-false (c .before .before .before .before .before .is-labelled .result) (c .before .before .before .before .if1 .left)) true
     (ap (λ p. there (labelOf d (wordOf s p))) (sym second) ∙ ap there (sym (c .before .before .find-label .ensures .0 sets (d .labels) h)) ∙ ap (λ f. there (foundAs f)) (c .enum-told .given .1))
 
 returns-3 : tie.Need-returns-3
@@ -50,14 +49,14 @@ returns-3 c =
     let at = c .before .before .before .before .before .before .before .before .args .at in
     let second = c .before .before .before .cell-label .ensures in
     λ sets d h.
-    bracket-known (λ w. there (labelOf d w)) s at (eq-eqb (getD s at 0) 40 (sym (c .before .before .before .before .before .byte-at .ensures) ∙ c .before .before .before .before .if1 .left)) false
+    bracket-known (λ w. there (labelOf d w)) s at (sym (c .before .before .before .before .before .is-labelled .ensures) ∙ not-false (c .before .before .before .before .before .is-labelled .result) (c .before .before .before .before .if1 .left)) false
     (ap (λ p. there (labelOf d (wordOf s p))) (sym second) ∙ ap there (sym (c .before .before .find-label .ensures .0 sets (d .labels) h)) ∙ ap (λ f. there (foundAs f)) (c .enum-told2 .given .1))
 
 pub label-known-spec : {M : Type 1} → statement M
 label-known-spec =
     tie.close
     (tie.spec
-    byte-at-requires
+    is-labelled-requires
     returns
     cell-label-requires
     find-label-requires

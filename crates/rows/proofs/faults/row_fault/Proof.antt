@@ -1,5 +1,6 @@
 -- `rows::faults::row_fault` meets its contract: each answer is a law of RowJudging. In the answers, f is the place where the table and
--- the labels were looked up, w the one where the values were counted, and m the search for one of the wrong type. Assumes nothing.
+-- the labels were looked up, w the one where the values were counted, m the search for one of the wrong type, and o the
+-- search for a range that is not in order. Assumes nothing.
 use borrow.Author.Tests.{not-false, not-true}
 use mathlib.Core.Path.{_∙_, ap, sym}
 use Rattle.document.specs.Lookup.{tableOf}
@@ -7,7 +8,7 @@ use Rattle.form.specs.Walks.{itemsAt}
 use Rattle.workspace.specs.Found.{foundAs}
 use Rattle.stepping.proofs.NearLaws.{place-near}
 use Rattle.text.specs.Words.{wordOf}
-use Rattle.rows.proofs.RowJudging.{found-fine, found-misfit, found-mistyped, found-unknown, row-no-table, row-over}
+use Rattle.rows.proofs.RowJudging.{found-broken, found-fine, found-misfit, found-mistyped, found-unknown, row-no-table, row-over}
 use borrow.Author.Needs.{needs}
 use Rattle.rows.proofs.faults.row_fault.Statement.{statement}
 use Rattle.rows.proofs.faults.row_fault.Tie as tie
@@ -104,26 +105,22 @@ first-mistyped-requires c κs = search needs
 enum-known-wrong : tie.Need-enum-known-wrong
 enum-known-wrong c = search needs
 
-enum-told-3 : tie.Need-enum-told-3
-enum-told-3 c = search needs
-
 returns-5 : tie.Need-returns-5
 unfolding tableOf
 returns-5 c =
-    let f = c .before .before .before .before .before .before .before .before .before .before in
-    let a = f .before .before .before .before .before .before .before .before .before .args in
+    let a = c .before .before .before .before .before .before .before .before .before .before .before .before .before .before .before .before .before .before .before .args in
     let s = a .line .now in
-    let q = f .before .before .before .before .before .find-table in
-    let w = c .before .before .before .before .before .before in
+    let q = c .before .before .before .before .before .before .before .before .before .before .before .before .before .before .before .find-table in
     let m = c .before .before .before .first-mistyped in
     record {
       is = λ d h.
-          found-mistyped (a .text .now) (a .tables .now) s (a .tables-count) (a .k) (a .t) (itemsAt s (a .is)) d (h .1) (h .2) (f .before .before .before .before .before .before .if1 .left)
-          (q .result) (q .ensures .0 (d .policy .tables) (h .1)) (q .ensures .1) (f .before .before .before .found .given .0 .0) (f .before .before .before .found .given .1)
-          (f .before .table-scheme .result) (f .before .table-scheme .ensures)
-          (f .unknown-label .result) (λ l ls. f .unknown-label .ensures .0 (h .0 .0) (d .policy) l ls (h .0 .1))
-          (c .before .before .before .before .before .before .before .before .enum-told2 .given .1) (w .before .table-width .result) (w .before .table-width .ensures) (w .row-fits .result) (w .row-fits .ensures)
-          (not-false (w .row-fits .result) (c .before .before .before .before .before .if2 .left))
+          found-mistyped
+          (a .text .now) (a .tables .now) s (a .tables-count) (a .k) (a .t) (itemsAt s (a .is)) d (h .1) (h .2) (c .before .before .before .before .before .before .before .before .before .before .before .before .before .before .before .before .if1 .left)
+          (q .result) (q .ensures .0 (d .policy .tables) (h .1)) (q .ensures .1) (c .before .before .before .before .before .before .before .before .before .before .before .before .before .found .given .0 .0) (c .before .before .before .before .before .before .before .before .before .before .before .before .before .found .given .1)
+          (c .before .before .before .before .before .before .before .before .before .before .before .table-scheme .result) (c .before .before .before .before .before .before .before .before .before .before .before .table-scheme .ensures)
+          (c .before .before .before .before .before .before .before .before .before .before .unknown-label .result) (λ l ls. c .before .before .before .before .before .before .before .before .before .before .unknown-label .ensures .0 (h .0 .0) (d .policy) l ls (h .0 .1))
+          (c .before .before .before .before .before .before .before .before .enum-told2 .given .1) (c .before .before .before .before .before .before .before .table-width .result) (c .before .before .before .before .before .before .before .table-width .ensures) (c .before .before .before .before .before .before .row-fits .result) (c .before .before .before .before .before .before .row-fits .ensures)
+          (not-false (c .before .before .before .before .before .before .row-fits .result) (c .before .before .before .before .before .if2 .left))
           (c .before .before .before .before .values-start .result) (c .before .before .before .before .values-start .ensures)
           (m .result) (λ l. m .ensures .0 (a .text .now) (a .tables-count) (d .policy) (h .1) l)
           (c .before .wrong .given .0 .0) (c .before .wrong .given .1);
@@ -131,27 +128,65 @@ returns-5 c =
       reaches = λ p. place-near s (m .result) (m .ensures .1) (c .before .wrong .given .0 .0) (c .before .wrong .given .1);
     }
 
+enum-told-3 : tie.Need-enum-told-3
+enum-told-3 c = search needs
+
+first-broken-requires : tie.Need-first-broken-requires
+first-broken-requires c κs = search needs
+
+enum-known-broken : tie.Need-enum-known-broken
+enum-known-broken c = search needs
+
+enum-told-4 : tie.Need-enum-told-4
+enum-told-4 c = search needs
+
 returns-6 : tie.Need-returns-6
 unfolding tableOf
 returns-6 c =
-    let f = c .before .before .before .before .before .before .before .before .before in
-    let a = f .before .before .before .before .before .before .before .before .before .args in
+    let a = c .before .before .before .before .before .before .before .before .before .before .before .before .before .before .before .before .before .before .before .before .before .before .args in
     let s = a .line .now in
-    let q = f .before .before .before .before .before .find-table in
-    let w = c .before .before .before .before .before in
-    let m = c .before .before .first-mistyped in
+    let q = c .before .before .before .before .before .before .before .before .before .before .before .before .before .before .before .before .before .before .find-table in
+    let m = c .before .before .before .before .before .before .first-mistyped in
+    let o = c .before .before .before .first-broken in
     record {
       is = λ d h.
-          found-fine (a .text .now) (a .tables .now) s (a .tables-count) (a .k) (a .t) (itemsAt s (a .is)) d (h .1) (h .2) (f .before .before .before .before .before .before .if1 .left)
-          (q .result) (q .ensures .0 (d .policy .tables) (h .1)) (q .ensures .1) (f .before .before .before .found .given .0 .0) (f .before .before .before .found .given .1)
-          (f .before .table-scheme .result) (f .before .table-scheme .ensures)
-          (f .unknown-label .result) (λ l ls. f .unknown-label .ensures .0 (h .0 .0) (d .policy) l ls (h .0 .1))
-          (c .before .before .before .before .before .before .before .enum-told2 .given .1) (w .before .table-width .result) (w .before .table-width .ensures) (w .row-fits .result) (w .row-fits .ensures)
-          (not-false (w .row-fits .result) (c .before .before .before .before .if2 .left))
-          (c .before .before .before .values-start .result) (c .before .before .before .values-start .ensures)
+          found-broken
+          (a .text .now) (a .tables .now) s (a .tables-count) (a .k) (a .t) (itemsAt s (a .is)) d (h .1) (h .2) (c .before .before .before .before .before .before .before .before .before .before .before .before .before .before .before .before .before .before .before .if1 .left)
+          (q .result) (q .ensures .0 (d .policy .tables) (h .1)) (q .ensures .1) (c .before .before .before .before .before .before .before .before .before .before .before .before .before .before .before .before .found .given .0 .0) (c .before .before .before .before .before .before .before .before .before .before .before .before .before .before .before .before .found .given .1)
+          (c .before .before .before .before .before .before .before .before .before .before .before .before .before .before .table-scheme .result) (c .before .before .before .before .before .before .before .before .before .before .before .before .before .before .table-scheme .ensures)
+          (c .before .before .before .before .before .before .before .before .before .before .before .before .before .unknown-label .result) (λ l ls. c .before .before .before .before .before .before .before .before .before .before .before .before .before .unknown-label .ensures .0 (h .0 .0) (d .policy) l ls (h .0 .1))
+          (c .before .before .before .before .before .before .before .before .before .before .before .enum-told2 .given .1) (c .before .before .before .before .before .before .before .before .before .before .table-width .result) (c .before .before .before .before .before .before .before .before .before .before .table-width .ensures) (c .before .before .before .before .before .before .before .before .before .row-fits .result) (c .before .before .before .before .before .before .before .before .before .row-fits .ensures)
+          (not-false (c .before .before .before .before .before .before .before .before .before .row-fits .result) (c .before .before .before .before .before .before .before .before .if2 .left))
+          (c .before .before .before .before .before .before .before .values-start .result) (c .before .before .before .before .before .before .before .values-start .ensures)
           (m .result) (λ l. m .ensures .0 (a .text .now) (a .tables-count) (d .policy) (h .1) l)
-          (c .enum-told3 .given .1);
-      roomy = f .before .before .before .before .before .before .if1 .left;
+          (c .before .before .before .before .enum-told3 .given .1) (o .result) (o .ensures .0)
+          (c .before .broken .given .0 .0) (c .before .broken .given .1);
+      roomy = tt;
+      reaches = λ p. place-near s (o .result) (o .ensures .1) (c .before .broken .given .0 .0) (c .before .broken .given .1);
+    }
+
+returns-7 : tie.Need-returns-7
+unfolding tableOf
+returns-7 c =
+    let a = c .before .before .before .before .before .before .before .before .before .before .before .before .before .before .before .before .before .before .before .before .before .args in
+    let s = a .line .now in
+    let q = c .before .before .before .before .before .before .before .before .before .before .before .before .before .before .before .before .before .find-table in
+    let m = c .before .before .before .before .before .first-mistyped in
+    let o = c .before .before .first-broken in
+    record {
+      is = λ d h.
+          found-fine
+          (a .text .now) (a .tables .now) s (a .tables-count) (a .k) (a .t) (itemsAt s (a .is)) d (h .1) (h .2) (c .before .before .before .before .before .before .before .before .before .before .before .before .before .before .before .before .before .before .if1 .left)
+          (q .result) (q .ensures .0 (d .policy .tables) (h .1)) (q .ensures .1) (c .before .before .before .before .before .before .before .before .before .before .before .before .before .before .before .found .given .0 .0) (c .before .before .before .before .before .before .before .before .before .before .before .before .before .before .before .found .given .1)
+          (c .before .before .before .before .before .before .before .before .before .before .before .before .before .table-scheme .result) (c .before .before .before .before .before .before .before .before .before .before .before .before .before .table-scheme .ensures)
+          (c .before .before .before .before .before .before .before .before .before .before .before .before .unknown-label .result) (λ l ls. c .before .before .before .before .before .before .before .before .before .before .before .before .unknown-label .ensures .0 (h .0 .0) (d .policy) l ls (h .0 .1))
+          (c .before .before .before .before .before .before .before .before .before .before .enum-told2 .given .1) (c .before .before .before .before .before .before .before .before .before .table-width .result) (c .before .before .before .before .before .before .before .before .before .table-width .ensures) (c .before .before .before .before .before .before .before .before .row-fits .result) (c .before .before .before .before .before .before .before .before .row-fits .ensures)
+          (not-false (c .before .before .before .before .before .before .before .before .row-fits .result) (c .before .before .before .before .before .before .before .if2 .left))
+          (c .before .before .before .before .before .before .values-start .result) (c .before .before .before .before .before .before .values-start .ensures)
+          (m .result) (λ l. m .ensures .0 (a .text .now) (a .tables-count) (d .policy) (h .1) l)
+          (c .before .before .before .enum-told3 .given .1) (o .result) (o .ensures .0)
+          (c .enum-told4 .given .1);
+      roomy = c .before .before .before .before .before .before .before .before .before .before .before .before .before .before .before .before .before .before .if1 .left;
       reaches = λ p. tt;
     }
 
@@ -175,6 +210,10 @@ row-fault-spec =
     values-start-requires
     first-mistyped-requires
     enum-known-wrong
-    enum-told-3
     returns-5
-    returns-6)
+    enum-told-3
+    first-broken-requires
+    enum-known-broken
+    enum-told-4
+    returns-6
+    returns-7)

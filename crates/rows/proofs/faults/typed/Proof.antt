@@ -1,19 +1,42 @@
--- `rows::faults::typed` meets its contract: a value is a word. Assumes nothing.
+-- `rows::faults::typed` meets its contract: a value is a word, or a bracket opens. Assumes nothing.
 use mathlib.Core.Path.{_∙_, ap, sym}
 use Rattle.condition.specs.Answers.{kindOf}
-use Rattle.condition.specs.Kinds.{hasKind}
-use Rattle.text.proofs.WordLaws.{written-word}
+use Rattle.document.specs.TypeFaults.{cellHasKind}
+use Rattle.rows.proofs.RowTypes.{bracket-name, bracket-number, word-kind}
+use Rattle.text.specs.Words.{writtenAt}
 use borrow.Author.Needs.{needs}
 use Rattle.rows.proofs.faults.typed.Statement.{statement}
 use Rattle.rows.proofs.faults.typed.Tie as tie
+
+byte-at-requires : tie.Need-byte-at-requires
+byte-at-requires c κs = search needs
 
 has-kind-requires : tie.Need-has-kind-requires
 has-kind-requires c κs = search needs
 
 returns : tie.Need-returns
-returns c =
-    let a = c .before .before .args in
-    c .has-kind .ensures ∙ sym (ap (hasKind (kindOf (a .kind))) (written-word (a .line .now) (a .at)))
+returns c = c .has-kind .ensures ∙ word-kind (c .before .before .before .before .args .line .now) (c .before .before .before .before .args .at) (kindOf (c .before .before .before .before .args .kind)) (λ z. c .before .if1 .taken (c .before .before .byte-at .ensures ∙ z))
+
+enum-told : tie.Need-enum-told
+enum-told c = search needs
+
+enum-told-2 : tie.Need-enum-told-2
+enum-told-2 c = search needs
+
+is-range-requires : tie.Need-is-range-requires
+is-range-requires c κs = search needs
+
+returns-2 : tie.Need-returns-2
+returns-2 c =
+    let a = c .before .before .before .before .before .args in
+    sym (ap (λ k. cellHasKind (kindOf k) (writtenAt (a .line .now) (a .at))) (c .enum-told .given .1) ∙ bracket-name (a .line .now) (a .at) (sym (c .before .before .before .byte-at .ensures) ∙ c .before .before .if1 .left))
+
+returns-3 : tie.Need-returns-3
+returns-3 c =
+    let a = c .before .before .before .before .before .before .args in
+    c .is-range .ensures ∙ sym (ap (λ k. cellHasKind (kindOf k) (writtenAt (a .line .now) (a .at))) (c .before .enum-told2 .given .1) ∙ bracket-number (a .line .now) (a .at) (sym (c .before .before .before .before .byte-at .ensures) ∙ c .before .before .before .if1 .left))
 
 pub typed-spec : {M : Type 1} → statement M
-typed-spec = tie.close (tie.spec has-kind-requires returns)
+typed-spec =
+    tie.close
+    (tie.spec byte-at-requires has-kind-requires returns enum-told enum-told-2 is-range-requires returns-2 returns-3)

@@ -1,5 +1,4 @@
 -- `rows::items::leads` meets its contract. Assumes nothing.
-use borrow.Author.Tests.{eq-eqb, ne-eqb}
 use Prim.Native.Nat.{_+_}
 use lib.ListN.{getD}
 use mathlib.Core.Bool.{false}
@@ -35,7 +34,7 @@ returns-2 c =
     let s = c .before .before .before .before .before .args .line .now in
     let at = c .before .before .before .before .before .args .at in
     let e = sym (c .before .before .before .byte-at .ensures) ∙ c .before .before .if1 .left in
-    let o = eq-eqb (getD s (at + 1) 0) 40 (sym (c .before .byte-at2 .ensures) ∙ c .if2 .taken) in
+    let o = sym (c .before .byte-at2 .ensures) ∙ c .if2 .taken in
     (λ z. true-not-false z refl, λ z. (bracket-leading s at e o, bracket-behind s at e o))
 
 add-name-end : tie.Need-add-name-end
@@ -55,7 +54,7 @@ returns-3 c =
     let s = c .before .before .before .before .before .before .before .before .args .line .now in
     let at = c .before .before .before .before .before .before .before .before .args .at in
     let e = sym (c .before .before .before .before .before .before .byte-at .ensures) ∙ c .before .before .before .before .before .if1 .left in
-    let o = ne-eqb (getD s (at + 1) 0) 40 (λ z. c .before .before .before .if2 .left (c .before .before .before .before .byte-at2 .ensures ∙ z)) in
+    let o : getD s (at + 1) 0 ≡ 40 → ⊥ = λ z. c .before .before .before .if2 .left (c .before .before .before .before .byte-at2 .ensures ∙ z) in
     (λ z. (e, o, word-at s (at + 1) isName _ (sym (c .before .before .name-end .ensures) ∙ c .enum-told .given .1) .0), λ z. true-not-false refl z)
 
 returns-4 : tie.Need-returns-4
@@ -63,7 +62,7 @@ returns-4 c =
     let s = c .before .before .before .before .before .before .before .before .args .line .now in
     let at = c .before .before .before .before .before .before .before .before .args .at in
     let e = sym (c .before .before .before .before .before .before .byte-at .ensures) ∙ c .before .before .before .before .before .if1 .left in
-    let o = ne-eqb (getD s (at + 1) 0) 40 (λ z. c .before .before .before .if2 .left (c .before .before .before .before .byte-at2 .ensures ∙ z)) in
+    let o : getD s (at + 1) 0 ≡ 40 → ⊥ = λ z. c .before .before .before .if2 .left (c .before .before .before .before .byte-at2 .ensures ∙ z) in
     let n = word-nothing s (at + 1) isName (sym (c .before .before .name-end .ensures) ∙ c .enum-told2 .given .1) in
     (λ z. true-not-false z refl, λ z. (led-name s at e o false n, led-values s at e o false n))
 

@@ -9,7 +9,7 @@ use lib.Dec.{eqb}
 use native.Mathlib.Omega.{arith}
 use borrow.Author.Tests.{not-false, not-true}
 use Rattle.lists.specs.Lists.{holdsOf}
-use Rattle.form.specs.Walks.{itemsAt}
+use Rattle.form.specs.Walks.{isLabelledAt, itemsAt}
 use Rattle.form.proofs.WalkSteps.{item-after, item-inside}
 use Rattle.text.proofs.Spaces.{space-here}
 use Rattle.rows.specs.RowWords.{shapedValues}
@@ -40,7 +40,7 @@ returns c =
     let s = c .before .before .before .before .before .before .args .line .now in
     let b = c .before .before .before .before .before .before .args .bracketed in
     let h = space-here s (c .before .before .before .before .loop .i) _ (c .before .before .before .byte-at .ensures) (c .before .before .if1 .taken) in
-    let e : eqb (getD s (c .before .before .before .before .loop .i + 1) 0) 40 ≡ not b = c .before .item-fits .ensures ∙ ap (λ (r : Bool). cond r b (not b)) (not-true (c .before .item-fits .result) (c .if2 .taken)) in
+    let e : isLabelledAt s (c .before .before .before .before .loop .i + 1) ≡ not b = c .before .item-fits .ensures ∙ ap (λ (r : Bool). cond r b (not b)) (not-true (c .before .item-fits .result) (c .if2 .taken)) in
     sym (c .before .before .before .before .loop .inv .1 ∙ fits-wrong s (c .before .before .before .before .loop .i) (c .before .before .before .before .loop .n) (c .before .before .before .before .before .before .args .width) b (h .0) e)
 
 add-n : tie.Need-add-n Inv-loop μ-loop
@@ -63,7 +63,7 @@ loop-again c =
     let s = c .before .before .before .before .before .before .before .args .line .now in
     let b = c .before .before .before .before .before .before .before .args .bracketed in
     let h = space-here s (c .before .before .before .before .before .loop .i) _ (c .before .before .before .before .byte-at .ensures) (c .before .before .before .if1 .taken) in
-    let e : eqb (getD s (c .before .before .before .before .before .loop .i + 1) 0) 40 ≡ b = c .before .before .item-fits .ensures ∙ ap (λ (r : Bool). cond r b (not b)) (not-false (c .before .before .item-fits .result) (c .before .if2 .left)) in (
+    let e : isLabelledAt s (c .before .before .before .before .before .loop .i + 1) ≡ b = c .before .before .item-fits .ensures ∙ ap (λ (r : Bool). cond r b (not b)) (not-false (c .before .before .item-fits .result) (c .before .if2 .left)) in (
       omega (arith, h .1, item-after s (c .before .before .before .before .before .loop .i), c .item-end-at .ensures),
       c .before .before .before .before .before .loop .inv .1
           ∙ fits-more s (c .before .before .before .before .before .loop .i) (c .before .before .before .before .before .loop .n) (c .before .before .before .before .before .before .before .args .width) b (h .0) e

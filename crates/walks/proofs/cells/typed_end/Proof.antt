@@ -1,9 +1,9 @@
--- `walks::cells::typed_end` meets its contract: the reader of names, or that of numbers, ends where a value of the type ends. Assumes
--- nothing.
+-- `walks::cells::typed_end` meets its contract: the reader of names, or that of numbers and ranges, ends where a value of the type
+-- ends. Assumes nothing.
 use borrow.Author.Needs.{needs}
 use mathlib.Core.Path.{_∙_, ap, sym}
 use Rattle.condition.specs.Answers.{kindOf}
-use Rattle.walks.proofs.Typed.{numberEnd, typed-name, typed-number}
+use Rattle.walks.proofs.Typed.{typed-name}
 use Rattle.walks.specs.Walked.{typedEnd}
 use Rattle.walks.proofs.cells.typed_end.Statement.{statement}
 use Rattle.walks.proofs.cells.typed_end.Tie as tie
@@ -14,43 +14,23 @@ enum-told c = search needs
 name-end-requires : tie.Need-name-end-requires
 name-end-requires c κs = search needs
 
+enum-told-2 : tie.Need-enum-told-2
+enum-told-2 c = search needs
+
+number-end-requires : tie.Need-number-end-requires
+number-end-requires c κs = search needs
+
 returns : tie.Need-returns
 returns c =
     let a = c .before .before .before .before .args in
     c .name-end .ensures ∙ typed-name (a .line .now) (a .at) ∙ ap (λ k. typedEnd (a .line .now) (a .at) (kindOf k)) (sym (c .before .enum-told .given .1))
 
-enum-told-2 : tie.Need-enum-told-2
-enum-told-2 c = search needs
-
-read-number-requires : tie.Need-read-number-requires
-read-number-requires c κs = search needs
-
-enum-known-n : tie.Need-enum-known-n
-enum-known-n c = search needs
-
-enum-told-3 : tie.Need-enum-told-3
-enum-told-3 c = search needs
-
 returns-2 : tie.Need-returns-2
 returns-2 c =
-    let a = c .before .before .before .before .before .before .before .args in
-    ap numberEnd (sym (c .before .n .given .1) ∙ c .before .before .before .read-number .ensures) ∙ typed-number (a .line .now) (a .at) ∙ ap (λ k. typedEnd (a .line .now) (a .at) (kindOf k)) (sym (c .before .before .before .before .enum-told2 .given .1))
-
-returns-3 : tie.Need-returns-3
-returns-3 c =
-    let a = c .before .before .before .before .before .before .args in
-    ap numberEnd (sym (c .enum-told3 .given .1) ∙ c .before .before .read-number .ensures) ∙ typed-number (a .line .now) (a .at) ∙ ap (λ k. typedEnd (a .line .now) (a .at) (kindOf k)) (sym (c .before .before .before .enum-told2 .given .1))
+    let a = c .before .before .before .before .args in
+    c .number-end .ensures ∙ ap (λ k. typedEnd (a .line .now) (a .at) (kindOf k)) (sym (c .before .enum-told2 .given .1))
 
 pub typed-end-spec : {M : Type 1} → statement M
 typed-end-spec =
     tie.close
-    (tie.spec
-    enum-told
-    name-end-requires
-    enum-told-2
-    read-number-requires
-    enum-known-n
-    enum-told-3
-    returns
-    returns-2
-    returns-3)
+    (tie.spec enum-told name-end-requires enum-told-2 number-end-requires returns returns-2)
