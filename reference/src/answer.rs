@@ -1,6 +1,6 @@
 //! 01, "Queries": the rows and the bytes of an answer.
 
-use crate::condition::Condition;
+use crate::condition::{Certainty, Condition};
 use crate::forms::Value;
 use crate::policy::{Labelling, Policy, Row, Table};
 use crate::purpose::open;
@@ -33,6 +33,8 @@ pub struct Request<'q, 'p> {
     pub withholding: Vec<usize>,
     /// 02, Q-10: whether a closed cell that is selected is written `-`.
     pub blanks: bool,
+    /// 02, Q-12: whether rows pass where the condition is sure, or possible; none where it has to hold.
+    pub certainty: Option<Certainty>,
     pub condition: Option<&'q Condition<'p>>,
 }
 
@@ -58,9 +60,10 @@ fn fate<'p>(policy: &Policy<'p>, request: &Request<'_, 'p>, row: &Row<'p>) -> Fa
     if withheld(policy, request, table.labelling, row) {
         return Fate::Withheld;
     }
-    let holds = match request.condition {
-        None => true,
-        Some(condition) => condition.holds(&|name| value_in(table, row, name)),
+    let holds = match (request.condition, request.certainty) {
+        (None, _) => true,
+        (Some(condition), None) => condition.holds(&|name| value_in(table, row, name)),
+        (Some(condition), Some(certainty)) => condition.is(certainty, &|name| value_in(table, row, name)),
     };
     if holds {
         Fate::Passed
@@ -145,6 +148,7 @@ fn write_row(text: &mut Vec<u8>, row: &Row, selected: &[usize], blank: &dyn Fn(u
         match row.cells[column].value {
             Value::Name(name) => text.extend_from_slice(name.written()),
             Value::Number(number) => text.extend_from_slice(number.to_string().as_bytes()),
+            Value::Range(low, high) => text.extend_from_slice(format!("({low} {high})").as_bytes()),
         }
     }
     text.extend_from_slice(b")\n");

@@ -1,9 +1,10 @@
-//! 01, "Asking": the numbers 1 to 18 in their order, then the answer.
+//! 01, "Asking": the numbers 1 to 18 in their order, 27 of 02, Q-12 among them, then the answer.
 
 use crate::answer::{label_open, write, Answer, Request, Written};
 use crate::check::read_document;
 use crate::clock::Clock;
-use crate::forms::Word;
+use crate::condition::Certainty;
+use crate::forms::{Value, Word};
 use crate::policy::{Labelling, Policy, User};
 use crate::query::{read_query, Query, Verb};
 use crate::refusal::{leftmost, of_query, Refusal};
@@ -75,6 +76,13 @@ fn answered(doc: &[u8], query: &[u8], clock: Clock) -> Result<(Written, usize), 
         }
     }
 
+    // 02, Q-12: "27 a range in any row of a named column in a select, blank, count or join, after 16, at the column".
+    if !parsed.verb.takes_ranges() {
+        if let Some(part) = leftmost(&ranged_columns(&policy, table, &named)) {
+            return Err(of_query(27, part));
+        }
+    }
+
     // "17 table or column closed".
     if let Some(part) = leftmost(&closed_parts(&policy, &parsed, table, &named, purpose)) {
         return Err(of_query(17, part));
@@ -87,6 +95,11 @@ fn answered(doc: &[u8], query: &[u8], clock: Clock) -> Result<(Written, usize), 
         selected: parsed.columns.as_ref().map(|columns| places(columns)),
         withholding: places(&parsed.withholding_columns()),
         blanks: parsed.verb == Verb::Blank,
+        certainty: match parsed.verb {
+            Verb::Sure => Some(Certainty::Sure),
+            Verb::Possible => Some(Certainty::Possible),
+            Verb::Select | Verb::Count | Verb::Blank => None,
+        },
         condition: parsed.condition.as_ref(),
     };
     Ok((write(&policy, &request), grant))
@@ -117,6 +130,14 @@ fn column_place(policy: &Policy, table: usize, name: Name) -> Option<usize> {
 /// 01: "A query's condition is over T's columns only, clock names not included."
 fn unknown_columns(policy: &Policy, table: usize, named: &[Word]) -> Vec<Span> {
     named.iter().filter(|word| column_place(policy, table, word.text).is_none()).map(|word| word.span).collect()
+}
+
+/// 02, Q-12: the named columns in which some row of the table, withheld or not, has a range.
+fn ranged_columns(policy: &Policy, table: usize, named: &[Word]) -> Vec<Span> {
+    let has_range = |place: usize| {
+        policy.rows.iter().any(|row| row.table == table && matches!(row.cells[place].value, Value::Range(..)))
+    };
+    named.iter().filter(|word| column_place(policy, table, word.text).is_some_and(has_range)).map(|word| word.span).collect()
 }
 
 /// 01: "table label closed, or a named column's label closed, refuses the query"; 02, Q-2: "`none` is closed to every purpose,

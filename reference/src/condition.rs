@@ -121,7 +121,57 @@ impl<'a> Condition<'a> {
     }
 }
 
-/// The meaning of the six operators; mixed types never come here (8 and 16).
+/// How a condition is asked of values that may be ranges (02, Q-12).
+#[derive(Clone, Copy, Debug, PartialEq, Eq)]
+pub enum Certainty {
+    Sure,
+    Possible,
+}
+
+impl Certainty {
+    fn other(self) -> Certainty {
+        match self {
+            Certainty::Sure => Certainty::Possible,
+            Certainty::Possible => Certainty::Sure,
+        }
+    }
+}
+
+impl<'a> Condition<'a> {
+    /// 02, Q-12: "`(not c)` is sure if c isn't possible, possible if c isn't sure; `and` and `or` work on each separately."
+    pub fn is(&self, certainty: Certainty, value_of: &dyn Fn(Name) -> Option<Value<'a>>) -> bool {
+        match self {
+            Condition::Compare(comparison) => match value_of(comparison.subject.text) {
+                Some(left) => compare_range(certainty, comparison.operator, left, comparison.value.value),
+                None => false,
+            },
+            Condition::Not(inner) => !inner.is(certainty.other(), value_of),
+            Condition::And(list) => list.iter().all(|c| c.is(certainty, value_of)),
+            Condition::Or(list) => list.iter().any(|c| c.is(certainty, value_of)),
+        }
+    }
+}
+
+/// 02, Q-12: "A comparison is sure if it holds for every number in the range, possible if for some."
+fn compare_range(certainty: Certainty, operator: Operator, left: Value, right: Value) -> bool {
+    let (Value::Range(low, high), Value::Number(r)) = (left, right) else { return compare(operator, left, right) };
+    match (certainty, operator) {
+        (Certainty::Sure, Operator::Eq) => low == r && high == r,
+        (Certainty::Sure, Operator::Ne) => high < r || low > r,
+        (Certainty::Sure, Operator::Lt) => high < r,
+        (Certainty::Sure, Operator::Le) => high <= r,
+        (Certainty::Sure, Operator::Gt) => low > r,
+        (Certainty::Sure, Operator::Ge) => low >= r,
+        (Certainty::Possible, Operator::Eq) => low <= r && high >= r,
+        (Certainty::Possible, Operator::Ne) => low != r || high != r,
+        (Certainty::Possible, Operator::Lt) => low < r,
+        (Certainty::Possible, Operator::Le) => low <= r,
+        (Certainty::Possible, Operator::Gt) => high > r,
+        (Certainty::Possible, Operator::Ge) => high >= r,
+    }
+}
+
+/// The meaning of the six operators; mixed types never come here (8 and 16), nor do ranges (27).
 fn compare(operator: Operator, left: Value, right: Value) -> bool {
     match (left, right) {
         (Value::Number(l), Value::Number(r)) => match operator {
@@ -139,5 +189,28 @@ fn compare(operator: Operator, left: Value, right: Value) -> bool {
             _ => false,
         },
         _ => false,
+    }
+}
+
+#[cfg(test)]
+mod tests {
+    use super::*;
+
+    /// Every range and every number within -4 to 4, by trying each number of the range.
+    #[test]
+    fn comparisons_of_ranges_by_their_numbers() {
+        let all = [Operator::Eq, Operator::Ne, Operator::Lt, Operator::Le, Operator::Gt, Operator::Ge];
+        for low in -4..=4i64 {
+            for high in low..=4 {
+                for r in -5..=5 {
+                    for operator in all {
+                        let holds = |n: i64| compare(operator, Value::Number(n), Value::Number(r));
+                        let is = |certainty| compare_range(certainty, operator, Value::Range(low, high), Value::Number(r));
+                        assert_eq!(is(Certainty::Sure), (low..=high).all(holds), "{operator:?} ({low} {high}) {r}");
+                        assert_eq!(is(Certainty::Possible), (low..=high).any(holds), "{operator:?} ({low} {high}) {r}");
+                    }
+                }
+            }
+        }
     }
 }

@@ -10,11 +10,12 @@ pub struct Word<'a> {
     pub span: Span,
 }
 
-/// 01: "`v` for a name or a number".
+/// 01: "`v` for a name or a number"; 02, Q-12: "A `num` cell's value may be `(LOW HIGH)`".
 #[derive(Clone, Copy, Debug, PartialEq, Eq)]
 pub enum Value<'a> {
     Name(Name<'a>),
     Number(i64),
+    Range(i64, i64),
 }
 
 /// A value where it stands.
@@ -36,7 +37,7 @@ impl Value<'_> {
     pub fn kind(&self) -> Type {
         match self {
             Value::Name(_) => Type::Name,
-            Value::Number(_) => Type::Num,
+            Value::Number(_) | Value::Range(..) => Type::Num,
         }
     }
 }
@@ -59,7 +60,7 @@ pub struct ColumnForm<'a> {
     pub label: Option<Word<'a>>,
 }
 
-/// 01: "a row's items after T are names, numbers and brackets `(v L)`, in any mix and count".
+/// 01: "a row's items after T are names, numbers and brackets `(v L)`, in any mix and count"; v may be a range (02, Q-12).
 #[derive(Clone, Debug)]
 pub enum RowItem<'a> {
     Plain(Given<'a>),
@@ -247,11 +248,23 @@ fn public<'a>(items: &[Item<'a>]) -> Option<Form<'a>> {
     Some(Form::Public { table: word(table)? })
 }
 
-/// A value, or `(v L)`.
+/// A value, or `(v L)`. Two numbers in a bracket are a value, and a number and a name are not, so no item is both.
 fn row_item<'a>(item: &Item<'a>) -> Option<RowItem<'a>> {
+    if let Some(value) = cell_value(item) {
+        return Some(RowItem::Plain(value));
+    }
+    let [value, label] = bracket(item)? else { return None };
+    Some(RowItem::Labelled(cell_value(value)?, word(label)?))
+}
+
+/// What a cell may hold: a name, a number, or a range (02, Q-12), which users and comparisons don't take.
+fn cell_value<'a>(item: &Item<'a>) -> Option<Given<'a>> {
     match bracket(item) {
-        None => Some(RowItem::Plain(given(item)?)),
-        Some([value, label]) => Some(RowItem::Labelled(given(value)?, word(label)?)),
+        None => given(item),
+        Some([low, high]) => match (&low.kind, &high.kind) {
+            (Kind::Number(low), Kind::Number(high)) => Some(Given { value: Value::Range(*low, *high), span: item.span }),
+            _ => None,
+        },
         Some(_) => None,
     }
 }

@@ -255,7 +255,7 @@ pub fn row_label<'a>(first: &RowItem<'a>) -> Option<Name<'a>> {
     match first {
         RowItem::Plain(given) => match given.value {
             Value::Name(name) => Some(name),
-            Value::Number(_) => None,
+            Value::Number(_) | Value::Range(..) => None,
         },
         RowItem::Labelled(..) => None,
     }

@@ -1,4 +1,4 @@
-//! 01, "Queries": a query text as one of the two shapes, or as the blank of 02, Q-10.
+//! 01, "Queries": a query text as one of the two shapes, or as a later one of 02: a blank, sure or possible.
 
 use crate::condition::{read_condition, Condition};
 use crate::forms::{bracket, word, Word};
@@ -15,6 +15,19 @@ pub enum Verb {
     Count,
     /// 02, Q-10.
     Blank,
+    /// 02, Q-12: "`(sure ..)` and `(possible ..)`, shaped like select".
+    Sure,
+    Possible,
+}
+
+impl Verb {
+    /// 02, Q-12, 27: "a range in any row of a named column in a select, blank, count or join".
+    pub fn takes_ranges(self) -> bool {
+        match self {
+            Verb::Sure | Verb::Possible => true,
+            Verb::Select | Verb::Count | Verb::Blank => false,
+        }
+    }
 }
 
 /// A query; `columns` is there unless it is a count.
@@ -29,7 +42,7 @@ pub struct Query<'a> {
     pub condition: Option<Condition<'a>>,
 }
 
-/// 01, 11: "query not one form of the two shapes, or over a bound" gives none; a shape of 02, Q-10 is one more.
+/// 01, 11: "query not one form of the two shapes, or over a bound" gives none; the shapes of 02, Q-10 and Q-12 are three more.
 pub fn read_query(text: &[u8]) -> Option<Query<'_>> {
     if text.len() > LONGEST_QUERY {
         return None;
@@ -41,10 +54,12 @@ pub fn read_query(text: &[u8]) -> Option<Query<'_>> {
         b"select" => Verb::Select,
         b"count" => Verb::Count,
         b"blank" => Verb::Blank,
+        b"sure" => Verb::Sure,
+        b"possible" => Verb::Possible,
         _ => return None,
     };
     let (columns, rest) = match verb {
-        Verb::Select | Verb::Blank => {
+        Verb::Select | Verb::Blank | Verb::Sure | Verb::Possible => {
             let (columns, rest) = rest.split_first()?;
             (Some(selected(columns)?), rest)
         }
@@ -89,7 +104,7 @@ impl<'a> Query<'a> {
     /// The columns whose closed cells withhold a row: 01, "a closed named cell"; 02, Q-10, "a closed cell named in the condition".
     pub fn withholding_columns(&self) -> Vec<Word<'a>> {
         match self.verb {
-            Verb::Select | Verb::Count => self.named_columns(),
+            Verb::Select | Verb::Count | Verb::Sure | Verb::Possible => self.named_columns(),
             Verb::Blank => self.condition_columns(),
         }
     }

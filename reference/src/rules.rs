@@ -1,6 +1,6 @@
-//! 01, "Checking a document": the numbers 3 to 9, one function each, for a line whose form is right.
+//! 01, "Checking a document": the numbers 3 to 9, and 28 of 02, Q-12, one function each, for a line whose form is right.
 
-use crate::forms::{Form, Given, RowItem, Scheme, Type, Word};
+use crate::forms::{Form, Given, RowItem, Scheme, Type, Value, Word};
 use crate::policy::{row_label, Labelling, Policy, CLOCK_NAMES};
 use crate::text::Span;
 
@@ -257,6 +257,15 @@ pub fn wrong_types(policy: &Policy, form: &Form) -> Vec<Span> {
         }
         _ => Vec::new(),
     }
+}
+
+/// 02, Q-12, 28: "LOW above HIGH .. at the range's own bracket".
+pub fn ranges_reversed(policy: &Policy, form: &Form) -> Vec<Span> {
+    let Form::Row { table, items } = form else { return Vec::new() };
+    let Some(place) = policy.table(table.text) else { return Vec::new() };
+    let values = row_values(policy.tables[place].labelling, items).unwrap_or_default();
+    let reversed = |given: &&Given| matches!(given.value, Value::Range(low, high) if low > high);
+    values.iter().filter(reversed).map(|given| given.span).collect()
 }
 
 /// The value's place if it isn't of the type wanted.

@@ -21,12 +21,12 @@ impl Dice {
 }
 
 /// Pieces that texts are made of, so that many random texts come close to forms.
-const PIECES: [&str; 51] = [
+const PIECES: [&str; 56] = [
     "(", ")", " ", "\n", "(purpose a)\n", "(purpose b a)\n", "(role r)\n", "(role s r)\n", "(attr r k num)\n", "(attr s w name)\n",
     "(user u r (k 5))\n", "(user u s (k 5) (w x))\n", "(cond-role c r (gt k 1))\n", "(grant a c)\n", "(grant b c)\n",
     "(label l (allow a) (deny))\n", "(label m (allow a) (deny b))\n", "(table t cell (p num) (q name))\n", "(table v row (p num))\n", "(table n none (p num))\n", "(public n)\n", "(public t)\n", "(count u r a n)",
     "(table y column (p num l) (q num m))\n", "(row t (1 l) (x m))\n", "(row v m 4)\n", "(row y 1 2)\n", "(select u r a t (p q))",
-    "(select u r b t (p) (eq q x))", "(count u s b v (gt p 3))", "(count u r a y)", "(blank u r b t (q p))", "(blank u r b t (q) (gt p 0))", "blank", "purpose", "role", "row", "table", "(eq p 1)",
+    "(select u r b t (p) (eq q x))", "(count u s b v (gt p 3))", "(count u r a y)", "(blank u r b t (q p))", "(blank u r b t (q) (gt p 0))", "blank", "(row t ((1 5) l) (x m))\n", "(row v m (-2 4))\n", "(sure u r a t (p q) (gt p 0))", "(possible u r b v (p) (eq p 3))", "(9 1)", "purpose", "role", "row", "table", "(eq p 1)",
     "(not ", "(and ", "a", "b", "t", "-1", "0", "01", "9223372036854775808", "\u{0}", "\u{e9}", "year",
 ];
 
@@ -71,8 +71,9 @@ fn try_one(doc: &[u8], query: &[u8], clock: Clock, room: usize) -> u32 {
                 Source::File => panic!("a file where none was given"),
             };
             assert!(refusal.start + refusal.len <= text.len());
-            assert_eq!(refusal.source == Source::Document, refusal.number <= 9);
-            assert_eq!(refusal.number <= 9, checked == Err(refusal));
+            let of_document = refusal.number <= 9 || refusal.number == 28;
+            assert_eq!(refusal.source == Source::Document, of_document);
+            assert_eq!(of_document, checked == Err(refusal));
             refusal.number
         }
     }
@@ -81,7 +82,7 @@ fn try_one(doc: &[u8], query: &[u8], clock: Clock, room: usize) -> u32 {
 #[test]
 fn arbitrary_texts() {
     let mut dice = Dice(0x5eed);
-    let mut seen = [0usize; 19];
+    let mut seen = [0usize; 29];
     for round in 0..30_000 {
         let mut doc = if round % 2 == 0 { assemble(&mut dice, 24) } else { SAMPLE.as_bytes().to_vec() };
         let mut query = if round % 3 == 0 { assemble(&mut dice, 6) } else { QUERY.as_bytes().to_vec() };

@@ -21,6 +21,10 @@ const TABLES: &str = "\
 (table e cell (a num) (b name))
 (row e (8 nomid) (y open))
 (row e (9 open) (z shut))
+(table g cell (a num) (b num))
+(row g (8 nomid) ((1 5) nomid))
+(row g (9 open) ((2 2) open))
+(row g (9 shut) ((2 2) open))
 ";
 
 /// What is handed back and every byte of a buffer of 200.
@@ -61,6 +65,10 @@ fn exempt_cells_make_no_difference() {
         ("(row e (9 open) (z shut))", "(row e (-9 open) (z shut))", &["(blank u r leaf e (a) (eq b z))", "(blank u r leaf e (b))"][..]),
         ("(row r nomid 6)", "(row r nomid -7)", &["(blank u r leaf r (a))", "(blank u r leaf r (a) (lt a 0))"][..]),
         ("(row c 3 4)", "(row c 3 44)", &["(blank u r leaf c (a b))", "(blank u r leaf c (a))"][..]),
+        // 02, Q-12: a range in either end, closed, not named, in a row withheld; 27 alike.
+        ("(row g (8 nomid) ((1 5) nomid))", "(row g (8 nomid) ((-7 5) nomid))", &["(sure u r leaf g (a b))", "(possible u r leaf g (b) (gt b 3))", "(sure u r leaf g (a))", "(select u r leaf g (b))", "(count u r leaf g (eq b 1))", "(blank u r leaf g (a b))", "(possible u r side g (a))", "(count u r side g)"][..]),
+        ("(row g (9 open) ((2 2) open))", "(row g (9 open) ((-9223372036854775808 9223372036854775807) open))", &["(sure u r leaf g (a))", "(possible u r leaf g (a) (eq a 9))", "(select u r side g (b))", "(count u r nosuch g (eq b 2))"][..]),
+        ("(row g (9 shut) ((2 2) open))", "(row g (9 shut) ((1 3) open))", &["(sure u r side g (b) (eq a 9))", "(possible u r leaf g (a b))"][..]),
         // Texts that are no query, and purposes unknown.
         ("(row n 1 x)", "(row n 10 y)", &["(select", "", "(count u r nosuch n)"][..]),
     ] {
@@ -89,6 +97,14 @@ fn open_cells_do_make_a_difference() {
     for query in ["(blank u r leaf e (a b))", "(blank u r leaf e (b) (eq a 9))"] {
         assert_ne!(outcome(&doc, query), outcome(&changed, query), "{query}");
     }
+    // 02, Q-12: an open range's ends, and a range become a number, which 27 tells.
+    let changed = doc.replace("(row g (9 open) ((2 2) open))", "(row g (9 open) ((2 3) open))");
+    for query in ["(sure u r side g (b))", "(sure u r side g (a) (le b 2))", "(possible u r side g (a) (gt b 2))"] {
+        assert_ne!(outcome(&doc, query), outcome(&changed, query), "{query}");
+    }
+    let only = doc.replace("((2 2) open)", "(2 open)");
+    let none = only.replace("((1 5) nomid)", "(1 nomid)");
+    assert_ne!(outcome(&only, "(select u r leaf g (b))"), outcome(&none, "(select u r leaf g (b))"));
     // 02, Q-8: another case of an open value "may be printed".
     let changed = doc.replace("(row e (8 nomid) (y open))", "(row e (8 nomid) (Y open))");
     assert_ne!(outcome(&doc, "(select u r side e (B))"), outcome(&changed, "(select u r side e (B))"));
