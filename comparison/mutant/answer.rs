@@ -1,8 +1,8 @@
-//! A copy of the reference's `answer`, with blunders 1, 3, 6, 7, 8, 30, 31, 36, 41 to 43 and 45 to 48.
+//! A copy of the reference's `answer`, with blunders 1, 3, 6, 7, 8, 30, 31, 36, 41 to 43, 45 to 48, 52 to 54, 59 and 60.
 
 use std::cell::RefCell;
 
-use crate::condition::{Condition, Operator};
+use crate::condition::{Certainty, Condition, Operator};
 use crate::forms::Value;
 use crate::policy::{Labelling, Policy, Row, Table};
 use crate::on;
@@ -36,6 +36,8 @@ pub struct Request<'q, 'p> {
     pub withholding: Vec<usize>,
     /// 02, Q-10: whether a closed cell that is selected is written `-`.
     pub blanks: bool,
+    /// 02, Q-12: whether rows pass where the condition is sure, or possible; none where it has to hold.
+    pub certainty: Option<Certainty>,
     pub condition: Option<&'q Condition<'p>>,
 }
 
@@ -72,10 +74,11 @@ fn fate<'p>(policy: &Policy<'p>, request: &Request<'_, 'p>, row: &Row<'p>) -> Fa
     if closed && !on(3) {
         return Fate::Withheld;
     }
-    let holds = match request.condition {
-        None => true,
-        Some(condition) if on(31) => holds_by_bytes(condition, &|name| value_in(table, row, name)),
-        Some(condition) => condition.holds(&|name| value_in(table, row, name)),
+    let holds = match (request.condition, request.certainty) {
+        (None, _) => true,
+        (Some(condition), None) if on(31) => holds_by_bytes(condition, &|name| value_in(table, row, name)),
+        (Some(condition), None) => condition.holds(&|name| value_in(table, row, name)),
+        (Some(condition), Some(certainty)) => certain(condition, certainty, &|name| value_in(table, row, name)),
     };
     if closed && holds {
         return Fate::Withheld;
@@ -102,6 +105,22 @@ fn withheld(policy: &Policy, request: &Request, labelling: Labelling, row: &Row)
 /// Whether a row's or a cell's own label is closed to the request's purpose; where there is none it isn't.
 fn closed(policy: &Policy, request: &Request, label: Option<usize>) -> bool {
     label.is_some_and(|label| !label_open(policy, label, request.purpose))
+}
+
+/// Blunders 52 to 54, of conditions over ranges.
+fn certain<'p>(condition: &Condition<'p>, certainty: Certainty, value_of: &dyn Fn(Name) -> Option<Value<'p>>) -> bool {
+    let lower = |name: Name| match value_of(name) {
+        Some(Value::Range(low, _)) => Some(Value::Number(low)),
+        other => other,
+    };
+    match condition {
+        _ if on(52) => condition.is(certainty, &lower),
+        _ if on(54) => condition.is(Certainty::Possible, value_of),
+        Condition::Not(inner) if on(53) => !certain(inner, certainty, value_of),
+        Condition::And(list) if on(53) => list.iter().all(|inner| certain(inner, certainty, value_of)),
+        Condition::Or(list) if on(53) => list.iter().any(|inner| certain(inner, certainty, value_of)),
+        _ => condition.is(certainty, value_of),
+    }
 }
 
 /// Blunder 31: `eq` and `ne` tell cases apart.
@@ -173,6 +192,10 @@ fn whole(policy: &Policy, table: usize) -> Vec<u8> {
     let mut text = Vec::new();
     for row in &rows {
         write_row(&mut text, row, &columns, &|_| false);
+        if on(60) {
+            let ranges = row.cells.iter().filter(|cell| matches!(cell.value, Value::Range(..))).count();
+            text.truncate(text.len() - 3 * ranges);
+        }
         if let (true, Some(label)) = (on(43), row.label) {
             text.push(b' ');
             text.extend_from_slice(policy.label_names[label].written());
@@ -204,6 +227,8 @@ fn write_row(text: &mut Vec<u8>, row: &Row, selected: &[usize], blank: &dyn Fn(u
             Value::Name(name) if on(30) => text.extend_from_slice(&name.small()),
             Value::Name(name) => text.extend_from_slice(name.written()),
             Value::Number(number) => text.extend_from_slice(number.to_string().as_bytes()),
+            Value::Range(low, high) if on(59) && low == high => text.extend_from_slice(low.to_string().as_bytes()),
+            Value::Range(low, high) => text.extend_from_slice(format!("({low} {high})").as_bytes()),
         }
     }
     text.extend_from_slice(b")\n");
@@ -214,5 +239,6 @@ fn written_length(row: &Row, column: usize) -> usize {
     match row.cells[column].value {
         Value::Name(name) => name.written().len(),
         Value::Number(number) => number.to_string().len(),
+        Value::Range(low, high) => format!("({low} {high})").len(),
     }
 }

@@ -1,11 +1,12 @@
-//! A copy of the reference's `ask`, with blunders 2, 4, 5, 8, 9, 10, 16, 29, 33 to 36, 40, 44 and 49 to 51.
+//! A copy of the reference's `ask`, with blunders 2, 4, 5, 8, 9, 10, 16, 29, 33 to 36, 40, 44, 49 to 51 and 55 to 57.
 
 use crate::answer::{label_open, write, Answer, Request};
 use crate::check::read_document;
 use crate::clock::Clock;
-use crate::forms::Word;
+use crate::condition::Certainty;
+use crate::forms::{Value, Word};
 use crate::on;
-use crate::policy::{Grant, Labelling, Policy, User};
+use crate::policy::{Grant, Labelling, Policy, Row, User};
 use crate::query::{read_query, Query, Verb};
 use crate::refusal::{leftmost, of_query, Refusal};
 use crate::text::{Name, Span};
@@ -25,7 +26,7 @@ pub fn ask(doc: &[u8], query: &[u8], clock: Clock, out: &mut [u8]) -> Result<Ans
 
     // "11 query not one form of the two shapes, or over a bound"; 02, Q-3: "in later query forms 11 admits the form".
     let Some(parsed) = read_query(query) else { return Err(of_query(11, whole_query)) };
-    let known: [&[u8]; 3] = [b"(select ", b"(count ", b"(blank "];
+    let known: [&[u8]; 5] = [b"(select ", b"(count ", b"(blank ", b"(sure ", b"(possible "];
     if on(33) && !known.iter().any(|word| query.starts_with(word)) {
         return Err(of_query(11, whole_query));
     }
@@ -70,6 +71,14 @@ pub fn ask(doc: &[u8], query: &[u8], clock: Clock, out: &mut [u8]) -> Result<Ans
         }
     }
 
+    // 02, Q-12: "27 a range in any row of a named column in a select, blank, count or join, after 16, at the column".
+    let looked_at = if on(57) { parsed.columns.clone().unwrap_or_default() } else { named.clone() };
+    let in_27 = |row: &Row| !on(55) || row.label.is_none_or(|label| label_open(&policy, label, purpose));
+    let ranged = if parsed.verb.takes_ranges() { None } else { leftmost(&ranged_columns(&policy, table, &looked_at, &in_27)) };
+    if let (Some(part), false) = (ranged, on(56)) {
+        return Err(of_query(27, part));
+    }
+
     let blanks = parsed.verb == Verb::Blank;
     let selected = || parsed.columns.clone().unwrap_or_default();
     let withholding = match parsed.verb {
@@ -90,6 +99,10 @@ pub fn ask(doc: &[u8], query: &[u8], clock: Clock, out: &mut [u8]) -> Result<Ans
         return Err(of_query(17, part));
     }
 
+    if let Some(part) = ranged {
+        return Err(of_query(27, part));
+    }
+
     // "18 answer longer than the lent buffer".
     let places = |words: &[Word]| words.iter().filter_map(|word| column_place(&policy, table, word.text)).collect();
     let request = Request {
@@ -98,6 +111,11 @@ pub fn ask(doc: &[u8], query: &[u8], clock: Clock, out: &mut [u8]) -> Result<Ans
         selected: parsed.columns.as_ref().map(|columns| places(columns)),
         withholding: places(&withholding),
         blanks,
+        certainty: match parsed.verb {
+            Verb::Sure => Some(Certainty::Sure),
+            Verb::Possible => Some(Certainty::Possible),
+            Verb::Select | Verb::Count | Verb::Blank => None,
+        },
         condition: parsed.condition.as_ref(),
     };
     let written = write(&policy, &request);
@@ -158,6 +176,14 @@ fn column_place(policy: &Policy, table: usize, name: Name) -> Option<usize> {
 /// 01: "A query's condition is over T's columns only, clock names not included."
 fn unknown_columns(policy: &Policy, table: usize, named: &[Word]) -> Vec<Span> {
     named.iter().filter(|word| column_place(policy, table, word.text).is_none()).map(|word| word.span).collect()
+}
+
+/// 02, Q-12: the named columns in which some row of the table has a range; `counts` says which rows are looked at.
+fn ranged_columns(policy: &Policy, table: usize, named: &[Word], counts: &dyn Fn(&Row) -> bool) -> Vec<Span> {
+    let has_range = |place: usize| {
+        policy.rows.iter().any(|row| row.table == table && counts(row) && matches!(row.cells[place].value, Value::Range(..)))
+    };
+    named.iter().filter(|word| column_place(policy, table, word.text).is_some_and(has_range)).map(|word| word.span).collect()
 }
 
 /// 01: "table label closed, or a named column's label closed, refuses the query"; 02, Q-2: "`none` is closed to every purpose,

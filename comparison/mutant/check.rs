@@ -1,7 +1,7 @@
-//! A copy of the reference's `check`, with blunders 11 to 15, 32 and 37 to 39.
+//! A copy of the reference's `check`, with blunders 11 to 15, 32, 37 to 39, 58 and 61.
 
 use crate::answer::reserve;
-use crate::forms::{read_line, Form};
+use crate::forms::{read_line, Form, RowItem, Value};
 use crate::on;
 use crate::policy::{Labelling, Policy};
 use crate::refusal::{leftmost, of_document, Refusal};
@@ -23,7 +23,7 @@ pub fn check(doc: &[u8]) -> Result<Accepted, Refusal> {
     read_document(doc).map(|(policy, lines)| Accepted { lines, reserve: reserve(&policy) })
 }
 
-/// The policy of an accepted document and its number of lines, or the refusal 1 to 9.
+/// The policy of an accepted document and its number of lines, or the refusal: 1 to 9, or 28.
 pub fn read_document(doc: &[u8]) -> Result<(Policy<'_>, usize), Refusal> {
     // 01: "A text over 60,000 bytes is 1", its part "empty at the start".
     if doc.len() > LONGEST_DOCUMENT {
@@ -61,7 +61,7 @@ pub fn read_document(doc: &[u8]) -> Result<(Policy<'_>, usize), Refusal> {
     Ok((policy, lines))
 }
 
-/// 01: "the lowest number"; "the whole line .. for 2, 3, 6, 7, 9; the leftmost offending item for 4, 5, 8".
+/// 01: "the lowest number"; "the whole line .. for 2, 3, 6, 7, 9; the leftmost offending item for 4, 5, 8". 02, Q-12: 28 "after 8".
 fn fault(policy: &Policy, form: &Form, whole: Span) -> Option<(u32, Span)> {
     if on(14) {
         if let Some(part) = leftmost(&rules::names_taken(policy, form)) {
@@ -96,6 +96,10 @@ fn fault(policy: &Policy, form: &Form, whole: Span) -> Option<(u32, Span)> {
     if rules::wrong_values(policy, form) {
         return Some((7, whole));
     }
+    let reversed = leftmost(&rules::ranges_reversed(policy, form)).filter(|part| !on(61) || first_range(form) == Some(*part));
+    if let (Some(part), true) = (reversed, on(58)) {
+        return Some((28, part));
+    }
     if on(12) {
         if let Some(part) = rules::wrong_types(policy, form).into_iter().max_by_key(|part| part.start) {
             return Some((8, part));
@@ -104,10 +108,21 @@ fn fault(policy: &Policy, form: &Form, whole: Span) -> Option<(u32, Span)> {
     if let Some(part) = leftmost(&rules::wrong_types(policy, form)) {
         return Some((8, part));
     }
+    if let Some(part) = reversed {
+        return Some((28, part));
+    }
     if rules::late_attribute(policy, form) {
         return Some((9, whole));
     }
     None
+}
+
+/// Blunder 61: where the first range of a row stands.
+fn first_range(form: &Form) -> Option<Span> {
+    let Form::Row { items, .. } = form else { return None };
+    items.iter().find_map(|item| match item {
+        RowItem::Plain(given) | RowItem::Labelled(given, _) => matches!(given.value, Value::Range(..)).then_some(given.span),
+    })
 }
 
 /// Blunders 37 and 38: a second `public` line that isn't 4.

@@ -35,7 +35,7 @@ pub use import::{import, measure_import};
 pub use refusal::{Refusal, Source};
 
 /// What each mutant does wrong, counted from 1.
-pub const BLUNDERS: [&str; 51] = [
+pub const BLUNDERS: [&str; 61] = [
     "a denied purpose closes downwards only",
     "labels tested for selected columns only",
     "withheld counted only where the condition holds",
@@ -87,6 +87,16 @@ pub const BLUNDERS: [&str; 51] = [
     "a blank withheld for its selected cells, not for those of its condition",
     "a cell in a blank's condition that is selected too doesn't withhold",
     "a closed column that a blank only selects not refused",
+    "a range compared by its lower end alone",
+    "`not` doesn't exchange sure and possible",
+    "sure passes what is possible",
+    "27 not for ranges in rows withheld by their label",
+    "27 tested after 17",
+    "27 for selected columns only",
+    "28 tested before 8",
+    "a range of two equal ends printed as a number",
+    "the reserve without a range's bracket and space",
+    "28 for the first range of a row only",
 ];
 
 /// These blunders are of importing.

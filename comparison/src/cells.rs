@@ -8,7 +8,7 @@ use crate::random::Random;
 use crate::recase::{self, listed, same};
 
 /// What a cell may be to a query. A run has to see each of them, most as the one reason for which the cell may differ.
-const SITUATIONS: [&str; 31] = [
+const SITUATIONS: [&str; 35] = [
     "no query",
     "unknown purpose, public table",
     "unknown purpose, undeclared table",
@@ -40,6 +40,10 @@ const SITUATIONS: [&str; 31] = [
     "closed, selected and in a blank's condition",
     "open, in a row withheld for a cell of a blank's condition",
     "bound, beside a blank",
+    "bound, a range",
+    "closed or withheld, a range",
+    "bound, asked by sure or possible",
+    "closed or withheld, asked by sure or possible",
 ];
 
 /// Two to five purposes, one to three tables with two to six rows, and what these need; at times a user with a grant.
@@ -82,7 +86,7 @@ fn query(random: &mut Random, model: &Model) -> Query {
     let table = &model.tables[table];
     let subjects: Vec<(String, Type)> = table.columns.iter().map(|column| (column.name.clone(), column.kind)).collect();
     let mut query = Query {
-        verb: *random.pick(&[Verb::Select, Verb::Blank]),
+        verb: *random.pick(&[Verb::Select, Verb::Blank, Verb::Blank, Verb::Sure, Verb::Possible]),
         user: "ana".to_string(),
         role: "desk".to_string(),
         purpose: random.pick(&model.purposes).name.clone(),
@@ -235,6 +239,19 @@ fn recased(situation: &str) -> Option<&'static str> {
     }
 }
 
+/// The situations of a cell that is a range, or that sure or possible is asked of (02, Q-12).
+fn of_ranges(situation: &str, range: bool, query: Option<&Query>) -> Vec<&'static str> {
+    let of = query.is_some_and(|query| query.columns.is_some() && matches!(query.verb, Verb::Sure | Verb::Possible));
+    let words = if situation.starts_with("bound") {
+        ["bound, a range", "bound, asked by sure or possible"]
+    } else if situation.starts_with("closed") || situation.starts_with("open, in a row withheld") {
+        ["closed or withheld, a range", "closed or withheld, asked by sure or possible"]
+    } else {
+        return Vec::new();
+    };
+    words.into_iter().zip([range, of]).filter(|(_, seen)| *seen).map(|(word, _)| word).collect()
+}
+
 /// Prints the cases: the document and the query on a line each, then a word of 0 and 1 for each row, 1 where the value may differ;
 /// and how often each situation was seen. Fails where one never was.
 pub fn print(seed: u64, cases: u64) -> bool {
@@ -255,6 +272,7 @@ pub fn print(seed: u64, cases: u64) -> bool {
                 if one != other {
                     seen.extend(recased(found[0]));
                 }
+                seen.extend(of_ranges(found[0], row.cells[column].0.is_range(), query.as_ref()));
                 seen.extend(found);
                 print!("{}", u8::from(may_differ(&model, query.as_ref(), row, column)));
             }

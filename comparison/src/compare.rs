@@ -6,8 +6,8 @@ use std::fmt;
 
 /// 01: the longest answer that a reserve may promise, and the asking program's buffer.
 pub const LONGEST_RESERVE: usize = 60_021;
-/// A buffer that every answer fits in: 1,024 rows of 16 values and their spaces.
-pub const ROOMY: usize = 1_024 * (16 * 25 + 7) + 64;
+/// A buffer that every answer fits in: 1,024 rows of 16 values, the longest of them ranges, and their spaces.
+pub const ROOMY: usize = 1_024 * (16 * 44 + 7) + 64;
 /// Bytes on both sides of a lent buffer that nobody may touch.
 const FENCE: usize = 64;
 
@@ -209,11 +209,11 @@ pub fn check(second: Second, doc: &[u8]) -> Result<Checked, Difference> {
     Ok(ours)
 }
 
-/// Whether an answered query is a select or a blank (02, Q-10) whose column bracket repeats no column.
+/// Whether an answered query is a select, a blank (02, Q-10), sure or possible (02, Q-12) whose column bracket repeats no column.
 pub fn repeats_no_column(query: &[u8]) -> bool {
     // 02, Q-8: without case, so that `who` and `Who` are one column.
     let text = String::from_utf8_lossy(query).to_ascii_lowercase();
-    let Some(rest) = ["(select ", "(blank "].iter().find_map(|word| text.strip_prefix(word)) else { return false };
+    let Some(rest) = ["(select ", "(blank ", "(sure ", "(possible "].iter().find_map(|word| text.strip_prefix(word)) else { return false };
     let Some((_, columns)) = rest.split_once('(') else { return false };
     let Some((columns, _)) = columns.split_once(')') else { return false };
     let columns: Vec<&str> = columns.split(' ').collect();

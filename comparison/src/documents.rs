@@ -6,9 +6,9 @@ use crate::recase::{self, listed, same};
 
 /// Names for every kind: few, so that kinds share them; keywords, some in several cases, and names that differ in length or last
 /// byte alone.
-const NAMES: [&str; 35] = [
+const NAMES: [&str; 37] = [
     "all", "bill", "ads", "post", "care", "desk", "boss", "a", "b", "C", "x-1", "y_2", "row", "table", "cell", "none", "num",
-    "name", "allow", "deny", "select", "count", "eq", "and", "not", "purpose", "public", "blank", "Ads", "aDs", "abcdefgh", "abcdefghi",
+    "name", "allow", "deny", "select", "count", "eq", "and", "not", "purpose", "public", "blank", "sure", "possible", "Ads", "aDs", "abcdefgh", "abcdefghi",
     "abcdefghijklmnop", "abcdefghijklmnopqrstuvwx", "abcdefghijklmnopqrstuvwy",
 ];
 const USERS: [&str; 8] = ["ana", "bob", "eve", "row", "user", "A", "an", "abcdefghijklmnopqrstuvwx"];
@@ -60,6 +60,26 @@ pub fn number(random: &mut Random) -> i64 {
         2 => *random.pick(&[2027, 2028, 365, 366, 17, 23]),
         3 => -(random.below(10) as i64),
         _ => random.below(10) as i64,
+    }
+}
+
+/// A range (02, Q-12): narrow, of one number, or with ends that are any.
+pub fn range(random: &mut Random) -> Value {
+    let low = number(random);
+    let high = match random.below(6) {
+        0 => low,
+        1 | 2 => number(random),
+        _ => low.saturating_add(random.below(8) as i64),
+    };
+    Value::Range(low.min(high), low.max(high))
+}
+
+/// What a cell of this column may hold.
+pub fn cell(random: &mut Random, column: &Column) -> Value {
+    if column.ranged && random.chance(1, 2) {
+        range(random)
+    } else {
+        value(random, column.kind)
     }
 }
 
@@ -334,8 +354,9 @@ impl<'r> Builder<'r> {
                 None => fresh(self.random, &COLUMNS, |name| list.iter().any(|column| same(&column.name, name))),
             };
             let kind = if self.random.chance(1, 2) { Type::Num } else { Type::Name };
+            let ranged = kind == Type::Num && self.random.chance(2, 5);
             let label = self.random.below(self.model.labels.len());
-            list.push(Column { name, kind, label });
+            list.push(Column { name, kind, ranged, label });
         }
         self.model.tables.push(Table { name, scheme, public: false, columns: list });
         self.model.lines.push(Line::Table(self.model.tables.len() - 1));
@@ -347,8 +368,8 @@ impl<'r> Builder<'r> {
         }
         let table = self.random.below(self.model.tables.len());
         let label = self.random.below(self.model.labels.len());
-        let kinds: Vec<Type> = self.model.tables[table].columns.iter().map(|column| column.kind).collect();
-        let cells = kinds.into_iter().map(|kind| (value(self.random, kind), self.random.below(self.model.labels.len()))).collect();
+        let columns = self.model.tables[table].columns.clone();
+        let cells = columns.iter().map(|column| (cell(self.random, column), self.random.below(self.model.labels.len()))).collect();
         self.row_of(Row { table, label, cells });
     }
 
@@ -375,12 +396,17 @@ impl<'r> Builder<'r> {
         self.model.lines.push(Line::Row(self.model.rows.len() - 1));
     }
 
-    /// A user, conditional role or row with values and operators of either type: 8, the leftmost of several.
+    /// A user, conditional role or row with values and operators of either type: 8, the leftmost of several; among a row's also ranges,
+    /// some of them reversed: 8, 28 or neither (02, Q-12). In a user line they are 2.
     fn retyped(&mut self) {
         let any = |random: &mut Random, given: &mut Value| {
-            if random.chance(1, 2) {
-                let kind = if random.chance(1, 2) { Type::Num } else { Type::Name };
-                *given = value(random, kind);
+            match random.below(12) {
+                0 => *given = Value::Range(number(random), number(random)),
+                1..=6 => {
+                    let kind = if random.chance(1, 2) { Type::Num } else { Type::Name };
+                    *given = value(random, kind);
+                }
+                _ => {}
             }
         };
         match self.random.below(3) {
@@ -408,6 +434,16 @@ impl<'r> Builder<'r> {
                 self.row();
                 if let Some(row) = self.model.rows.last_mut() {
                     row.cells.iter_mut().for_each(|(given, _)| any(self.random, given));
+                    // Ranges reversed, and nothing else wrong, half of the time.
+                    if self.random.chance(1, 2) {
+                        for (column, (given, _)) in self.model.tables[row.table].columns.iter().zip(&mut row.cells) {
+                            if column.kind == Type::Num && self.random.chance(1, 2) {
+                                *given = Value::Range(number(self.random), number(self.random));
+                            } else if column.kind != given.kind() {
+                                *given = value(self.random, column.kind);
+                            }
+                        }
+                    }
                 }
             }
         }
@@ -745,6 +781,7 @@ fn fill(builder: &mut Builder, length: usize) {
     }
     for column in &mut builder.model.tables[table].columns {
         column.kind = Type::Name;
+        column.ranged = false;
     }
     let mut rest = length - builder.model.text().len();
     // `(row T`, a space before each value, `)` and the line feed.

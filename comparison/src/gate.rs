@@ -120,11 +120,12 @@ impl Figures {
 fn refused(number: u64, figures: [u64; 5]) -> Result<Refused, String> {
     let [source, start, length, d, e] = figures;
     let expected = match number {
-        1..=9 => 1,
-        10..=18 => 2,
-        _ => 3,
+        1..=9 | 28 => 1,
+        10..=18 | 27 => 2,
+        19..=21 => 3,
+        _ => 0,
     };
-    if d != 0 || e != 0 || source != expected || number > 21 {
+    if d != 0 || e != 0 || source != expected {
         return Err(format!("refusal {number} with figures {figures:?}"));
     }
     Ok(Refused { number, source, start, length })

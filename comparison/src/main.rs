@@ -4,6 +4,7 @@
 #![allow(clippy::result_large_err)]
 
 mod cells;
+mod choices;
 mod compare;
 mod damage;
 mod documents;
@@ -19,6 +20,7 @@ mod recase;
 mod stub;
 mod texts;
 
+use choices::ChoiceTally;
 use compare::Buffers;
 use gate::{Second, Subject};
 use imports::{ImportTally, Imports};
@@ -32,6 +34,7 @@ struct Options {
     texts: u64,
     pairs: u64,
     files: u64,
+    choices: u64,
     seed: u64,
     mutant: Option<u32>,
     /// How many cases for `tests/free` to print, instead of comparing.
@@ -39,7 +42,7 @@ struct Options {
 }
 
 fn options() -> Result<Options, String> {
-    let mut options = Options { texts: 20_000, pairs: 5_000, files: 40_000, seed: 1, mutant: None, cells: None };
+    let mut options = Options { texts: 20_000, pairs: 5_000, files: 40_000, choices: 2_000, seed: 1, mutant: None, cells: None };
     let mut arguments = std::env::args().skip(1);
     while let Some(argument) = arguments.next() {
         let given = arguments.next().ok_or(format!("{argument}: a number is missing"))?;
@@ -48,6 +51,7 @@ fn options() -> Result<Options, String> {
             "--texts" => options.texts = number,
             "--pairs" => options.pairs = number,
             "--files" => options.files = number,
+            "--choices" => options.choices = number,
             "--seed" => options.seed = number,
             "--cells" => options.cells = Some(number),
             "--mutant" if (1..=mutant::BLUNDERS.len() as u64).contains(&number) => options.mutant = Some(number as u32),
@@ -61,7 +65,7 @@ fn main() -> ExitCode {
     let options = match options() {
         Ok(options) => options,
         Err(what) => {
-            eprintln!("{what}\ncomparison [--texts N] [--pairs N] [--files N] [--seed S] [--mutant 1..{}] [--cells N]", mutant::BLUNDERS.len());
+            eprintln!("{what}\ncomparison [--texts N] [--pairs N] [--files N] [--choices N] [--seed S] [--mutant 1..{}] [--cells N]", mutant::BLUNDERS.len());
             return ExitCode::from(2);
         }
     };
@@ -96,6 +100,15 @@ fn compare_all(options: &Options) -> ExitCode {
             return ExitCode::FAILURE;
         }
     }
+    let mut choices = ChoiceTally::default();
+    for place in 0..options.choices {
+        let mut random = Random::new(options.seed, place | 1 << 42);
+        if let Err(difference) = choices::run(&mut random, &mut choices) {
+            print!("{difference}");
+            println!("choice {place} of seed {}", options.seed);
+            return ExitCode::FAILURE;
+        }
+    }
     let pairs_done = start.elapsed();
     let imports = match import_all(options, &mut buffers) {
         Ok(imports) => imports,
@@ -105,15 +118,16 @@ fn compare_all(options: &Options) -> ExitCode {
         }
     };
     summary(options, &tally, &pairs);
+    println!("choices of ranges: {choices}");
     import_summary(&imports);
     let seconds = [texts_done, pairs_done - texts_done, start.elapsed() - pairs_done].map(|time| time.as_secs_f64());
-    println!("seconds:           {:.1} texts, {:.1} pairs, {:.1} files", seconds[0], seconds[1], seconds[2]);
+    println!("seconds:           {:.1} texts, {:.1} pairs and choices, {:.1} files", seconds[0], seconds[1], seconds[2]);
     let unseen = if options.files > 0 { imports.missing() } else { Vec::new() };
     if !unseen.is_empty() {
         println!("FAILED: of importing never seen: {unseen:?}");
         return ExitCode::FAILURE;
     }
-    let missing: Vec<usize> = (1..=18).filter(|&number| tally.refusals[number] == 0).collect();
+    let missing: Vec<usize> = (1..=18).chain([27, 28]).filter(|&number| tally.refusals[number] == 0).collect();
     if !missing.is_empty() {
         println!("FAILED: refusals never seen: {missing:?}");
         return ExitCode::FAILURE;
@@ -135,13 +149,18 @@ fn compare_all(options: &Options) -> ExitCode {
         println!("FAILED: too few blanks");
         return ExitCode::FAILURE;
     }
+    let of_ranges = [tally.sure, tally.possible, tally.ranges, pairs.ends, pairs.told_apart_ends, pairs.told_apart_turned];
+    if options.texts > 0 && options.pairs > 0 && of_ranges.contains(&0) || options.choices > 0 && choices.lacks() {
+        println!("FAILED: too few ranges");
+        return ExitCode::FAILURE;
+    }
     println!("no difference");
     ExitCode::SUCCESS
 }
 
 fn summary(options: &Options, tally: &Tally, pairs: &PairTally) {
-    let histogram = |refusals: &[u64; 19]| -> String {
-        (1..=18).filter(|&n| refusals[n] > 0).map(|n| format!(" {n}:{}", refusals[n])).collect()
+    let histogram = |refusals: &[u64; 29]| -> String {
+        (1..=28).filter(|&n| refusals[n] > 0).map(|n| format!(" {n}:{}", refusals[n])).collect()
     };
     println!("seed:              {}", options.seed);
     println!("texts:             {}, accepted {}, the longest {} bytes", tally.texts, tally.accepted, tally.longest);
@@ -153,6 +172,8 @@ fn summary(options: &Options, tally: &Tally, pairs: &PairTally) {
     println!("recased:           {} texts, accepted {}; {} queries, answered {}; {} pairs alike", recased.texts, recased.accepted, recased.queries, recased.answered, pairs.recased);
     println!("in case alone:     {} pairs alike; {} not alike, told apart {}", pairs.case_alone, pairs.unlike_case, pairs.told_apart_case);
     println!("blanks:            {} answered, {} with a blanked value; {} pairs alike that differ in one; {} pairs not alike told apart", tally.blanks, tally.dashes, pairs.blanked, pairs.told_apart_blank);
+    println!("ranges:            {} answers to sure, {} to possible, {} with a range; {} pairs alike that differ in one; {} pairs not alike told apart", tally.sure, tally.possible, tally.ranges, pairs.ends, pairs.told_apart_ends);
+    println!("range or number:   {} values made the other, which are no pairs alike, told apart {}", pairs.turned, pairs.told_apart_turned);
     println!("without labels:    {} pairs alike that differ in an undeclared table; {} told apart in a public one", pairs.undeclared, pairs.told_apart_public);
 }
 

@@ -23,6 +23,21 @@ impl fmt::Display for Type {
 pub enum Value {
     Num(i64),
     Name(String),
+    /// In cells of num columns alone (02, Q-12).
+    Range(i64, i64),
+}
+
+impl Value {
+    pub fn kind(&self) -> Type {
+        match self {
+            Value::Num(_) | Value::Range(..) => Type::Num,
+            Value::Name(_) => Type::Name,
+        }
+    }
+
+    pub fn is_range(&self) -> bool {
+        matches!(self, Value::Range(..))
+    }
 }
 
 impl fmt::Display for Value {
@@ -30,6 +45,7 @@ impl fmt::Display for Value {
         match self {
             Value::Num(number) => write!(f, "{number}"),
             Value::Name(name) => f.write_str(name),
+            Value::Range(low, high) => write!(f, "({low} {high})"),
         }
     }
 }
@@ -79,7 +95,7 @@ impl Condition {
         }
     }
 
-    /// Whether it holds; a name without a value is false.
+    /// Whether it holds; a name without a value, or with a range, is false.
     pub fn holds(&self, value_of: &dyn Fn(&str) -> Option<Value>) -> bool {
         match self {
             Condition::Compare(operator, subject, right) => match (value_of(subject), right) {
@@ -155,6 +171,8 @@ pub enum Scheme {
 pub struct Column {
     pub name: String,
     pub kind: Type,
+    /// Whether its cells may be ranges (02, Q-12); of a num column alone.
+    pub ranged: bool,
     /// A label's place, used under scheme column.
     pub label: usize,
 }
@@ -342,6 +360,11 @@ impl Model {
             Scheme::Cell => (0..table.columns.len())
                 .any(|column| listed(withholding, &table.columns[column].name) && !self.open(row.cells[column].1, p)),
         }
+    }
+
+    /// 02, Q-12: whether some row of a table, withheld or not, has a range in this column.
+    pub fn has_range(&self, table: usize, column: usize) -> bool {
+        self.rows.iter().any(|row| row.table == table && row.cells[column].0.is_range())
     }
 
     /// Whether some grant lets a user form act for a purpose (only to aim queries with).

@@ -13,8 +13,8 @@ use crate::texts::keep;
 pub struct PairTally {
     pub pairs: u64,
     pub answered: u64,
-    /// By refusal number, 10 to 18.
-    pub refusals: [u64; 19],
+    /// By refusal number: 10 to 18, and 27.
+    pub refusals: [u64; 29],
     pub unlike: u64,
     pub told_apart: u64,
     /// Pairs alike whose documents or query are in another case than the generator wrote them.
@@ -29,6 +29,12 @@ pub struct PairTally {
     /// Pairs alike that differ in a cell which the answer writes as a blank; pairs not alike that a blank tells apart (02, Q-10).
     pub blanked: u64,
     pub told_apart_blank: u64,
+    /// Pairs alike that differ in an end of a range of the query's table; pairs not alike told apart in one (02, Q-12).
+    pub ends: u64,
+    pub told_apart_ends: u64,
+    /// A value that may differ made a range or a number: no pair alike, since 27 may tell; how often it does.
+    pub turned: u64,
+    pub told_apart_turned: u64,
 }
 
 /// What is said of a pair that is not alike, where another case of values changes more than letters: no break of the claim.
@@ -112,6 +118,8 @@ fn changed(random: &mut Random, model: &Model, cells: &Cells, all: bool, change:
         }
         let kind = model.tables[model.rows[row].table].columns[column].kind;
         let given = match &model.rows[row].cells[column].0 {
+            // 02, Q-12: it "may change in either end" and "may not become or cease to be a range".
+            Value::Range(..) if change == Change::Values => documents::range(random),
             Value::Name(name) if change == Change::Case || random.chance(1, 8) => Value::Name(recase::name(random, name)),
             _ if change == Change::Case => continue,
             _ => documents::value(random, kind),
@@ -124,6 +132,28 @@ fn changed(random: &mut Random, model: &Model, cells: &Cells, all: bool, change:
     } else {
         None
     }
+}
+
+/// 02, Q-12: the model with one of those cells, of a num column, made a range where it is a number, and the other way round.
+fn turned(random: &mut Random, model: &Model, cells: &Cells) -> Option<Model> {
+    let of_numbers = |(row, column): &&(usize, usize)| model.rows[*row].cells[*column].0.kind() == Type::Num;
+    let numbers: Vec<&(usize, usize)> = cells.iter().filter(of_numbers).collect();
+    if numbers.is_empty() {
+        return None;
+    }
+    let &&(row, column) = random.pick(&numbers);
+    let mut other = model.clone();
+    let given = &mut other.rows[row].cells[column].0;
+    *given = if given.is_range() { documents::value(random, Type::Num) } else { documents::range(random) };
+    (other.text().len() <= 60_000).then_some(other)
+}
+
+/// Whether two models differ in a range of the query's table.
+fn in_ranges(model: &Model, other: &Model, query: Option<&Query>) -> bool {
+    let Some(query) = query else { return false };
+    let differ = |(one, other): (&Row, &Row)| one.cells.iter().zip(&other.cells).any(|(one, other)| one.0.is_range() && one.0 != other.0);
+    let here = |row: &Row| same(&model.tables[row.table].name, &query.table);
+    model.rows.iter().zip(&other.rows).filter(|(one, _)| here(one)).any(differ)
 }
 
 fn accepted(doc: &[u8]) -> bool {
@@ -162,6 +192,7 @@ pub fn run(random: &mut Random, subject: Subject, buffers: &mut Buffers, tally: 
         model.rows.iter().zip(&alike.rows).any(|(one, other)| one.table == place && one.cells != other.cells)
     };
     let undeclared = unlabelled.is_some_and(|place| !model.tables[place].public && differs(place));
+    let in_ends = in_ranges(&model, &alike, query.as_ref());
     let in_blanks = model.rows.iter().zip(&alike.rows).any(|(one, other)| {
         let changed = |column: usize| one.cells[column].0 != other.cells[column].0 && blanked(&model, query.as_ref(), one, column);
         matched(&model, query.as_ref(), one) && (0..one.cells.len()).any(changed)
@@ -177,6 +208,13 @@ pub fn run(random: &mut Random, subject: Subject, buffers: &mut Buffers, tally: 
     tally.recased += u64::from(other || doc != model.text());
     tally.case_alone += u64::from(change == Change::Case);
     tally.undeclared += u64::from(undeclared);
+    tally.ends += u64::from(in_ends);
+    if let (Some(turned), true) = (turned(random, &model, &free_cells(&model, query.as_ref())), random.chance(1, 4)) {
+        let question = Question { query: text.clone(), clock, buffer: LONGEST_RESERVE };
+        let (_, equal) = buffers.ask_pair(subject, &model.text(), &turned.text(), &question)?;
+        tally.turned += 1;
+        tally.told_apart_turned += u64::from(!equal);
+    }
     let put = |buffer: usize, buffers: &mut Buffers| -> Result<Asked, Difference> {
         let question = Question { query: text.clone(), clock, buffer };
         let (asked, equal) = buffers.ask_pair(subject, &doc, &alike, &question)?;
@@ -213,6 +251,7 @@ pub fn run(random: &mut Random, subject: Subject, buffers: &mut Buffers, tally: 
         tally.unlike += 1;
         tally.told_apart += u64::from(!equal);
         tally.told_apart_public += u64::from(!equal && unlabelled.is_some());
+        tally.told_apart_ends += u64::from(!equal && in_ranges(&model, &unlike, query.as_ref()));
         tally.told_apart_blank += u64::from(!equal && query.as_ref().is_some_and(|query| query.is_blank()));
     }
     if let Some(unlike) = changed(random, &model, &bound, true, Change::Case) {

@@ -12,18 +12,27 @@ pub enum Verb {
     Select,
     /// 02, Q-10.
     Blank,
+    /// 02, Q-12.
+    Sure,
+    Possible,
 }
 
 impl Verb {
-    fn word(self) -> &'static str {
+    pub fn word(self) -> &'static str {
         match self {
             Verb::Select => "select",
             Verb::Blank => "blank",
+            Verb::Sure => "sure",
+            Verb::Possible => "possible",
         }
     }
 
-    fn any(random: &mut Random) -> Verb {
-        *random.pick(&[Verb::Select, Verb::Select, Verb::Blank])
+    pub fn any(random: &mut Random) -> Verb {
+        *random.pick(&[Verb::Select, Verb::Select, Verb::Blank, Verb::Sure, Verb::Possible])
+    }
+
+    fn of_ranges(random: &mut Random) -> Verb {
+        *random.pick(&[Verb::Sure, Verb::Possible])
     }
 }
 
@@ -147,9 +156,9 @@ pub fn good(random: &mut Random, model: &Model, clock: Clock) -> Query {
         return query;
     }
     // A table with rows, not closed as a whole, is tried for.
-    let mut table = &model.tables[0];
+    let (mut table, mut place) = (&model.tables[0], 0);
     for _ in 0..5 {
-        let place = random.below(model.tables.len());
+        place = random.below(model.tables.len());
         table = &model.tables[place];
         let closed = match (table.scheme, purpose) {
             (Scheme::Table(label), Some(p)) => !model.open(label, p),
@@ -168,7 +177,16 @@ pub fn good(random: &mut Random, model: &Model, clock: Clock) -> Query {
             columns = table.columns.iter().collect();
         }
     }
-    if random.chance(3, 4) {
+    // Most that take no ranges are asked for columns without any: 27 otherwise.
+    let counts = random.chance(1, 4);
+    if (counts || !matches!(query.verb, Verb::Sure | Verb::Possible)) && random.chance(5, 6) {
+        let ranged = |column: &&Column| table.columns.iter().position(|other| other.name == column.name).is_some_and(|at| model.has_range(place, at));
+        let without: Vec<&Column> = columns.iter().copied().filter(|column| !ranged(column)).collect();
+        if !without.is_empty() {
+            columns = without;
+        }
+    }
+    if !counts {
         query.columns = Some(match random.below(6) {
             // Every column once: the longest answer that the reserve speaks of.
             0 => {
@@ -195,17 +213,29 @@ pub fn good(random: &mut Random, model: &Model, clock: Clock) -> Query {
             }
         });
         // A value that stands in the table makes the condition hold more often.
-        if random.chance(1, 2) {
-            if let Some(Condition::Compare(_, subject, value)) = &mut query.condition {
-                let rows: Vec<&Row> = model.rows.iter().filter(|row| model.tables[row.table].name == table.name).collect();
-                let place = table.columns.iter().position(|column| same(&column.name, subject));
-                if let (false, Some(place)) = (rows.is_empty(), place) {
-                    *value = random.pick(&rows).cells[place].0.clone();
-                }
-            }
+        let rows: Vec<&Row> = model.rows.iter().filter(|row| row.table == place).collect();
+        if let (Some(condition), false, true) = (&mut query.condition, rows.is_empty(), random.chance(2, 3)) {
+            take_values(random, condition, table, &rows);
         }
     }
     query
+}
+
+/// Some comparisons get a value that stands in the table: of a range an end, or a number beside it.
+fn take_values(random: &mut Random, condition: &mut Condition, table: &Table, rows: &[&Row]) {
+    match condition {
+        Condition::Compare(_, subject, value) => {
+            let place = table.columns.iter().position(|column| same(&column.name, subject));
+            if let (Some(place), true) = (place, random.chance(2, 3)) {
+                *value = match &random.pick(rows).cells[place].0 {
+                    Value::Range(low, high) => Value::Num(*random.pick(&[*low, *high, low.saturating_sub(1), high.saturating_add(1)])),
+                    given => given.clone(),
+                };
+            }
+        }
+        Condition::Not(inner) => take_values(random, inner, table, rows),
+        Condition::And(list) | Condition::Or(list) => list.iter_mut().for_each(|inner| take_values(random, inner, table, rows)),
+    }
 }
 
 /// A query for every column of the table with the most rows, without condition: what the reserve has to cover.
@@ -215,6 +245,9 @@ pub fn widest(random: &mut Random, model: &Model, clock: Clock) -> Query {
     if let Some(most) = (0..model.tables.len()).max_by_key(|&table| rows(table)) {
         let table = &model.tables[most];
         query.table = table.name.clone();
+        if (0..table.columns.len()).any(|column| model.has_range(most, column)) && random.chance(5, 6) {
+            query.verb = Verb::of_ranges(random);
+        }
         let once = table.columns.iter().map(|column| column.name.clone());
         // At times all of them again and again, for answers over 60,021 bytes.
         query.columns = Some(if random.chance(1, 3) { once.cycle().take(16).collect() } else { once.take(16).collect() });
@@ -223,14 +256,14 @@ pub fn widest(random: &mut Random, model: &Model, clock: Clock) -> Query {
     query
 }
 
-/// One fault of the kinds 12 to 17 (a kind that this document can't have leaves the query as it is).
+/// One fault of the kinds 12 to 17 and 27 (a kind that this document can't have leaves the query as it is).
 pub fn fault(random: &mut Random, model: &Model, query: &mut Query) {
     let unknown = |random: &mut Random| match random.below(3) {
         0 => long_name(random, 24),
         1 => "nobody".to_string(),
         _ => long_name(random, 2),
     };
-    match random.below(12) {
+    match random.below(13) {
         0 => query.user = unknown(random),
         1 => query.role = unknown(random),
         2 => query.purpose = unknown(random),
@@ -275,6 +308,19 @@ pub fn fault(random: &mut Random, model: &Model, query: &mut Query) {
                     Some(condition) => Condition::Or(vec![condition, Condition::Not(Box::new(extra))]),
                     None => extra,
                 });
+            }
+        }
+        11 => {
+            // 27: a select, blank or count of a table with ranges, of whichever columns.
+            let ranged: Vec<&Table> = model.tables.iter().filter(|table| table.columns.iter().any(|column| column.ranged)).collect();
+            if !ranged.is_empty() {
+                let table = *random.pick(&ranged);
+                query.table = table.name.clone();
+                query.verb = *random.pick(&[Verb::Select, Verb::Blank]);
+                let column = random.pick(&table.columns);
+                query.columns = if random.chance(2, 3) { Some(vec![random.pick(&table.columns).name.clone(); random.between(1, 2)]) } else { None };
+                let compare = Condition::Compare("eq", column.name.clone(), value(random, column.kind));
+                query.condition = if random.chance(2, 3) { Some(compare) } else { None };
             }
         }
         _ => {
@@ -356,7 +402,7 @@ pub fn no_query(random: &mut Random, model: &Model, query: &Query) -> Vec<u8> {
         None => vec![("who".to_string(), Type::Name)],
     };
     let text = query.text();
-    match random.below(14) {
+    match random.below(15) {
         0 => {
             query.columns = Some(vec![columns[0].0.clone(); 17]);
             query.text()
@@ -409,6 +455,12 @@ pub fn no_query(random: &mut Random, model: &Model, query: &Query) -> Vec<u8> {
             let word = query.verb.word();
             String::from_utf8_lossy(&query.text()).replacen("count", word, 1).into_bytes()
         }
-        _ => random.pick(&["(select)", "(blank)", "(blanks)", "(blank"]).as_bytes().to_vec(),
+        13 => {
+            // A range where a comparison has its value (02, Q-12).
+            let (subject, _) = random.pick(&columns).clone();
+            query.condition = Some(Condition::Compare("eq", subject, crate::documents::range(random)));
+            query.text()
+        }
+        _ => random.pick(&["(select)", "(blank)", "(blanks)", "(blank", "(sure)", "(surely)", "(possible", "(possibly)"]).as_bytes().to_vec(),
     }
 }

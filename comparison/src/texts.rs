@@ -36,8 +36,12 @@ pub struct Tally {
     /// Blanks answered, and those of them with a `-` for a value (02, Q-10).
     pub blanks: u64,
     pub dashes: u64,
+    /// Answers to sure and to possible, and those of them with a range (02, Q-12).
+    pub sure: u64,
+    pub possible: u64,
+    pub ranges: u64,
     /// By refusal number.
-    pub refusals: [u64; 19],
+    pub refusals: [u64; 29],
 }
 
 impl Tally {
@@ -212,10 +216,14 @@ impl Run {
         };
         self.tally.answered += 1;
         let length = length as usize;
-        if query.to_ascii_lowercase().starts_with(b"(blank ") {
+        let word = query.to_ascii_lowercase();
+        if word.starts_with(b"(blank ") {
             self.tally.blanks += 1;
             self.tally.dashes += u64::from(has_dash(self.buffers.given(length)));
         }
+        self.tally.sure += u64::from(word.starts_with(b"(sure "));
+        self.tally.possible += u64::from(word.starts_with(b"(possible "));
+        self.tally.ranges += u64::from(self.buffers.given(length).windows(2).any(|bytes| bytes == b" ("));
         if repeats_no_column(query) && reserve.is_some_and(|reserve| length > reserve) {
             return Err(self.smaller_reserve(doc, question));
         }
