@@ -98,6 +98,12 @@ CASES = [
     ("grants repeat", after(ROLES, "(grant ads senior)", "(grant ads senior)"), len(ROLES) + 2),
     ("names of different kinds", ["(purpose x)", "(role x)", "(attr x x num)", "(label x (allow x) (deny))", "(table x none (x num))"], 5),
     ("keywords as names", ["(purpose purpose)", "(role row)", "(label deny (allow purpose) (deny))", "(table table none (name num))", "(row table 3)"], 5),
+    # ranges (02, Q-12)
+    ("a range in each scheme", after(TABLES, "(row n (1 5) x)", "(row t (1 5))", "(row c (-5 -1) y)", "(row r free (-1 1) z)", "(row e (Ida free) ((40 75) noads))"), len(TABLES) + 5),
+    ("a range of one number", after(TABLES, "(row t (5 5))", "(row t (-3 -3))", "(row t (0 0))", "(row t 0)"), len(TABLES) + 4),
+    ("the range of all numbers", after(TABLES, "(row t (-9223372036854775808 9223372036854775807))"), len(TABLES) + 1),
+    ("a range beside a number", after(TABLES, "(table x none (aa num) (bb num) (cc name))", "(row x (1 5) 3 x)", "(ROW X 1 (-3 5) Y)"), len(TABLES) + 3),
+    ("words of queries as names", ["(purpose sure)", "(role possible)", "(label blank (allow sure) (deny))", "(table sure cell (possible num))", "(row sure ((1 2) blank))"], 5),
     # public lines (02, Q-2); a table without one is accepted all the same
     ("no public line", TABLES, len(TABLES)),
     ("a public line behind its table", after(LABELS, "(table x none (a num))", "(public x)"), len(LABELS) + 2),
@@ -190,6 +196,20 @@ CASES = [
     ("a blank for a cell's value", after(TABLES, "(row e (- free) (40 free))"), (2, len(TABLES), None)),
     ("a blank for a name", after(TABLES, "(label - (allow) (deny))"), (2, len(TABLES), None)),
     ("a query for a line", after(TABLES, "(blank ana desk all e (who))"), (2, len(TABLES), None)),
+    ("a range with one end", after(TABLES, "(row t (5))"), (2, len(TABLES), None)),
+    ("a range with three ends", after(TABLES, "(row t (1 5 9))"), (2, len(TABLES), None)),
+    ("a range that begins with a name", after(TABLES, "(row t (x 5))"), (2, len(TABLES), None)),
+    ("a range with an end out of range", after(TABLES, "(row t (1 9223372036854775808))"), (2, len(TABLES), None)),
+    ("a range that ends with -0", after(TABLES, "(row t (-1 -0))"), (2, len(TABLES), None)),
+    ("a range with two spaces", after(TABLES, "(row t (1  5))"), (2, len(TABLES), None)),
+    ("a range in a range", after(TABLES, "(row t ((1 5) 9))"), (2, len(TABLES), None)),
+    ("a range labelled by a range", after(TABLES, "(row e (Ida free) ((1 5) (1 5)))"), (2, len(TABLES), None)),
+    ("a range with two labels", after(TABLES, "(row e (Ida free) ((40 75) noads free))"), (2, len(TABLES), None)),
+    ("a labelled value with a label", after(TABLES, "(row e (Ida free) ((40 noads) free))"), (2, len(TABLES), None)),
+    ("a range for a table", after(TABLES, "(row (1 5) 1)"), (2, len(TABLES), None)),
+    ("a range for a user's value", after(BASE, "(user ana desk (level (1 5)))"), (2, len(BASE), None)),
+    ("a range in a condition", after(BASE, "(cond-role c desk (eq level (1 5)))"), (2, len(BASE), None)),
+    ("a range for a purpose", after(TABLES, "(label l (allow (1 5)) (deny))"), (2, len(TABLES), None)),
     ("007", after(TABLES, "(row t 007)"), (2, len(TABLES), None)),
     ("12ab", after(TABLES, "(row t 12ab)"), (2, len(TABLES), None)),
     ("+5", after(TABLES, "(row t +5)"), (2, len(TABLES), None)),
@@ -264,6 +284,8 @@ CASES = [
     ("row with an unknown label", after(TABLES, "(row r nix 1 x)"), (5, len(TABLES), ("nix", 0))),
     ("row whose leading name is no label", after(TABLES, "(row r x)"), (5, len(TABLES), ("x", 0))),
     ("cell with an unknown label", after(TABLES, "(row e (Ida free) (40 nix))"), (5, len(TABLES), ("nix", 0))),
+    ("a range with an unknown label", after(TABLES, "(row e (Ida free) ((40 75) nix))"), (5, len(TABLES), ("nix", 0))),
+    ("an unknown label beside a bare range", after(TABLES, "(row e (Ida nix) (75 40))"), (5, len(TABLES), ("nix", 0))),
     ("public with an unknown table", after(TABLES, "(public nix)"), (5, len(TABLES), ("nix", 0))),
     ("public with an unknown table twice", after(TABLES, "(public nix)", "(public nix)"), (5, len(TABLES), ("nix", 0))),
     ("public before its table", after(LABELS, "(public x)", "(table x none (a num))"), (5, len(LABELS), ("x", 0))),
@@ -287,6 +309,13 @@ CASES = [
     ("number for the row's label", after(TABLES, "(row r 1 2 x)"), (7, len(TABLES), None)),
     ("bracket for the row's label", after(TABLES, "(row r (1 free) 2 x)"), (7, len(TABLES), None)),
     ("plain value in a cell table", after(TABLES, "(row e (Ida free) 40)"), (7, len(TABLES), None)),
+    ("bare range in a cell table", after(TABLES, "(row e (Ida free) (40 75))"), (7, len(TABLES), None)),
+    ("bare reversed range in a cell table", after(TABLES, "(row e (Ida free) (75 40))"), (7, len(TABLES), None)),
+    ("labelled range in a plain table", after(TABLES, "(row n ((1 5) free) x)"), (7, len(TABLES), None)),
+    ("labelled range in a row table", after(TABLES, "(row r free ((1 5) free) x)"), (7, len(TABLES), None)),
+    ("range for the row's label", after(TABLES, "(row r (1 5) 2 x)"), (7, len(TABLES), None)),
+    ("a range too many", after(TABLES, "(row t (5 1) (1 5))"), (7, len(TABLES), None)),
+    ("a range too few", after(TABLES, "(row r free (5 1))"), (7, len(TABLES), None)),
     # ---- 8
     ("name for a number attribute", after(BASE, "(user ana desk (level high))"), (8, len(BASE), ("high", 0))),
     ("number for a name attribute", after(BASE, "(user ben clerk (level 7) (team 3))"), (8, len(BASE), ("3", 0))),
@@ -296,6 +325,21 @@ CASES = [
     ("name for the clock", after(BASE, "(cond-role c desk (eq hour noon))"), (8, len(BASE), ("noon", 0))),
     ("name in a number column", after(TABLES, "(row n x y)"), (8, len(TABLES), ("x", 0))),
     ("number in a name column of cells", after(TABLES, "(row e (7 free) (40 free))"), (8, len(TABLES), ("7", 0))),
+    ("range in a name column", after(TABLES, "(row n 1 (1 5))"), (8, len(TABLES), ("(1 5)", 0))),
+    ("reversed range in a name column", after(TABLES, "(row n 1 (5 1))"), (8, len(TABLES), ("(5 1)", 0))),
+    ("range in a name column of cells", after(TABLES, "(row e ((1 5) free) ((75 40) free))"), (8, len(TABLES), ("(1 5)", 0))),
+    ("8 right of a reversed range", after(TABLES, "(row n (5 1) 7)"), (8, len(TABLES), ("7", 0))),
+    # ---- 28
+    ("reversed range", after(TABLES, "(row t (5 1))"), (28, len(TABLES), ("(5 1)", 0))),
+    ("reversed range below zero", after(TABLES, "(row t (-1 -2))"), (28, len(TABLES), ("(-1 -2)", 0))),
+    ("reversed range of all numbers", after(TABLES, "(row t (9223372036854775807 -9223372036854775808))"), (28, len(TABLES), ("(9223372036854775807 -9223372036854775808)", 0))),
+    ("reversed range in a table without labels", after(TABLES, "(row n (5 1) x)"), (28, len(TABLES), ("(5 1)", 0))),
+    ("reversed range in a column table", after(TABLES, "(row c (0 -1) x)"), (28, len(TABLES), ("(0 -1)", 0))),
+    ("reversed range in a row table", after(TABLES, "(row r free (6 5) x)"), (28, len(TABLES), ("(6 5)", 0))),
+    ("reversed range in a cell table", after(TABLES, "(row e (Ida free) ((75 40) noads))"), (28, len(TABLES), ("(75 40)", 0))),
+    ("two reversed ranges", after(TABLES, "(table x none (aa num) (bb num))", "(row x (5 1) (7 2))"), (28, len(TABLES) + 1, ("(5 1)", 0))),
+    ("a reversed range behind another", after(TABLES, "(table x none (aa num) (bb num))", "(row x (1 5) (7 2))"), (28, len(TABLES) + 1, ("(7 2)", 0))),
+    ("a reversed range, and a line that fails further down", after(TABLES, "(row t (5 1))", "(row t x)"), (28, len(TABLES), ("(5 1)", 0))),
     # ---- 9
     ("attr line after a user line", after(USERS, "(attr desk extra num)"), (9, len(USERS), None)),
     ("attr line after a user line, with an unknown role", after(USERS, "(attr nix extra num)"), (5, len(USERS), ("nix", 0))),
@@ -319,6 +363,8 @@ RESERVES = [
     ("reserve: a row's label does not count", "(label shut (allow) (deny))\n(table t row (a num))\n(row t shut 7)\n", 3, 20),
     ("reserve: cells' labels do not count", "(label shut (allow) (deny))\n(table t cell (a num) (b name))\n(row t (7 shut) (x shut))\n", 3, 22),
     ("reserve: a table counts that no line declares public, and as much as one declared", SEVENS + "(table u none (a name))\n(public t)\n(row u ab)\n(row t 7)\n", 5, 21),
+    ("reserve: a range as written", SEVENS + "(row t (1 5))\n", 2, 24),
+    ("reserve: a labelled range", "(label shut (allow) (deny))\n(table t cell (a num))\n(row t ((-10 -5) shut))\n(ROW T (7 shut))\n", 4, 15 + 8 + 12),
     ("reserve: rows that name their table in two cases", "(table Sub none (a name))\n(row sub Ida)\n(ROW SUB ida)\n", 3, 2 * 10 + 12),
 ]
 
@@ -333,7 +379,8 @@ def reserve_of(text):
             schemes[name], printed[name] = table[2].lower(), []
         elif row := re.match(rb"\(row (\S+) (.*)\)", line, re.IGNORECASE):
             name = row[1].lower()
-            items = re.findall(rb"\((\S+) \S+\)", row[2]) if schemes[name] == b"cell" else row[2].split(b" ")
+            # A range (02, Q-12) counts as written.
+            items = re.findall(rb"\((\([^()]+\)|[^() ]+) [^() ]+\)", row[2]) if schemes[name] == b"cell" else row[2].split(b" ")
             printed[name].append(b"(row " + b" ".join(items[1:] if schemes[name] == b"row" else items) + b")\n")
     return max((len(b"".join(rows)) + len(b"(end %d 0 0)\n" % len(rows)) for rows in printed.values()), default=0)
 

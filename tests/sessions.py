@@ -176,6 +176,35 @@ BLANKS = SAMPLE[:4] + ASKER + [
     "(table bare cell (a num))",
 ]
 
+# ranges (02, Q-12), under the same labels
+RANGES = BLANKS[: BLANKS.index("(table neg cell (k num) (n num))")] + [
+    "(table est row (who name) (due num))",
+    "(row est free Ida 5)",
+    "(row est free Bo (3 8))",
+    "(row est free Cy (5 5))",
+    "(row est free Dot (-3 -3))",
+    "(row est free Eve (-9223372036854775808 9223372036854775807))",
+    "(row est noads Fay (6 7))",
+    "(table cel cell (who name) (due num))",
+    "(row cel (Ida free) ((1 4) free))",
+    "(row cel (Bo free) ((1 9) noads))",
+    "(row cel (Cy noads) (7 free))",
+    "(table open none (due num) (lot num))",
+    "(public open)",
+    "(row open (1 5) 7)",
+    "(row open 3 9)",
+    "(table bare none (due num))",
+    "(row bare (1 5))",
+    "(table led table noads (due num))",
+    "(row led (1 5))",
+    "(table cols column (due num noads) (who name free))",
+    "(row cols (1 5) Gus)",
+]
+# the only range of the table stands in a row that is withheld for post
+ONE_RANGE = RANGES[: RANGES.index("(row est free Bo (3 8))")] + ["(row est noads Fay (6 7))"]
+# closed to post, the same in other ends
+OTHER_ENDS = [line.replace("(6 7)", "(-6 70)").replace("(1 9)", "(9 9)") for line in RANGES]
+
 DAY = "(clock 2026 100 10)"
 NIGHT = "(clock 2026 100 21)"
 LEAP = "(clock 2028 366 10)"
@@ -203,6 +232,22 @@ def dashed(long, blank):
     """A policy with so many rows of a name of 24 bytes, and so many closed ones."""
     shut = ["(label shut (allow) (deny))", "(table long cell (who name))"]
     return SAMPLE[:11] + shut + ["(row long (" + "a" * 24 + " free))"] * long + ["(row long (" + "b" * 24 + " shut))"] * blank
+
+
+LONG_RANGE = "(-9223372036854775808 -9223372036854775807)"
+
+
+def long_ranges(n):
+    """A policy with n rows of a range of 43 bytes."""
+    return SAMPLE[:11] + ["(table long none (who num))", "(public long)"] + [f"(row long {LONG_RANGE})"] * n
+
+
+def both(name, condition, sure, possible):
+    """Two sessions over `est`, of whose six rows one is withheld: who is given by sure, and who by possible."""
+    return [
+        one(f"{word}, {name}", f"({word} ana desk post est (who) {condition})", [f"(row {who})" for who in names] + [end(len(names), 1, 5 - len(names))], DAY, RANGES)
+        for word, names in (("sure", sure), ("possible", possible))
+    ]
 
 
 SIXTEEN = " ".join(["who"] * 16)
@@ -415,6 +460,82 @@ SESSIONS = [
     one("blank in mixed case", "(Blank ana desk post sub (Who due) (Gt Due 50))", ["(row - 60)", end(1, 2, 1)]),
     one("blank, an answer of 60,000 bytes", "(blank ana desk post long (" + SIXTEEN + "))", [LONG_ROW] * 147 + [DASHES] * 8 + [end(155, 0, 0)], DAY, dashed(147, 8)),
     one("blank, an answer of 60,038 bytes", "(blank ana desk post long (" + SIXTEEN + "))", (18, None), DAY, dashed(147, 9)),
+    # ranges (02, Q-12)
+    *both("lt", "(lt due 5)", ["Dot"], ["Bo", "Dot", "Eve"]),
+    *both("le", "(le due 5)", ["Ida", "Cy", "Dot"], ["Ida", "Bo", "Cy", "Dot", "Eve"]),
+    *both("gt", "(gt due 5)", [], ["Bo", "Eve"]),
+    *both("ge", "(ge due 5)", ["Ida", "Cy"], ["Ida", "Bo", "Cy", "Eve"]),
+    *both("eq", "(eq due 5)", ["Ida", "Cy"], ["Ida", "Bo", "Cy", "Eve"]),
+    *both("ne", "(ne due 5)", ["Dot"], ["Bo", "Dot", "Eve"]),
+    *both("an end that is in it", "(ge due 3)", ["Ida", "Bo", "Cy"], ["Ida", "Bo", "Cy", "Eve"]),
+    *both("beyond an end", "(lt due 3)", ["Dot"], ["Dot", "Eve"]),
+    *both("the upper end", "(le due 8)", ["Ida", "Bo", "Cy", "Dot"], ["Ida", "Bo", "Cy", "Dot", "Eve"]),
+    *both("eq of one number below zero", "(eq due -3)", ["Dot"], ["Dot", "Eve"]),
+    *both("ne of one number below zero", "(ne due -3)", ["Ida", "Bo", "Cy"], ["Ida", "Bo", "Cy", "Eve"]),
+    *both("all numbers", "(ge due -9223372036854775808)", ["Ida", "Bo", "Cy", "Dot", "Eve"], ["Ida", "Bo", "Cy", "Dot", "Eve"]),
+    *both("the largest number", "(gt due 9223372036854775806)", [], ["Eve"]),
+    *both("the least number", "(eq due -9223372036854775808)", [], ["Eve"]),
+    *both("not", "(not (lt due 5))", ["Ida", "Cy"], ["Ida", "Bo", "Cy", "Eve"]),
+    *both("not twice", "(not (not (lt due 5)))", ["Dot"], ["Bo", "Dot", "Eve"]),
+    *both("or of a comparison and its contrary", "(or (lt due 5) (ge due 5))", ["Ida", "Cy", "Dot"], ["Ida", "Bo", "Cy", "Dot", "Eve"]),
+    *both("and of a comparison and its contrary", "(and (lt due 5) (ge due 5))", [], ["Bo", "Eve"]),
+    *both("not of that and", "(not (and (lt due 5) (ge due 5)))", ["Ida", "Cy", "Dot"], ["Ida", "Bo", "Cy", "Dot", "Eve"]),
+    *both("names", "(ne who IDA)", ["Bo", "Cy", "Dot", "Eve"], ["Bo", "Cy", "Dot", "Eve"]),
+    *both("names and ranges", "(not (or (eq who bo) (gt due 0)))", ["Dot"], ["Dot", "Eve"]),
+    one("sure without a condition", "(sure ana desk post est (who due))", ["(row Ida 5)", "(row Bo (3 8))", "(row Cy (5 5))", "(row Dot (-3 -3))", "(row Eve (-9223372036854775808 9223372036854775807))", end(5, 1, 0)], DAY, RANGES),
+    one("possible without a condition, columns again", "(possible ana desk bill cel (due who DUE))", ["(row (1 4) Ida (1 4))", "(row (1 9) Bo (1 9))", "(row 7 Cy 7)", end(3, 0, 0)], DAY, RANGES),
+    one("sure, another purpose", "(sure ana desk bill est (who due) (ge due 6))", ["(row Fay (6 7))", end(1, 0, 5)], DAY, RANGES),
+    one("sure over cells", "(sure ana desk post cel (who due))", ["(row Ida (1 4))", end(1, 2, 0)], DAY, RANGES),
+    one("sure over cells, a condition", "(sure ana desk post cel (who) (gt due 3))", [end(0, 2, 1)], DAY, RANGES),
+    one("possible over cells, a condition", "(possible ana desk post cel (who) (gt due 3))", ["(row Ida)", end(1, 2, 0)], DAY, RANGES),
+    one("possible over cells, one column", "(possible ana desk post cel (due) (gt due 3))", ["(row (1 4))", "(row 7)", end(2, 1, 0)], DAY, RANGES),
+    one("sure over a public table", "(sure ana desk post open (due lot) (eq due 3))", ["(row 3 9)", end(1, 0, 1)], DAY, RANGES),
+    one("possible over a public table", "(possible ana desk post open (due lot) (eq due 3))", ["(row (1 5) 7)", "(row 3 9)", end(2, 0, 0)], DAY, RANGES),
+    one("sure, undeclared", "(sure ana desk post bare (due))", (17, "bare"), DAY, RANGES),
+    one("possible, table closed", "(possible ana desk post led (due))", (17, "led"), DAY, RANGES),
+    one("possible, table open", "(possible ana desk bill led (due) (ge due 5))", ["(row (1 5))", end(1, 0, 0)], DAY, RANGES),
+    one("sure, column closed", "(sure ana desk post cols (who due))", (17, "due"), DAY, RANGES),
+    one("sure, column open", "(sure ana desk bill cols (who due) (le due 5))", ["(row Gus (1 5))", end(1, 0, 0)], DAY, RANGES),
+    one("sure where there is no range", "(sure ana desk post sub (who) (gt due 50))", ["(row Cy)", end(1, 1, 1)], LEAP, SAMPLE),
+    one("possible where there is no range", "(possible ana desk post sub (who) (gt due 50))", ["(row Cy)", end(1, 1, 1)], LEAP, SAMPLE),
+    one("closed ranges in other ends, sure", "(sure ana desk post est (who) (le due 5))", ["(row Ida)", "(row Cy)", "(row Dot)", end(3, 1, 2)], DAY, OTHER_ENDS),
+    one("closed ranges in other ends, possible", "(possible ana desk post cel (due) (gt due 3))", ["(row (1 4))", "(row 7)", end(2, 1, 0)], DAY, OTHER_ENDS),
+    # 27
+    one("27, selected", "(select ana desk post est (who due))", (27, "due"), DAY, RANGES),
+    one("27, the leftmost", "(select ana desk post est (due who DUE))", (27, "due"), DAY, RANGES),
+    one("27, in the condition", "(select ana desk post est (who) (or (eq who Ida) (eq Due 5)))", (27, "Due"), DAY, RANGES),
+    one("27, count", "(count ana desk post est (gt due 3))", (27, "due"), DAY, RANGES),
+    one("27, blank", "(blank ana desk post cel (who due))", (27, "due"), DAY, RANGES),
+    one("27, the one column with a range", "(select ana desk post open (lot due))", (27, "due"), DAY, RANGES),
+    one("27, a range in a withheld row alone", "(count ana desk post est (gt due 3))", (27, "due"), DAY, ONE_RANGE),
+    one("27, the same, asked by sure", "(sure ana desk post est (who due))", ["(row Ida 5)", end(1, 1, 0)], DAY, ONE_RANGE),
+    one("27 before 17, a closed table", "(select ana desk post led (due))", (27, "due"), DAY, RANGES),
+    one("27 before 17, a closed column", "(select ana desk post cols (who due))", (27, "due"), DAY, RANGES),
+    one("27 before 17, an undeclared table", "(count ana desk post bare (eq due 1))", (27, "due"), DAY, RANGES),
+    one("17 where no column with a range is named", "(count ana desk post led)", (17, "led"), DAY, RANGES),
+    one("27 before 18", "(select ana desk post long (" + SIXTEEN + "))", (27, "who"), DAY, long_ranges(85)),
+    one("15 before 27", "(select ana desk post est (due what))", (15, "what"), DAY, RANGES),
+    one("16 before 27", "(select ana desk post est (due) (eq due x))", (16, "x"), DAY, RANGES),
+    one("16 before 27, an operator", "(select ana desk post est (due) (lt who Ida))", (16, "lt"), DAY, RANGES),
+    one("no column with a range named", "(select ana desk post est (who) (eq who ida))", ["(row Ida)", end(1, 1, 4)], DAY, RANGES),
+    one("no column with a range named, a blank", "(blank ana desk post cel (who))", ["(row Ida)", "(row Bo)", "(row -)", end(3, 0, 0)], DAY, RANGES),
+    one("ranges and nothing named", "(count ana desk post est)", [end(5, 1, 0)], DAY, RANGES),
+    one("a number beside a column of ranges", "(select ana desk post open (lot) (gt lot 7))", ["(row 9)", end(1, 0, 1)], DAY, RANGES),
+    # forms of sure and possible
+    one("sure without columns", "(sure ana desk post est)", (11, WHOLE), DAY, RANGES),
+    one("possible with an empty bracket", "(possible ana desk post est ())", (11, WHOLE), DAY, RANGES),
+    one("sure of 17 columns", "(sure ana desk post est (" + SIXTEEN + " who))", (11, WHOLE), DAY, RANGES),
+    one("a range in a comparison", "(sure ana desk post est (who) (eq due (1 5)))", (11, WHOLE), DAY, RANGES),
+    one("a range for a column", "(possible ana desk post est ((1 5)))", (11, WHOLE), DAY, RANGES),
+    one("another word for sure", "(surely ana desk post est (who))", (11, WHOLE), DAY, RANGES),
+    one("sure, unknown user", "(sure zed desk post est (who))", (12, "zed"), DAY, RANGES),
+    one("possible, unknown purpose", "(possible ana desk sport est (who))", (12, "sport"), DAY, RANGES),
+    one("sure, unknown column", "(sure ana desk post est (who what))", (15, "what"), DAY, RANGES),
+    one("possible, a name for a number", "(possible ana desk post est (who) (not (eq due Ida)))", (16, "Ida"), DAY, RANGES),
+    one("sure in capitals", "(SURE ANA DESK POST EST (WHO) (LT DUE 5))", ["(row Dot)", end(1, 1, 4)], DAY, RANGES),
+    one("possible in mixed case", "(Possible ana desk post Est (Who) (Gt Due 8))", ["(row Eve)", end(1, 1, 4)], DAY, RANGES),
+    one("sure, an answer of 59,653 bytes", "(sure ana desk post long (" + SIXTEEN + "))", ["(row" + (" " + LONG_RANGE) * 16 + ")"] * 84 + [end(84, 0, 0)], DAY, long_ranges(84)),
+    one("sure, an answer of 60,363 bytes", "(sure ana desk post long (" + SIXTEEN + "))", (18, None), DAY, long_ranges(85)),
     # names without case (02, Q-8)
     one("user, role, purpose and table in another case", "(count Ana DESK Post SUB)", [end(4, 0, 0)]),
     one("a purpose in another case than its definition, grant and label", "(select ana desk ADS Recs (who))", ["(row Fay)", end(1, 1, 0)], DAY, TWO_CASES),
@@ -525,5 +646,7 @@ def cases():
     yield "a second public line", (once + "(public open)\n").encode(), (DAY + "\n").encode(), f"(refused 4 document {len(once) + 8} 4)\n".encode()
     yield "a second public line in another case", (once + "(PUBLIC Open)\n").encode(), (DAY + "\n").encode(), f"(refused 4 document {len(once) + 8} 4)\n".encode()
     yield "a public line for an unknown table", (once + "(public nowhere)\n").encode(), (DAY + "\n").encode(), f"(refused 5 document {len(once) + 8} 7)\n".encode()
+    ranges = "".join(line + "\n" for line in RANGES)
+    yield "a reversed range", (ranges + "(row est free Gus (7 6))\n").encode(), (DAY + "\n").encode(), f"(refused 28 document {len(ranges) + 18} 5)\n".encode()
     yield "a zero byte in a query", sample, LEAP.encode() + b"\n(count ana desk post sub\0)\n", b"(refused 11 query 0 26)\n"
     yield "bytes above 127", sample, LEAP.encode() + b"\n\xff\xfe\xc3\xa9\n", b"(refused 11 query 0 4)\n"
