@@ -218,7 +218,7 @@ int main(void)
     print_checked(number, doc, figures);
     if (number != GATE_ACCEPTED || figures[GATE_RESERVE] > sizeof buffer)
         return EXIT_FAILURE;
-    /* A buffer of this length is never too short for a select or blank that repeats no column. */
+    /* A buffer of this length is never too short for a query whose column bracket repeats no column. */
     reserve = (size_t)figures[GATE_RESERVE];
 
     printf("-- the sample query, asked\n");

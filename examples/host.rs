@@ -114,7 +114,7 @@ fn show(to: &mut impl Write) -> io::Result<bool> {
     let Ok(Checked { reserve, .. }) = checked else { return Ok(false) };
 
     writeln!(to, "-- the sample query, asked")?;
-    // A buffer of this length is never too short for a select or blank that repeats no column.
+    // A buffer of this length is never too short for a query whose column bracket repeats no column.
     let mut buffer = vec![MARK; reserve];
     let first = ask(doc, query, CLOCK, &mut buffer);
     print_answered(to, doc, query, &buffer, &first)?;

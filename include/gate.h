@@ -42,7 +42,7 @@ extern "C" {
 #define GATE_FIGURES 5
 
 /* What the calls return: 0, or the number of a refusal. Where several hold, a document is refused for its first failing line
- * and there with the lowest number, and a query with the lowest number. Each line says which part is handed back.
+ * and there with the first of these, and a query with the first of its own. Each line says which part is handed back.
  * docs/refusals.tsv has the same with what to do about each; tests/refusals compares the two, and both with the definition. */
 enum gate_outcome {
     GATE_ACCEPTED = 0,             /* nothing is refused */
@@ -58,6 +58,7 @@ enum gate_outcome {
     GATE_WRONG_VALUES = 7,         /* a row or user without the right count or set of values, or row items not shaped for the
                                       table's scheme; part: the whole line */
     GATE_WRONG_TYPE = 8,           /* a value or operator of the wrong type; part: the operator or the value */
+    GATE_RANGE_REVERSED = 28,      /* a range with LOW above HIGH; part: the range, its bracket included */
     GATE_LATE_ATTRIBUTE = 9,       /* an attr line after any user line; part: the whole line */
 
     /* of the query, by gate_ask and, but for 18, by gate_measure */
@@ -68,6 +69,7 @@ enum gate_outcome {
     GATE_NOT_AUTHORISED = 14,      /* purpose not authorised; part: the purpose */
     GATE_UNKNOWN_COLUMN = 15,      /* table or named column unknown; part: that name */
     GATE_MISTYPED_QUERY = 16,      /* wrong type in the condition; part: the operator or the value */
+    GATE_RANGE_NOT_TAKEN = 27,     /* a range in any row of a named column in a select, blank or count; part: that column */
     GATE_CLOSED = 17,              /* table or column closed; part: that table or column */
     GATE_BUFFER_TOO_SHORT = 18,    /* answer longer than the lent buffer; part: empty, at the start */
 
@@ -90,7 +92,7 @@ enum gate_source {
 enum gate_checked_figure {         /* gate_check, accepted */
     GATE_LINES = 0,                /* how many lines the document has */
     GATE_RESERVE = 1               /* how long the longest answer among tables is, each with all its columns once and all its rows; no
-                                      answer to a select or blank whose column bracket repeats no column is longer */
+                                      answer whose query's column bracket repeats no column is longer */
 };
 enum gate_answered_figure {        /* gate_ask, accepted; of gate_measure, gate_import and gate_measure_import the first alone */
     GATE_LENGTH = 0,               /* how many bytes of the buffer the answer or the lines fill, from the first on */
@@ -136,13 +138,13 @@ struct gate_document {
     uint64_t rows[35840];
 };
 
-/* Checks a document. Returns GATE_ACCEPTED, or the number of a refusal, 1 to 9. */
+/* Checks a document. Returns GATE_ACCEPTED, or the number of a refusal, 1 to 9 or 28. */
 uint64_t gate_check(const uint8_t *doc, size_t doc_len, uint64_t *figures);
 
 /* Asks a document with a query at the time of the clock: year 1 to 9999, day 1 to 365 or in a leap year 366, hour 0 to 23.
  * The document is checked each time, so gate_check need not come first; a host that asks it again loads it once (gate_load).
  * Returns GATE_ACCEPTED, the answer standing in the first bytes of `out` and the bytes behind it being as they were; or the
- * number of a refusal, 1 to 18, every byte of `out` being as it was. */
+ * number of a refusal, 1 to 18, 27 or 28, every byte of `out` being as it was. */
 uint64_t gate_ask(const uint8_t *doc, size_t doc_len, const uint8_t *query, size_t query_len, uint64_t year, uint64_t day,
                   uint64_t hour, uint8_t *out, size_t out_len, uint64_t *figures);
 
@@ -168,7 +170,7 @@ uint64_t gate_measure_arrays(const uint8_t *doc, size_t doc_len, const uint64_t 
                              const uint8_t *query, size_t query_len, const uint64_t *clock, uint64_t *figures);
 
 /* Checks a document, as gate_check does and with the same figures, and holds it in the struct, whatever that held before.
- * Returns GATE_ACCEPTED, or the number of a refusal, 1 to 9; the struct then holds none. With a library of another version than
+ * Returns GATE_ACCEPTED, or the number of a refusal, 1 to 9 or 28; the struct then holds none. With a library of another version than
  * this header's it gives GATE_NOT_LOADED. */
 static inline uint64_t gate_load(struct gate_document *loaded, const uint8_t *doc, size_t doc_len, uint64_t *figures)
 {
