@@ -178,6 +178,16 @@ impl Case {
         Case { scheme, size, text, select, blank, count, refused: Vec::new() }
     }
 
+    /// The same with the queries that take ranges.
+    fn ranged(self) -> Case {
+        let [sure, possible] = ["(sure ", "(possible "].map(|word| self.select.replacen("(select ", word, 1));
+        Case { select: sure, blank: possible, ..self }
+    }
+
+    pub fn is_ranged(&self) -> bool {
+        RANGED.contains(&self.scheme)
+    }
+
     /// How many row lines it has.
     pub fn rows(&self) -> usize {
         self.text.split(|&byte| byte == b'\n').filter(|line| line.starts_with(b"(row ")).count()
@@ -236,6 +246,35 @@ pub fn cases() -> Vec<Case> {
     cases
 }
 
+/// Documents of scheme none with a range for every other amount, and for `visits` in each row.
+pub fn ranges() -> Vec<Case> {
+    let text = |bytes: usize| {
+        let plain = String::from_utf8(document(Scheme::None, bytes)).expect("names and numbers");
+        let mut text = String::new();
+        for (place, line) in plain.lines().enumerate() {
+            let line = if line.starts_with("(row sub ") { with_ranges(line, place % 2 == 0) } else { line.into() };
+            if text.len() + line.len() < bytes {
+                text.push_str(&line);
+                text.push('\n');
+            }
+        }
+        text.into_bytes()
+    };
+    // The count is of a column without ranges.
+    let count = "(count ana desk post sub (and (ne plan plan-7) (ne town Ulm)))";
+    SIZES.map(|(size, bytes)| Case::new("ranges", size, text(bytes), SELECT.into(), count.into()).ranged()).into()
+}
+
+/// A row of six values with its last, and if wanted its second, made a range of a hundred numbers.
+fn with_ranges(line: &str, both: bool) -> String {
+    let mut words: Vec<String> = line.trim_end_matches(')').split(' ').map(String::from).collect();
+    for place in if both { vec![3, 7] } else { vec![7] } {
+        let low: i64 = words[place].parse().expect("a number");
+        words[place] = format!("({low} {})", low + 100);
+    }
+    words.join(" ") + ")"
+}
+
 /// Documents without rows: so many purposes, each below the one before it. The root is granted and the last is asked for.
 pub const CHAIN: &str = "chain";
 
@@ -257,7 +296,11 @@ fn purpose(number: usize) -> String {
 }
 
 /// The cases that are made to be bad, which the goals leave out.
-pub const BAD: [&str; 10] = ["full", "turns", "dear", "front", "mixed", "nots", "cased", "alike", "wide", "gaps"];
+pub const BAD: [&str; 11] = ["full", "turns", "dear", "front", "mixed", "nots", "cased", "alike", "wide", "gaps", "ends"];
+
+/// The cases with ranges (02, Q-12): asked by sure in place of select and by possible in place of blank, and not by the peers, which have
+/// no such values.
+pub const RANGED: [&str; 2] = ["ranges", "ends"];
 
 /// Lookups that are dear: 64 labels of 24 bytes that differ in the last two, each of 16 cells in a row with the last of them.
 pub fn dear_lookups() -> Case {
@@ -350,6 +393,14 @@ fn plain(scheme: &'static str, columns: &str, values: &str, selected: &str, cond
 pub fn nested_nots() -> Case {
     let compared = "(not (not (not (not (not (lt c00 0))))))";
     plain("nots", " (c00 num)", " 5", "c00", &format!("(and{})", format!(" {compared}").repeat(64)))
+}
+
+/// 64 comparisons below five `not`s each with the range of all numbers, none of which is sure and every one possible, in every row.
+pub fn both_ends() -> Case {
+    let compared = "(not (not (not (not (not (lt c00 0))))))";
+    let all = " (-9223372036854775808 9223372036854775807)";
+    let case = plain("ends", " (c00 num)", all, "c00", &format!("(and{})", format!(" {compared}").repeat(64))).ranged();
+    Case { count: "(count ana desk all sub)".into(), ..case }
 }
 
 /// 64 comparisons of names that are the same to the last byte, every one of which is met in every row.

@@ -185,7 +185,8 @@ fn agree_sqlite(case: &Case, call: Call, sqlite: &Sqlite, answer: &[u8]) {
 
 /// Loads a document wherever it can be loaded, all answers being the same.
 fn hold(case: &Case) -> Holders {
-    let mut holders = Holders { loaded: Loaded::new(), sqlite: Sqlite::open(case) };
+    let sqlite = if case.is_ranged() { None } else { Sqlite::open(case) };
+    let mut holders = Holders { loaded: Loaded::new(), sqlite };
     assert_eq!(holders.loaded.load(&case.text).0, 0, "{} is loaded", key(case));
     for call in CALLS {
         let (answer, figures) = agree(case, call);
@@ -285,6 +286,7 @@ fn once(what: &str, case: &Case) {
 
 fn main() -> std::io::Result<()> {
     let mut cases = documents::cases();
+    cases.extend(documents::ranges());
     cases.push(documents::chain("64", 64));
     cases.push(documents::chain("256", 256));
     cases.push(documents::full_condition());
@@ -297,6 +299,7 @@ fn main() -> std::io::Result<()> {
     cases.push(documents::alike_names());
     cases.push(documents::wide_answer());
     cases.push(documents::gaps());
+    cases.push(documents::both_ends());
     let words: Vec<String> = std::env::args().skip(1).collect();
     let words: Vec<&str> = words.iter().map(String::as_str).collect();
     let named = |wanted: &str| cases.iter().find(|case| key(case) == wanted).expect("a key that `bench keys` prints");

@@ -64,7 +64,9 @@ fn explain(turns: usize, in_a_row: usize) {
     println!("Bad inputs. full: scheme none, a condition of 64 comparisons that come out alike in most rows; turns: that come out otherwise in nearly every row.");
     println!("dear: 64 labels of 24 bytes alike but for the last two; front: but for the first two; mixed: as dear, used in another case than defined.");
     println!("nots: 64 comparisons below five nots each; alike: 64 of names that are the same; cased: the same but for their case; wide: one column selected sixteen times.");
-    println!("gaps: sixteen columns selected, every other cell closed, so that a select gives no row and a blank eight gaps in each.\n");
+    println!("gaps: sixteen columns selected, every other cell closed, so that a select gives no row and a blank eight gaps in each.");
+    println!("ranges: scheme none, a range for every other amount; ends: 64 comparisons below five nots each with the range of all numbers.");
+    println!("Of these two the rows select and blank are of sure and possible.\n");
 }
 
 /// Asking from the text, and its goals.
