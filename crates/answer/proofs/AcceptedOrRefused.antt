@@ -18,7 +18,7 @@ use Rattle.document.specs.Policy.{Doc}
 use Rattle.lists.proofs.Tests.{not-false}
 use Rattle.lists.specs.Lists.{orZero, there}
 use Rattle.query.specs.Authority.{Clock, firstGrant, inRange}
-use Rattle.query.specs.Query.{closedPart, mistypedQuery, resolved, unknownColumn, unknownParty}
+use Rattle.query.specs.Query.{closedPart, missingDate, mistypedQuery, resolved, unknownColumn, unknownParty}
 use Rattle.query.specs.QueryForm.{QueryForm, queryOf}
 use Rattle.text.proofs.RefusalLaws.{accepted-same, bind-accepted, bind-bind, bind-cong, need-accepted, refuseAt-accepted, refuseIf-accepted, then-accepted, then-bind, then-cong}
 use Rattle.text.specs.Refusal.{Refusal, Result, Source, _>>=_, _>>_, accepted, need, pointing, pointingAll, pointingNowhere, query, refuseAt, refuseIf, refused}
@@ -82,7 +82,7 @@ module _ {A : Type 0} (fs : List Fault) where
 -- ---- a query as read
 
 module _ (d : Doc) (c : Clock) (q : QueryForm) where
-  -- a query is refused with the first of 12 to 16, 27 and 17 whose condition holds
+  -- a query is refused with the first of 12 to 16, 27, 31 and 17 whose condition holds
   form-number : refusalNumber (answerForm d c q) ≡ firstFault (formFaults d c q)
   unfolding answerForm formFaults pointing orZero
   form-number =
@@ -92,9 +92,10 @@ module _ (d : Doc) (c : Clock) (q : QueryForm) where
       at-number _ _ _ _ _ (
       at-number _ _ _ _ _ (
       at-number _ _ _ _ _ (
-      at-number _ _ _ _ _ (accepted-number _))))))))
+      at-number _ _ _ _ _ (
+      at-number _ _ _ _ _ (accepted-number _)))))))))
 
--- none of 12 to 17 and 27 holds, and this is the answer
+-- none of 12 to 17, 27 and 31 holds, and this is the answer
 pub record Answers (d : Doc) (c : Clock) (q : QueryForm) (r : Answered) : Type 0 where
   pub user : ℕ
   pub grant : ℕ
@@ -104,6 +105,7 @@ pub record Answers (d : Doc) (c : Clock) (q : QueryForm) (r : Answered) : Type 0
   pub columns : unknownColumn (d .policy) q ≡ none
   pub types : mistypedQuery (d .policy) q ≡ none
   pub ranges : rangedColumn d q ≡ none
+  pub dates : missingDate q ≡ none
   pub parts : closedPart (d .policy) q ≡ none
   pub is : r ≡ record { answer = answerTo (resolved (d .policy) q) (seenRows d (resolved (d .policy) q)); grant = grant }
 
@@ -117,6 +119,7 @@ answered d c q r h =
     let h5 = then-accepted _ _ _ (h4 .2) in
     let h6 = then-accepted _ _ _ (h5 .2) in
     let h7 = then-accepted _ _ _ (h6 .2) in
+    let h8 = then-accepted _ _ _ (h7 .2) in
     record {
       user = h2 .0;
       grant = h3 .0;
@@ -126,13 +129,14 @@ answered d c q r h =
       columns = refuseAt-accepted 15 query _ (h4 .1);
       types = refuseAt-accepted 16 query _ (h5 .1);
       ranges = refuseAt-accepted 27 query _ (h6 .1);
-      parts = refuseAt-accepted 17 query _ (h7 .1);
-      is = sym (accepted-same (h7 .2));
+      dates = refuseAt-accepted 31 query _ (h7 .1);
+      parts = refuseAt-accepted 17 query _ (h8 .1);
+      is = sym (accepted-same (h8 .2));
     }
 
 pub is-answered : (d : Doc) (c : Clock) (q : QueryForm) (r : Answered) → Answers d c q r → answerForm d c q ≡ accepted r
 unfolding answerForm refuseAt need _>>_ _>>=_
-is-answered d c q r a = rw (a .party, a .has-role, a .authorised, a .columns, a .types, a .ranges, a .parts) (ap {B = Result Answered} accepted (sym (a .is)))
+is-answered d c q r a = rw (a .party, a .has-role, a .authorised, a .columns, a .types, a .ranges, a .dates, a .parts) (ap {B = Result Answered} accepted (sym (a .is)))
 
 -- ---- asking
 
@@ -145,8 +149,8 @@ ask-steps doc text c room =
     then-bind (refuseIf (not (inRange c)) (pointingNowhere 10 query)) _ _ ∙ then-cong (refuseIf (not (inRange c)) (pointingNowhere 10 query)) _ _ (λ _ _.
     bind-bind (need (queryOf text) (pointingAll 11 query text)) _ _))
 
--- Asking about an accepted document is refused with the first of 10 to 18 and 27, in their order, whose condition holds,
--- and accepted when none holds.
+-- Asking about an accepted document is refused with the first of 10 to 18, 27 and 31, in their order, whose condition
+-- holds, and accepted when none holds.
 pub lowest-refused : (doc text : List ℕ) (A : Accepted) → check doc ≡ accepted A → (c : Clock) (room : ℕ)
     → refusalNumber (ask doc text c room) ≡ firstFault (askFaults (A .doc) text c room)
 unfolding ask askUnbounded ifFits _>>=_ askFaults queryFaults formAnswer pointingAll pointingNowhere

@@ -25,7 +25,7 @@ use Rattle.query.proofs.NamedAll.{all-withhold}
 use Rattle.query.proofs.NamedColumns.{columns-known, names-parts, parts-open}
 use Rattle.query.proofs.WantedLaws.{gaps-map}
 use Rattle.query.specs.Authority.{Clock, firstGrant}
-use Rattle.query.specs.Query.{PartsOpen, Query, mistypedQuery, resolved, unknownColumn, wantedOf}
+use Rattle.query.specs.Query.{PartsOpen, Query, missingDate, mistypedQuery, resolved, unknownColumn, wantedOf}
 use Rattle.query.specs.QueryForm.{QueryForm, Verb, hasGaps, namedRefs, namedWords, rowsOf, selectedRefs, selectedWords, testedRefs}
 use Rattle.text.specs.Numbers.{Value}
 use Rattle.text.specs.Refusal.{accepted}
@@ -141,7 +141,7 @@ module _ (d : Doc) (q : QueryForm) (w : Word) (p : ℕ) (is-p : purposeOf (d .po
       × Sublistᴰ (passedRows (satisfies (resolved (d .policy) q)) (seenRows d (resolved (d .policy) q)))
       (passedRows (satisfies (resolved (d .policy) q)) (seenRows d (resolved (d .policy) (forPurpose w q))))
       × (s .answer .withheld ≤ r .answer .withheld)
-  unfolding answerTo counted forPurpose unknownColumn mistypedQuery namedWords namedRefs selectedRefs testedRefs selectedWords orZero rangedColumn rangedWord
+  unfolding answerTo counted forPurpose unknownColumn mistypedQuery namedWords namedRefs selectedRefs testedRefs selectedWords orZero rangedColumn rangedWord missingDate
   further-down whole c r h =
       let a = answered d c q r h in
       let parts = names-parts (d .policy) q (columns-known (d .policy) q (a .columns)) in
@@ -159,6 +159,7 @@ module _ (d : Doc) (q : QueryForm) (w : Word) (p : ℕ) (is-p : purposeOf (d .po
           columns = a .columns;
           types = a .types;
           ranges = a .ranges;
+          dates = a .dates;
           parts = parts-down (d .policy) q w p is-p below (a .parts);
           is = refl;
         }),

@@ -1,13 +1,16 @@
--- No value in a column of names of an accepted document is a range. Assumes nothing.
+-- No value in a column of names or dates of an accepted document is a range. Assumes nothing.
 use Prim.Native.Nat.{suc, zero, ℕ}
 use lib.ListN.{getD, getElem?}
 use mathlib.Core.Bool.{Bool, _&&_, false, not, true}
-use mathlib.Core.List.{List, [], _∷_, map}
+use mathlib.Core.List.{List, [], _++_, _∷_, map}
 use mathlib.Core.Option.{Option, Option·getD, Option·map, Option·none-ne-some, Option·some-injective, bind, none, some}
 use mathlib.Core.Path.{_∙_, _≡_, ap, refl, sym}
 use native.Mathlib.Omega.{arith}
+use Rattle.calendar.proofs.DateValues.{DateShape, enclosed-date}
+use Rattle.calendar.specs.Calendar.{Date}
+use Rattle.calendar.specs.DateText.{dateOf, dateText, isDate}
 use Rattle.condition.proofs.RangeLaws.{fitsMode}
-use Rattle.condition.specs.Kinds.{Kind, hasKind, names, numbers}
+use Rattle.condition.specs.Kinds.{Kind, dates, hasKind, names, numbers}
 use Rattle.document.proofs.Accepting.{check-accepted, last-accepted, line-accepted, more-accepted}
 use Rattle.document.proofs.Kept.{Kept, kept-from}
 use Rattle.document.specs.Check.{Accepted, check, checkFrom, checkLine}
@@ -23,15 +26,17 @@ use Rattle.lists.proofs.ListLaws.{findIndex-found, there-some}
 use Rattle.lists.proofs.Tests.{and-both, and-left, and-right, true-not-false}
 use Rattle.lists.specs.Lists.{allOf, holdsOf, orZero, there}
 use Rattle.text.proofs.OffendingLaws.{leftmost-head, leftmost-tail, unless-none}
+use Rattle.text.proofs.ReadBack.{Gives, gives, left, next-reads, number-reads}
 use Rattle.text.proofs.ReaderLaws.{byte-at-refused}
-use Rattle.text.specs.Amounts.{isRange, range, rangeOf}
-use Rattle.text.specs.Brackets.{bracketed}
-use Rattle.text.specs.Bytes.{isDigit, isLetter}
+use Rattle.text.proofs.Written.{spells-whole}
+use Rattle.text.specs.Amounts.{Range, isRange, range, rangeOf}
+use Rattle.text.specs.Brackets.{bracketed, next}
+use Rattle.text.specs.Bytes.{isDigit, isLetter, isNameByte}
 use Rattle.text.specs.Names.{isName}
 use Rattle.text.specs.Numbers.{Value, digitsFrom, magnitude, noLeadingZero, rank}
-use Rattle.text.specs.Reader.{ended, whole}
+use Rattle.text.specs.Reader.{Left, _>>=_, _>>_, andThen, byte, ended, give, whole}
 use Rattle.text.specs.Refusal.{accepted}
-use Rattle.text.specs.Words.{Word, isCalled}
+use Rattle.text.specs.Words.{Word, isCalled, readNumber}
 
 -- ---- values that are no ranges
 
@@ -50,9 +55,34 @@ unfolding rank magnitude noLeadingZero digitsFrom isDigit bind
 number-plain [] n h = absurd (Option·none-ne-some n h)
 number-plain (b ∷ bs) n h = unopened (b ∷ bs) (λ e. absurd (Option·none-ne-some n (sym (ap (λ c. rank (c ∷ bs)) e) ∙ h)))
 
+-- a date
+module _ {d : Date} {v : Value} (t : DateShape d v) where
+  behind-month : (low : ℕ) {m : ℕ} {o : Option (ℕ × Left)} → Gives (λ (n : ℕ). n) m (32 ∷ (t .third ++ 41 ∷ [])) o
+      → andThen {A = Range} {B = Range} (andThen o (λ b. give {A = Range} (record { low = low; high = b }))) (λ x. byte 41 >> give x) ≡ none
+  unfolding byte
+  behind-month low (gives p) = refl
+
+  behind-year : {m : ℕ} {o : Option (ℕ × Left)} → Gives (λ (n : ℕ). n) m (32 ∷ (t .second ++ 32 ∷ (t .third ++ 41 ∷ []))) o
+      → andThen {A = Range} {B = Range} (andThen o (λ a. next readNumber >>= (λ b. give {A = Range} (record { low = a; high = b })))) (λ x. byte 41 >> give x) ≡ none
+  behind-year (gives {y} {at = j} p) = behind-month y (next-reads (number-reads (t .second) (32 ∷ (t .third ++ 41 ∷ [])) (t .isMonth .k) (t .isMonth .ranked) (unfold isNameByte isLetter isDigit in refl)) .from j)
+
+  no-range : range (left 0 v) ≡ none
+  unfolding range bracketed byte
+  no-range =
+      ap (λ (bs : List ℕ). range (left 0 bs)) (t .is)
+      ∙ behind-year (number-reads (t .first) (32 ∷ (t .second ++ 32 ∷ (t .third ++ 41 ∷ []))) (t .isYear .k) (t .isYear .ranked) (unfold isNameByte isLetter isDigit in refl) .from 1)
+
+pub date-plain : (v : Value) → isDate v ≡ true → isRange v ≡ false
+unfolding isDate dateOf there
+date-plain v h = go (dateOf v) refl
+  where
+    go : (o : Option Date) → dateOf v ≡ o → isRange v ≡ false
+    go none e = true-not-false h (ap there e)
+    go (some d) e = unfold isRange rangeOf whole ended there in rw (no-range (spells-whole DateShape dateText (enclosed-date .spelled) v d (unfold dateOf in e)))
+
 -- ---- rows
 
--- the values in columns of names are no ranges
+-- the values in columns of names and of dates are no ranges
 unfoldable pub namesPlain : List Column → List Value → Bool
 namesPlain [] vs = true
 namesPlain (c ∷ cs) [] = true
@@ -67,6 +97,7 @@ kind-fits : (k : Kind) (v : Value) → cellHasKind k v ≡ true → fitsMode k v
 unfolding cellHasKind hasKind fitsMode
 kind-fits numbers v h = refl
 kind-fits names v h = ap not (name-plain v h)
+kind-fits dates v h = ap not (date-plain v h)
 
 typed-plain : (cs : List Column) (ws : List Word) → mistypedValue cs ws ≡ none → namesPlain cs (map (λ (w : Word). w .bytes) ws) ≡ true
 unfolding mistypedValue namesPlain
@@ -118,7 +149,7 @@ lines-plain (q ∷ ps) d n at p A h e =
     let i = more-accepted d n at p q ps A e in
     lines-plain ps (i .0) _ _ q A (line-plain d (A .doc .policy) (kept-from (q ∷ ps) d n at p A e) p (i .0) h (i .1)) (i .2)
 
--- Values in columns of names of an accepted document are no ranges.
+-- Values in columns of names and of dates of an accepted document are no ranges.
 pub accepted-plain : (text : List ℕ) (A : Accepted) → check text ≡ accepted A → rowsPlain (A .doc .policy) (A .doc .rows) ≡ true
 unfolding emptyDoc rowsPlain allOf
 accepted-plain text A h = let i = check-accepted text A h in lines-plain _ emptyDoc 0 0 _ A refl (i .1)
@@ -129,6 +160,7 @@ empty-fits : (k : Kind) → fitsMode k [] ≡ true
 unfolding fitsMode
 empty-fits numbers = refl
 empty-fits names = ap not (unopened [] (λ e. absurd (omega (arith, e))))
+empty-fits dates = ap not (unopened [] (λ e. absurd (omega (arith, e))))
 
 plain-at : (cs : List Column) (vs : List Value) → namesPlain cs vs ≡ true → (c : ℕ) (k : Column) → getElem? cs c ≡ some k → fitsMode (k .kind) (getD vs c []) ≡ true
 unfolding namesPlain

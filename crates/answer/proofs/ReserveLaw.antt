@@ -317,7 +317,8 @@ reserve-covers doc x is = (go, reserve-short (x .doc) (rows .short))
         let f15 = then-accepted _ _ _ (f14 .2) in
         let f16 = then-accepted _ _ _ (f15 .2) in
         let f27 = then-accepted _ _ _ (f16 .2) in
-        let f17 = then-accepted _ _ _ (f27 .2) in
+        let f31 = then-accepted _ _ _ (f27 .2) in
+        let f17 = then-accepted _ _ _ (f31 .2) in
         let one-form : s .0 ≡ b11 .0 = Option·some-injective _ _ (sym (s .3) ∙ need-accepted _ _ _ (b11 .1)) in
         let one-doc : c .0 .doc ≡ x .doc = ap (λ (y : Accepted). y .doc) (accepted-same (sym (c .1) ∙ is)) in
         subst (λ (y : Answered). length (y .answer .bytes) ≤ reserveOf (x .doc)) (accepted-same (f17 .2) ∙ accepted-same (b18 .2))

@@ -22,7 +22,7 @@ use Rattle.lists.specs.Lists.{orZero}
 use Rattle.purpose.specs.Compliance.{descends}
 use Rattle.query.proofs.Below.{forPurpose}
 use Rattle.query.proofs.NamedColumns.{columnNumber}
-use Rattle.query.proofs.QueryPlaceless.{closed-placeless, column-placeless, missing-placeless, named-placeless, party-placeless, placelessQuery, resolved-placeless, types-placeless}
+use Rattle.query.proofs.QueryPlaceless.{closed-placeless, column-placeless, dates-placeless, missing-placeless, named-placeless, party-placeless, placelessQuery, resolved-placeless, types-placeless}
 use Rattle.query.proofs.WantedLaws.{ranges-map}
 use Rattle.query.specs.Authority.{Clock}
 use Rattle.query.specs.Query.{Query, resolved, wantedOf}
@@ -74,6 +74,7 @@ answers-placeless d c q r a = record {
   columns = column-placeless (d .policy) q ∙ none-map _ (a .columns);
   types = types-placeless (d .policy) q ∙ none-map _ (a .types);
   ranges = ranged-placeless d q ∙ none-map _ (a .ranges);
+  dates = dates-placeless q ∙ none-map _ (a .dates);
   parts = closed-placeless (d .policy) q ∙ none-map _ (a .parts);
   is = a .is ∙ ap (answerOf d (a .grant)) (sym (resolved-placeless (d .policy) q));
 }
@@ -89,6 +90,7 @@ answers-placed d c q r a = record {
   columns = map-none _ (sym (column-placeless (d .policy) q) ∙ a .columns);
   types = map-none _ (sym (types-placeless (d .policy) q) ∙ a .types);
   ranges = map-none _ (sym (ranged-placeless d q) ∙ a .ranges);
+  dates = map-none _ (sym (dates-placeless q) ∙ a .dates);
   parts = map-none _ (sym (closed-placeless (d .policy) q) ∙ a .parts);
   is = a .is ∙ ap (answerOf d (a .grant)) (resolved-placeless (d .policy) q);
 }

@@ -18,7 +18,7 @@ use Rattle.answer.specs.Ranged.{hasRange, rangedAt, rangedColumn, ranged
 use Rattle.answer.specs.Seen.{Seen, gap, rowsIn, seenIn, seenRow, seenRows, seenValue, seenValues, shown, withheld}
 use Rattle.query.proofs.NamedColumns.{purpose-known, source-known}
 use Rattle.query.specs.Authority.{Clock, firstGrant}
-use Rattle.query.specs.Query.{Source, closedPart, mistypedQuery, resolved, sources, unknownColumn, unknownParty}
+use Rattle.query.specs.Query.{Source, closedPart, missingDate, mistypedQuery, resolved, sources, unknownColumn, unknownParty}
 use Rattle.query.specs.QueryForm.{QueryForm, admitsRanges, namedWords}
 use Rattle.text.proofs.RefusalLaws.{bind-cong, refuseAt-accepted, then-cong}
 use Rattle.lists.proofs.Tests.{true-not-false}
@@ -145,8 +145,9 @@ same-outcome d rs ss c q a =
     bind-cong (need (firstGrant d c u (orZero (purposeOf d (q .purpose)))) (pointing 14 query (q .purpose))) _ _ (λ g _.
     then-cong (refuseAt 15 query (unknownColumn d q)) _ _ (λ _ columns.
     then-cong (refuseAt 16 query (mistypedQuery d q)) _ _ (λ _ _.
-    ap (λ (o : Option Word). refuseAt 27 query o >> (refuseAt 17 query (closedPart d q) >> accepted (record { answer = answerTo (resolved d q) (seenRows (record { policy = d; rows = rs }) (resolved d q)); grant = g }))) (range-fault d rs ss q a)
+    ap (λ (o : Option Word). refuseAt 27 query o >> (refuseAt 31 query (missingDate q) >> (refuseAt 17 query (closedPart d q) >> accepted (record { answer = answerTo (resolved d q) (seenRows (record { policy = d; rows = rs }) (resolved d q)); grant = g })))) (range-fault d rs ss q a)
     ∙ then-cong (refuseAt 27 query (rangedColumn (record { policy = d; rows = ss }) q)) _ _ (λ _ _.
+    then-cong (refuseAt 31 query (missingDate q)) _ _ (λ _ _.
     then-cong (refuseAt 17 query (closedPart d q)) _ _ (λ _ _.
     ap (λ seen. accepted (record { answer = answerTo (resolved d q) seen; grant = g }))
-    (seen-same d q (refuseAt-accepted 12 query _ party) (refuseAt-accepted 15 query _ columns) a))))))))
+    (seen-same d q (refuseAt-accepted 12 query _ party) (refuseAt-accepted 15 query _ columns) a)))))))))

@@ -6,7 +6,8 @@ use mathlib.Core.List.{List, [], _∷_}
 use mathlib.Core.Option.{Option·getD, none}
 use mathlib.Core.Path.{_∙_, _≡_, ap, refl, sym}
 use native.Mathlib.Omega.{arith}
-use Rattle.condition.specs.Kinds.{Kind, hasKind, names, numbers}
+use Rattle.calendar.specs.DateText.{dateOf, dateText, isDate}
+use Rattle.condition.specs.Kinds.{Kind, dates, hasKind, names, numbers}
 use Rattle.document.proofs.Accepting.{check-accepted, last-accepted, line-accepted, more-accepted}
 use Rattle.document.proofs.RowsFit.{row-values}
 use Rattle.document.specs.Check.{Accepted, check, checkFrom, checkLine}
@@ -37,13 +38,15 @@ filled v = not (isEmpty v)
 unfoldable pub rowsFilled : List Row → Bool
 rowsFilled rs = allOf (λ r. allOf filled (r .values)) rs
 
--- a value of either type has
+-- a value of any type has
 kind-filled : (k : Kind) (v : Value) → cellHasKind k v ≡ true → filled v ≡ true
-unfolding cellHasKind isRange rangeOf whole ended range bracketed byte hasKind isNumber there rank isName filled isLetter
+unfolding cellHasKind isRange rangeOf whole ended range bracketed byte hasKind isNumber there rank isName isDate dateOf dateText filled isLetter
 kind-filled numbers [] h = absurd (true≢false (sym h))
 kind-filled numbers (b ∷ bs) h = refl
 kind-filled names [] h = absurd (true≢false (sym h))
 kind-filled names (b ∷ bs) h = refl
+kind-filled dates [] h = absurd (true≢false (sym h))
+kind-filled dates (b ∷ bs) h = refl
 
 -- so have the values of a row that are of their columns' types
 typed-filled : (cs : List Column) (ws : List Word) → length ws ≡ length cs → mistypedValue cs ws ≡ none → allOf (λ (w : Word). filled (w .bytes)) ws ≡ true

@@ -17,7 +17,8 @@ use Rattle.query.specs.Query.{Source, sources}
 use Rattle.query.specs.QueryForm.{QueryForm, queryOf}
 use Rattle.text.specs.Lines.{cut}
 use Rattle.lists.specs.Lists.{allOf, anyOf, holdsOf, member, orZero}
-use Rattle.text.specs.Amounts.{isCellValue, isRange}
+use Rattle.calendar.specs.CellValues.{isCellValue}
+use Rattle.text.specs.Amounts.{isRange}
 use Rattle.text.specs.Bytes.{ascii}
 use Rattle.text.specs.Names.{Name, isName, sameName}
 use Rattle.text.specs.Numbers.{Value}

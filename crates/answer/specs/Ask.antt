@@ -1,4 +1,4 @@
--- Meaning: asking (01, "Asking"; 02, Q-12): the outcome of a query over a document, and the lent buffer afterwards.
+-- Meaning: asking (01, "Asking"; 02, Q-12, Q-14): the outcome of a query over a document, and the lent buffer afterwards.
 use Prim.Native.Nat.{ℕ}
 use lib.Dec.{ltb}
 use lib.ListN.{drop, length, take}
@@ -11,7 +11,7 @@ use Rattle.answer.specs.Answer.{Answer, answerTo}
 use Rattle.answer.specs.Ranged.{rangedColumn}
 use Rattle.answer.specs.Seen.{seenRows}
 use Rattle.query.specs.Authority.{Clock, firstGrant, inRange}
-use Rattle.query.specs.Query.{closedPart, mistypedQuery, resolved, unknownColumn, unknownParty}
+use Rattle.query.specs.Query.{closedPart, missingDate, mistypedQuery, resolved, unknownColumn, unknownParty}
 use Rattle.query.specs.QueryForm.{QueryForm, queryOf}
 use Rattle.lists.specs.Lists.{orZero}
 use Rattle.text.specs.Refusal.{Refusal, Result, Source, _>>=_, _>>_, accepted, document, file, need, pointing, pointingAll, pointingNowhere, query, refuseAt, refuseIf, refused}
@@ -25,7 +25,7 @@ pub record Answered : Type 0 where
 abbrev pub Outcome : Type 0
 Outcome = Result Answered
 
--- 12 to 16, 27 and 17, in this order, and then the answer
+-- 12 to 16, 27, 31 and 17, in this order, and then the answer
 unfoldable pub answerForm : Doc → Clock → QueryForm → Outcome
 answerForm d c q = do
   refuseAt 12 query (unknownParty (d .policy) q)
@@ -34,6 +34,7 @@ answerForm d c q = do
   refuseAt 15 query (unknownColumn (d .policy) q)
   refuseAt 16 query (mistypedQuery (d .policy) q)
   refuseAt 27 query (rangedColumn d q)
+  refuseAt 31 query (missingDate q)
   refuseAt 17 query (closedPart (d .policy) q)
   accepted (record { answer = answerTo (resolved (d .policy) q) (seenRows d (resolved (d .policy) q)); grant = g })
 

@@ -2,6 +2,7 @@
 use Rattle.lists.specs.Computing as lists
 use Rattle.purpose.specs.Computing as purpose
 use Rattle.text.specs.Computing as text
+use Rattle.calendar.specs.Computing as calendar
 use Rattle.condition.specs.Computing as condition
 use Rattle.form.specs.Computing as form
 use Rattle.document.specs.Computing as document
@@ -20,5 +21,5 @@ use Rattle.answer.specs.Further as Further
 use Rattle.answer.specs.Session as Session
 
 unfoldable pub computing : Unit {0}
-unfolding mathlib.Core.Option.bind mathlib.Core.List.flatten lists.computing purpose.computing text.computing condition.computing form.computing document.computing query.computing Seen.gap Seen.seenValue Seen.seenValues Seen.seenRow Seen.rowsIn Seen.seenIn Seen.seenRows Ranged.rangedAt Ranged.hasRange Ranged.rangedWord Ranged.rangedColumn Answer.matches Answer.satisfies Answer.rowLine Answer.endLine Answer.isWithheld Answer.isPassed Answer.isUnmatched Answer.lineOf Answer.rowLines Answer.counted Answer.answerTo Ask.answerForm Ask.askUnbounded Ask.ifFits Ask.ask Ask.measure Ask.after Ask.pointedText Ask.partOf Faults.firstFault Faults.refusalNumber Faults.formFaults Faults.formAnswer Faults.queryFaults Faults.askFaults Exactly.isWithheldRow Exactly.isGiven Exactly.isUnmatchedRow Exactly.withGaps Exactly.gappedValues Choices.asking Reserve.columnsFrom Reserve.wholeLine Reserve.wholeLength Reserve.wholeLengths Reserve.larger Reserve.greatest Reserve.reserveOf Reserve.checked Reserve.SelectsOnce Reserve.IsReserve Alike.sees Alike.free Alike.rowOf Alike.linesOf AlikeTest.sameBytes AlikeTest.sameTexts AlikeTest.sameOrFree AlikeTest.rowInForm AlikeTest.labelTexts AlikeTest.sameRow AlikeTest.bothRows AlikeTest.sameOrRows AlikeTest.linesAlike AlikeTest.bothAlike AlikeTest.alike? Further.selectText Further.Prints Session.sourceName Session.refusalLine Session.printed Session.natural Session.clockNumbers Session.clockInLine Session.linesIn Session.programRoom Session.answers Session.writes Session.session
+unfolding mathlib.Core.Option.bind mathlib.Core.List.flatten lists.computing purpose.computing text.computing calendar.computing condition.computing form.computing document.computing query.computing Seen.gap Seen.seenValue Seen.seenValues Seen.seenRow Seen.rowsIn Seen.seenIn Seen.seenRows Ranged.rangedAt Ranged.hasRange Ranged.rangedWord Ranged.rangedColumn Answer.matches Answer.satisfies Answer.rowLine Answer.endLine Answer.isWithheld Answer.isPassed Answer.isUnmatched Answer.lineOf Answer.rowLines Answer.counted Answer.answerTo Ask.answerForm Ask.askUnbounded Ask.ifFits Ask.ask Ask.measure Ask.after Ask.pointedText Ask.partOf Faults.firstFault Faults.refusalNumber Faults.formFaults Faults.formAnswer Faults.queryFaults Faults.askFaults Exactly.isWithheldRow Exactly.isGiven Exactly.isUnmatchedRow Exactly.withGaps Exactly.gappedValues Choices.asking Reserve.columnsFrom Reserve.wholeLine Reserve.wholeLength Reserve.wholeLengths Reserve.larger Reserve.greatest Reserve.reserveOf Reserve.checked Reserve.SelectsOnce Reserve.IsReserve Alike.sees Alike.free Alike.rowOf Alike.linesOf AlikeTest.sameBytes AlikeTest.sameTexts AlikeTest.sameOrFree AlikeTest.rowInForm AlikeTest.labelTexts AlikeTest.sameRow AlikeTest.bothRows AlikeTest.sameOrRows AlikeTest.linesAlike AlikeTest.bothAlike AlikeTest.alike? Further.selectText Further.Prints Session.sourceName Session.refusalLine Session.printed Session.natural Session.clockNumbers Session.clockInLine Session.linesIn Session.programRoom Session.answers Session.writes Session.session
 computing = tt

@@ -1,4 +1,5 @@
--- Meaning: which refusal is given (01, "Asking"; 02, Q-12): the conditions of 10 to 18 and of 27 as a list, of which the earliest that holds counts.
+-- Meaning: which refusal is given (01, "Asking"; 02, Q-12, Q-14): the conditions of 10 to 18, of 27 and of 31 as a list, of which the
+-- earliest that holds counts.
 use Prim.Native.Nat.{ℕ}
 use lib.Dec.{ltb}
 use lib.ListN.{length}
@@ -12,7 +13,7 @@ use Rattle.document.specs.Lookup.{purposeOf, userOf}
 use Rattle.document.specs.Policy.{Doc}
 use Rattle.lists.specs.Lists.{orZero, there}
 use Rattle.query.specs.Authority.{Clock, firstGrant, inRange}
-use Rattle.query.specs.Query.{closedPart, mistypedQuery, resolved, unknownColumn, unknownParty}
+use Rattle.query.specs.Query.{closedPart, missingDate, mistypedQuery, resolved, unknownColumn, unknownParty}
 use Rattle.query.specs.QueryForm.{QueryForm, queryOf}
 use Rattle.text.specs.Refusal.{Result, accepted, refused}
 
@@ -30,7 +31,7 @@ unfoldable pub refusalNumber : {A : Type 0} → Result A → Option ℕ
 refusalNumber (refused r) = some (r .number)
 refusalNumber (accepted x) = none
 
--- the faults of a query, in the order of 01 and 02: 12 to 16, 27 and 17
+-- the faults of a query, in the order of 01 and 02: 12 to 16, 27, 31 and 17
 unfoldable pub formFaults : Doc → Clock → QueryForm → List Fault
 formFaults d c q =
     (12, there (unknownParty (d .policy) q))
@@ -39,6 +40,7 @@ formFaults d c q =
     ∷ (15, there (unknownColumn (d .policy) q))
     ∷ (16, there (mistypedQuery (d .policy) q))
     ∷ (27, there (rangedColumn d q))
+    ∷ (31, there (missingDate q))
     ∷ (17, there (closedPart (d .policy) q))
     ∷ []
 

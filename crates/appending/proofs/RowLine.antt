@@ -12,7 +12,7 @@ use Rattle.appending.specs.Appended.{fitsColumns, rowFor}
 use Rattle.document.proofs.Accepting.{line-accepted, line-accepts}
 use Rattle.document.proofs.RowMeaning.{bytes-back, labels-back, row-form, rowLabels-placeless, rowValues-placeless, values-back}
 use Rattle.document.proofs.RowsWritten.{bytesOf}
-use Rattle.document.specs.AmountFaults.{brokenRange, inOrder}
+use Rattle.document.specs.AmountFaults.{brokenRange, dateExists, inOrder, noSuchDate}
 use Rattle.document.specs.Bounds.{lateAttr, overBound, secondRoot}
 use Rattle.document.specs.Check.{checkLine}
 use Rattle.document.specs.Lookup.{columnsOf, labelOf, schemeOf, tableOf}
@@ -29,9 +29,14 @@ use Rattle.import.specs.Importing.{oneLabel}
 use Rattle.csv.specs.Fields.{Field}
 use Rattle.csv.specs.Records.{Entry}
 use Rattle.lists.proofs.ListLaws.{map-inv, map-map, there-none}
-use Rattle.lists.proofs.Tests.{and-both, and-left, and-right, not-false}
+use Rattle.lists.proofs.Tests.{and-both, and-left, and-right, not-false, true-not-false}
 use Rattle.lists.specs.Lists.{allOf, holdsOf, orZero, there}
-use Rattle.text.proofs.CellValues.{value-no-range, values-cells}
+use Rattle.calendar.proofs.CellValues.{values-cells}
+use Rattle.calendar.proofs.DateValues.{DateShape, enclosed-date}
+use Rattle.calendar.specs.Calendar.{Date}
+use Rattle.calendar.specs.DateText.{dateOf, dateText}
+use Rattle.text.proofs.CellValues.{value-begins, value-no-range}
+use Rattle.text.proofs.Written.{spells-whole}
 use Rattle.text.proofs.OffendingLaws.{leftmost-head, leftmost-none, leftmost-nil, leftmost-only, leftmost-tail, missing-next, missing-nil, unless-none, unless-true}
 use Rattle.text.proofs.ReadBack.{placeless}
 use Rattle.text.proofs.NameLaws.{sameName-refl}
@@ -123,6 +128,23 @@ all-ordered (w ∷ ws) h =
     missing-next (λ w. inOrder (rangeOf (w .bytes))) w ws (ap inOrder (value-no-range (w .bytes) (and-left (isValue (w .bytes)) (allOf isValue (bytesOf ws)) h)))
     ∙ all-ordered ws (and-right (isValue (w .bytes)) (allOf isValue (bytesOf ws)) h)
 
+-- nor are they dates
+value-no-date : (v : List ℕ) → isValue v ≡ true → dateOf v ≡ none
+value-no-date v h = go (dateOf v) refl
+  where
+    go : (o : Option Date) → dateOf v ≡ o → o ≡ none
+    go none e = refl
+    go (some d) e =
+        let t = spells-whole DateShape dateText (enclosed-date .spelled) v d (unfold dateOf in e) in
+        true-not-false (ap (λ (b : ℕ). eqb b 40) (enclosed-date .opens d v [] t)) (value-begins v [] h)
+
+all-dated : (ws : List Word) → allOf isValue (bytesOf ws) ≡ true → missing (λ w. dateExists (dateOf (w .bytes))) ws ≡ none
+unfolding allOf dateExists
+all-dated [] h = missing-nil _
+all-dated (w ∷ ws) h =
+    missing-next (λ w. dateExists (dateOf (w .bytes))) w ws (ap dateExists (value-no-date (w .bytes) (and-left (isValue (w .bytes)) (allOf isValue (bytesOf ws)) h)))
+    ∙ all-dated ws (and-right (isValue (w .bytes)) (allOf isValue (bytesOf ws)) h)
+
 module _ (p : Policy) {t l : Name} {vs : List Value} {f : Form} (r : RowOf t l vs f) (s : schemeOf p (plainWord t) ≡ byRow) where
   scheme-is : schemeOf p (r .table) ≡ byRow
   unfolding schemeOf tableOf isCalled plainWord
@@ -159,6 +181,13 @@ module _ (p : Policy) {t l : Name} {vs : List Value} {f : Form} (r : RowOf t l v
       ap (λ (x : Scheme ℕ). missing (λ w. inOrder (rangeOf (w .bytes))) (Option·getD (rowValues x (r .items)) [])) scheme-is
       ∙ ap (λ (o : Option (List Word)). missing (λ w. inOrder (rangeOf (w .bytes))) (Option·getD o [])) (r .values)
       ∙ all-ordered (r .words) (ap (allOf isValue) (r .areValues) ∙ h)
+
+  dated-is : allOf isValue vs ≡ true → noSuchDate p (row (r .table) (r .items)) ≡ none
+  unfolding noSuchDate
+  dated-is h =
+      ap (λ (x : Scheme ℕ). missing (λ w. dateExists (dateOf (w .bytes))) (Option·getD (rowValues x (r .items)) [])) scheme-is
+      ∙ ap (λ (o : Option (List Word)). missing (λ w. dateExists (dateOf (w .bytes))) (Option·getD o [])) (r .values)
+      ∙ all-dated (r .words) (ap (allOf isValue) (r .areValues) ∙ h)
 
   meant-is : rowMeant p (r .table) (r .items) ≡ record { table = orZero (tableOf p (plainWord t)); values = vs; labels = orZero (labelOf p (plainWord l)) ∷ [] }
   unfolding rowMeant tableOf labelOf isCalled plainWord
@@ -203,6 +232,7 @@ module _ (d : Doc) {t l : Name} (e : Entry) {f : Form} (r : RowOf t l (e .fields
       (misfit-is (d .policy) r s ∙ ap not width)
       (there-none _ (typed-is (d .policy) r s ∙ not-true _ types))
       (ordered-is (d .policy) r s plainly)
+      (dated-is (d .policy) r s plainly)
       refl
       ∙ ap accepted adds-row
 

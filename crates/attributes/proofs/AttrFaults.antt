@@ -8,7 +8,7 @@ use mathlib.Core.Option.{none}
 use mathlib.Core.Path.{_≡_, ap, refl}
 use native.Mathlib.Omega.{arith}
 use Rattle.condition.specs.Kinds.{Kind}
-use Rattle.document.specs.AmountFaults.{brokenRange}
+use Rattle.document.specs.AmountFaults.{brokenRange, noSuchDate}
 use Rattle.document.specs.Bounds.{lateAttr, overBound, secondRoot}
 use Rattle.document.specs.Lookup.{attributeOf, roleOf}
 use Rattle.document.specs.NameFaults.{taken, unknown}
@@ -77,13 +77,13 @@ module _ (text roles : List ℕ) (m : ℕ) (ws : List ℕ) (k users : ℕ) (line
         role-known d h = ap (λ b. unless b (wordOf line r)) (found-there y _ (is′ (d .policy .roles) (h .0)) n e′)
 
         pub attr-late : 0 < users → Says (Faulty (Whole LateAttribute))
-        unfolding lateAttr secondRoot misfit wrongType brokenRange
+        unfolding lateAttr secondRoot misfit wrongType brokenRange noSuchDate
         attr-late u =
-            says-late Held Placed′ line (attr (wordOf line r) (wordOf line a) t) k 32 roomy fresh role-known (λ d h. refl) (λ d h. refl) (λ d h. refl) (λ d h. refl)
+            says-late Held Placed′ line (attr (wordOf line r) (wordOf line a) t) k 32 roomy fresh role-known (λ d h. refl) (λ d h. refl) (λ d h. refl) (λ d h. refl) (λ d h. refl)
             (λ d h. lt-ltb 0 (length (d .policy .users)) (omega (arith, h .2, u)))
 
         pub attr-fine : users ≤ 0 → Says Fine
-        unfolding lateAttr secondRoot misfit wrongType brokenRange
+        unfolding lateAttr secondRoot misfit wrongType brokenRange noSuchDate
         attr-fine u =
-            says-fine Held Placed′ line (attr (wordOf line r) (wordOf line a) t) k 32 roomy fresh role-known (λ d h. refl) (λ d h. refl) (λ d h. refl) (λ d h. refl) l
+            says-fine Held Placed′ line (attr (wordOf line r) (wordOf line a) t) k 32 roomy fresh role-known (λ d h. refl) (λ d h. refl) (λ d h. refl) (λ d h. refl) (λ d h. refl) l
             (λ d h. le-ltb 0 (length (d .policy .users)) (omega (arith, h .2, u)))

@@ -16,7 +16,7 @@ use Rattle.condition.specs.Answers.{Placed, comparedAt, opensComparison, readTo
 use Rattle.condition.specs.Cond.{Cond, comparisons}
 use Rattle.condition.specs.CondForm.{Compared, conditionInForm, mistyped}
 use Rattle.condition.specs.Kinds.{Kind, hasKind, numbers, takes}
-use Rattle.document.specs.AmountFaults.{brokenRange}
+use Rattle.document.specs.AmountFaults.{brokenRange, noSuchDate}
 use Rattle.document.specs.Bounds.{lateAttr, overBound, secondRoot}
 use Rattle.document.specs.Lookup.{attributeKind, attributeNamed, attributeOf, condRoleOf, hasAttribute, isClock, roleOf}
 use Rattle.document.specs.NameFaults.{taken, unknown, usableFor}
@@ -34,7 +34,7 @@ use Rattle.text.proofs.WalkingLaws.{next-within}
 use Rattle.text.specs.Offending.{leftmost, missing, offendingIf, unless}
 use Rattle.text.specs.Reader.{Left, from}
 use Rattle.text.specs.Walking.{nextWord}
-use Rattle.text.specs.Words.{Word, isCalled, wordAt, wordOf}
+use Rattle.text.specs.Words.{Word, isCalled, wordOf, writtenAt, writtenOf}
 use Rattle.condition.specs.declared.conditions.Read.{Read}
 use Rattle.condition.specs.declared.conditions.Read.the-variants as read
 
@@ -83,11 +83,11 @@ module _ (d : Policy) (w : Word) where
   kind-there a e = ap (λ (o : Option Attribute). Option·getD (Option·map (λ a. a .kind) o) numbers) e
 
 -- an operator or a value of the wrong type stands in the text
-pub mistyped-near : (s : List ℕ) (k : Kind) (at v : ℕ) → at ≤ length s → some (wordOf s v) ≡ mistyped k (comparedAt s at) → v ≤ length s
+pub mistyped-near : (s : List ℕ) (k : Kind) (at v : ℕ) → at ≤ length s → some (writtenOf s v) ≡ mistyped k (comparedAt s at) → v ≤ length s
 unfolding mistyped comparedAt leftmost unless
-mistyped-near s k at v h e = go (takes k (comparedAt s at .op)) (hasKind k (wordAt s (nextWord s (nextWord s at)))) e
+mistyped-near s k at v h e = go (takes k (comparedAt s at .op)) (hasKind k (writtenAt s (nextWord s (nextWord s at)))) e
   where
-    go : (b t : Bool) → some (wordOf s v) ≡ leftmost (unless b (wordOf s at) ∷ unless t (wordOf s (nextWord s (nextWord s at))) ∷ []) → v ≤ length s
+    go : (b t : Bool) → some (writtenOf s v) ≡ leftmost (unless b (writtenOf s at) ∷ unless t (writtenOf s (nextWord s (nextWord s at))) ∷ []) → v ≤ length s
     go false t e = let q : v ≡ at = ap (λ (w : Word). w .at) (Option·some-injective _ _ e) in omega (arith, q, h)
     go true false e =
         let q : v ≡ nextWord s (nextWord s at) = ap (λ (w : Word). w .at) (Option·some-injective _ _ e) in
@@ -229,6 +229,10 @@ module _ (d : Doc) (line : List ℕ) (c r : ℕ) (x : Cond Compared) where
   pub cond-order : brokenRange (d .policy) form ≡ none
   unfolding brokenRange
   cond-order = refl
+
+  pub cond-dated : noSuchDate (d .policy) form ≡ none
+  unfolding noSuchDate
+  cond-dated = refl
 
   pub cond-late : lateAttr (d .policy) form ≡ false
   unfolding lateAttr

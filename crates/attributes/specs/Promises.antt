@@ -24,7 +24,7 @@ use Rattle.stepping.specs.Follows.{Follows}
 use Rattle.stepping.specs.Judged.{Judges}
 use Rattle.stepping.specs.Places.{Near}
 use Rattle.stepping.specs.Stored.{LineAt, Passes}
-use Rattle.text.specs.CodeEnds.{offendingOf}
+use Rattle.text.specs.CodeEnds.{offendingOf, offendingValue}
 use Rattle.text.specs.Offending.{leftmost, missing}
 use Rattle.text.specs.Reader.{from}
 use Rattle.text.specs.Walking.{nextWord}
@@ -55,7 +55,7 @@ FirstUnusablePromise text roles m attributes n line role ops count f =
 -- cond_faults::first_mistyped: the first operator or value of the comparisons that is of the wrong type
 abbrev pub FirstMistypedPromise : (text attributes : List ℕ) (n : ℕ) (line ops : List ℕ) (count : ℕ) (f : Offending) → Type 0
 FirstMistypedPromise text attributes n line ops count f =
-    ((d : Policy) → Attributes text attributes n (d .attributes) → offendingOf line f ≡ leftmost (map (λ p. mistyped (attributeKind d (wordOf line (nextWord line p))) (comparedAt line p)) (take count ops))) × (((i : ℕ) → i < count → getD ops i 0 ≤ length line) → Near line f)
+    ((d : Policy) → Attributes text attributes n (d .attributes) → offendingValue line f ≡ leftmost (map (λ p. mistyped (attributeKind d (wordOf line (nextWord line p))) (comparedAt line p)) (take count ops))) × (((i : ℕ) → i < count → getD ops i 0 ≤ length line) → Near line f)
 
 -- cond_faults::cond_role_fault: what is wrong with the line `(cond-role C ROLE cond)`
 abbrev pub CondRoleFaultPromise : (text roles : List ℕ) (m : ℕ) (attributes : List ℕ) (n : ℕ) (conds : List ℕ) (k : ℕ) (line : List ℕ) (c r t : ℕ) (f : Verdict) → Type 0

@@ -169,7 +169,7 @@ pub fn cond_role_fault(
     }
     let mistyped = first_mistyped(text, attributes, n, line, &ops, count);
     if let Offending::At(p) = mistyped {
-        return Verdict::Faulty(Fault::Item(Reason::WrongType, p));
+        return Verdict::Faulty(Fault::Value(Reason::WrongType, p));
     }
     Verdict::Fine
 }

@@ -5,7 +5,7 @@ use borrow.Author.Tests.{eqb-false, eqb-true, leb-true}
 use lib.Dec.{eqb, leb}
 use lib.ListN.{getD, getElem?, length, length-map, set, take}
 use lib.Seq.{getD-set-other, getD-set-same}
-use mathlib.Core.Bool.{Bool, cond, false, true}
+use mathlib.Core.Bool.{Bool, false, true}
 use mathlib.Core.List.{List, [], _∷_, map}
 use mathlib.Core.Logic.{⊎-elim}
 use mathlib.Core.Option.{Option·getD, Option·map, Option·none-ne-some, Option·some-injective, bind, none, some}
@@ -13,6 +13,8 @@ use mathlib.Core.Path.{_∙_, _≡_, ap, refl, sym}
 use native.Mathlib.Omega.{arith}
 use Rattle.belonging.specs.Held.{Held, comparisonHolds, conditionHolds, wordsMeet}
 use Rattle.belonging.specs.Values.{Values, valueGivenAt}
+use Rattle.calendar.proofs.MonthLaws.{days-in-few}
+use Rattle.calendar.specs.Calendar.{daysIn}
 use Rattle.condition.proofs.CondLaws.{comparisons-map, holds-map}
 use Rattle.condition.proofs.ReadLaws.{held-is, placed-is}
 use Rattle.condition.specs.Answers.{Placed, comparedAt, comparisonsAt, heldRead, operatorOf}
@@ -32,12 +34,12 @@ use Rattle.principals.specs.CondRoles.{CondRoles, attributesKnown, condRoleEndI
 use Rattle.lists.proofs.ListLaws.{all-here, findIndex-found, holdsOf-some, map-map, there-some}
 use Rattle.lists.proofs.Tests.{and-left, and-right, decide}
 use Rattle.lists.specs.Lists.{allOf, holdsOf, orZero, there}
-use Rattle.query.specs.Authority.{Clock, attributeMeets, clockNumber, daysIn, inRange, leap, userValue}
+use Rattle.query.specs.Authority.{Clock, attributeMeets, clockNumber, inRange, userValue}
 use Rattle.text.specs.Bytes.{within}
 use Rattle.text.specs.Numbers.{Value, rank, rankOf}
 use Rattle.text.specs.Reader.{Left, from}
 use Rattle.text.specs.Walking.{nextWord}
-use Rattle.text.specs.Words.{Word, isCalled, wordAt, wordOf}
+use Rattle.text.specs.Words.{Word, isCalled, wordAt, wordOf, writtenAt}
 
 -- ---- the clock
 
@@ -58,14 +60,6 @@ module _ (c : Clock) where
   clock-hour (suc (suc (suc n))) m a b f = absurd (Option·none-ne-some m f)
 
   -- the clock's numbers are small
-  days-few : (y : ℕ) → daysIn y ≤ 366
-  unfolding daysIn
-  days-few y = go (leap y)
-    where
-      go : (b : Bool) → cond b 366 365 ≤ 366
-      go true = omega arith
-      go false = omega arith
-
   in-year : inRange c ≡ true → c .year ≤ 9999
   unfolding inRange
   in-year h = leb-true (c .year) 9999 (and-right (leb 1 (c .year)) (leb (c .year) 9999) (and-left (within 1 9999 (c .year)) _ h))
@@ -82,7 +76,7 @@ module _ (c : Clock) where
   pub clock-there : (n : ℕ) → n < 3 → inRange c ≡ true → (m : ℕ) × (clockNumber c n ≡ some m) × (m < 2 ^ 63)
   unfolding clockNumber
   clock-there zero l h = (c .year, refl, omega (arith, in-year h))
-  clock-there (suc zero) l h = (c .day, refl, omega (arith, in-days h, days-few (c .year)))
+  clock-there (suc zero) l h = (c .day, refl, omega (arith, in-days h, days-in-few (c .year)))
   clock-there (suc (suc zero)) l h = (c .hour, refl, omega (arith, in-hours h))
   clock-there (suc (suc (suc n))) l h = absurd (omega (arith, l))
 
@@ -150,12 +144,12 @@ module _ (s : List ℕ) (at name v : ℕ) (p : name ≡ nextWord s at) (q : v �
   unfolding comparedAt
   compared-known d h = ap (λ n. there (attributeOf d (wordOf s n))) p ∙ h
 
-  pub compared-holds : (d : Policy) (c : Clock) (u : User) (op : Op) → op ≡ operatorOf (wordAt s at) → wordsMeet d c u op (wordOf s name) (wordAt s v) ≡ comparisonHolds d c u (comparedAt s at)
+  pub compared-holds : (d : Policy) (c : Clock) (u : User) (op : Op) → op ≡ operatorOf (wordAt s at) → wordsMeet d c u op (wordOf s name) (writtenAt s v) ≡ comparisonHolds d c u (comparedAt s at)
   unfolding comparisonHolds comparedAt
   compared-holds d c u op o =
-      ap (λ x. wordsMeet d c u x (wordOf s name) (wordAt s v)) o
-      ∙ ap (λ n. wordsMeet d c u (operatorOf (wordAt s at)) (wordOf s name) (wordAt s n)) q
-      ∙ ap (λ n. wordsMeet d c u (operatorOf (wordAt s at)) (wordOf s n) (wordAt s (nextWord s n))) p
+      ap (λ x. wordsMeet d c u x (wordOf s name) (writtenAt s v)) o
+      ∙ ap (λ n. wordsMeet d c u (operatorOf (wordAt s at)) (wordOf s name) (writtenAt s n)) q
+      ∙ ap (λ n. wordsMeet d c u (operatorOf (wordAt s at)) (wordOf s n) (writtenAt s (nextWord s n))) p
 
 -- ---- truths in a row
 

@@ -38,7 +38,7 @@ ghost use Rattle.lists.specs.Lists.{holdsOf, there};
 ghost use Rattle.query.specs.HostClock.{clockOf};
 ghost use Rattle.query.specs.Authority.{clockNumber, userValue};
 ghost use Rattle.text.specs.Numbers.{rankOf};
-ghost use Rattle.text.specs.Words.{wordAt, wordOf};
+ghost use Rattle.text.specs.Words.{wordOf, writtenAt};
 ghost use Rattle.belonging.specs.Promises.{ConditionHoldsPromise, FillTruthsPromise, RoleHoldsPromise, StoreHeldPromise, StoreTruthsPromise};
 
 // The number that the clock gives for its attribute n.
@@ -75,7 +75,7 @@ fn value_meets(
     line: &[u8],
     v: usize,
 ) -> bool
-    ensures { λ r. ⌜ ((text : List ℕ) (d : Policy) (u : User) (a : Attribute) → Attributes text (now (attributes .entry)) acount (d .attributes) → Values (now (user .entry)) (u .values) (now (values .entry)) → getElem? (d .attributes) n ≡ some a → r ≡ holdsOf (λ w. valuesMeet (a .kind) (opOf op) w (wordAt (now (line .entry)) v)) (userValue u n)) ⌝ }
+    ensures { λ r. ⌜ ((text : List ℕ) (d : Policy) (u : User) (a : Attribute) → Attributes text (now (attributes .entry)) acount (d .attributes) → Values (now (user .entry)) (u .values) (now (values .entry)) → getElem? (d .attributes) n ≡ some a → r ≡ holdsOf (λ w. valuesMeet (a .kind) (opOf op) w (writtenAt (now (line .entry)) v)) (userValue u n)) ⌝ }
 {
     if n < VALUES {
         let p = values[n];
@@ -101,7 +101,7 @@ fn words_meet(
     name: usize,
     v: usize,
 ) -> bool
-    ensures { λ r. ⌜ ((d : Policy) (u : User) → Told (now (text .entry)) (now (attributes .entry)) acount (clockOf clock) (now (user .entry)) (now (values .entry)) d u → there (attributeOf d (wordOf (now (line .entry)) name)) ≡ true → r ≡ wordsMeet d (clockOf clock) u (opOf op) (wordOf (now (line .entry)) name) (wordAt (now (line .entry)) v)) ⌝ }
+    ensures { λ r. ⌜ ((d : Policy) (u : User) → Told (now (text .entry)) (now (attributes .entry)) acount (clockOf clock) (now (user .entry)) (now (values .entry)) d u → there (attributeOf d (wordOf (now (line .entry)) name)) ≡ true → r ≡ wordsMeet d (clockOf clock) u (opOf op) (wordOf (now (line .entry)) name) (writtenAt (now (line .entry)) v)) ⌝ }
 {
     let n = attribute_number(text, attributes, acount, line, name);
     if n < 3 {

@@ -50,9 +50,9 @@ pub samples : allOf (λ t. t)
     ∷ fine (on "(row w l (1 5))\n")
     ∷ wrong 28 149 5 (on "(row w l (5 1))\n")
     ∷ wrong 5 147 1 (on "(row w z (5 1))\n")
-    -- `(1 x)` is `(v L)`, three numbers are no range, and users take none
+    -- `(1 x)` is `(v L)`, three numbers are a date, and users take no range
     ∷ wrong 7 140 15 (on "(row p (1 x) b)\n")
-    ∷ wrong 2 140 17 (on "(row p (1 5 7) b)\n")
+    ∷ wrong 8 147 7 (on "(row p (1 5 7) b)\n")
     ∷ wrong 2 140 20 (on "(user u r (n (1 5)))\n")
     ∷ []) ≡ true
 unfolding computing

@@ -11,7 +11,7 @@ use native.Mathlib.Omega.{arith}
 use Rattle.condition.proofs.TwoLaws.{holdsTwo-same, two-agree, two-more}
 use Rattle.condition.specs.Comparison.{Comparison, meets, ranksMeet, valuesMeet}
 use Rattle.condition.specs.Cond.{Cond, comparisons, holds, holdsTwo, negate}
-use Rattle.condition.specs.Kinds.{Kind, Op, eq, ge, gt, le, lt, names, ne, numbers}
+use Rattle.condition.specs.Kinds.{Kind, Op, dates, eq, ge, gt, le, lt, names, ne, numbers}
 use Rattle.condition.specs.Ranges.{Chosen, Mode, endsOf, meetsIn, other, passesIn, point, possible, rangeMeets, sure, valuesMeetIn}
 use Rattle.lists.proofs.Tests.{and-both, and-left, and-right, both, decide, never, true-not-false}
 use Rattle.lists.specs.Lists.{allOf, orZero, there}
@@ -132,6 +132,7 @@ meets-plain m c v h = go (c .kind)
     go : (k : Kind) → valuesMeetIn m k (c .op) v (c .value) ≡ valuesMeet k (c .op) v (c .value)
     go numbers = ends-meet m (c .op) v (c .value) (orZero (rank v)) (plain-ends v h)
     go names = refl
+    go dates = refl
 
 -- ---- conditions
 
@@ -153,10 +154,11 @@ points m values c h =
 
 -- ---- choices
 
--- a value that is compared as a name is no range: so it is in an accepted document
+-- a value that is compared as a name or as a date is no range: so it is in an accepted document
 unfoldable pub fitsMode : Kind → Value → Bool
 fitsMode numbers v = true
 fitsMode names v = not (isRange v)
+fitsMode dates v = not (isRange v)
 
 module _ (c : Comparison) (v w : Value) (choice : Chosen v w) where
   -- no range: the choice is the value itself, which is compared as before
@@ -173,9 +175,9 @@ module _ (c : Comparison) (v w : Value) (choice : Chosen v w) where
       let s = range-ends v r e in
       (omega (arith, n, ap (λ (q : Range). q .low) s, x .2), omega (arith, n, ap (λ (q : Range). q .high) s, x .3))
 
-  not-names : {A : Type 0} (r : Range) → rangeOf v ≡ some r → fitsMode names v ≡ true → A
-  unfolding fitsMode isRange there
-  not-names r e f = true-not-false (ap there e) (not-true (isRange v) f)
+  no-range : {A : Type 0} (r : Range) → rangeOf v ≡ some r → not (isRange v) ≡ true → A
+  unfolding isRange there
+  no-range r e f = true-not-false (ap there e) (not-true (isRange v) f)
 
   -- what is sure of a value holds for each choice
   pub sure-chosen : fitsMode (c .kind) v ≡ true → meetsIn sure c v ≡ true → meets c w ≡ true
@@ -184,7 +186,8 @@ module _ (c : Comparison) (v w : Value) (choice : Chosen v w) where
     where
       ranges : (r : Range) → rangeOf v ≡ some r → (k : Kind) → fitsMode k v ≡ true → valuesMeetIn sure k (c .op) v (c .value) ≡ true → valuesMeet k (c .op) w (c .value) ≡ true
       ranges r e numbers f h = unfold valuesMeetIn valuesMeet in sure-every (endsOf v .low) (endsOf v .high) (orZero (rank (c .value))) (c .op) h (orZero (rank w)) (ranked r e)
-      ranges r e names f h = not-names r e f
+      ranges r e names f h = unfold fitsMode in no-range r e f
+      ranges r e dates f h = unfold fitsMode in no-range r e f
 
       go : (o : Option Range) → rangeOf v ≡ o → valuesMeet (c .kind) (c .op) w (c .value) ≡ true
       go none e = sym (unfold meetsIn meets in itself e sure) ∙ h
@@ -197,7 +200,8 @@ module _ (c : Comparison) (v w : Value) (choice : Chosen v w) where
     where
       ranges : (r : Range) → rangeOf v ≡ some r → (k : Kind) → fitsMode k v ≡ true → valuesMeet k (c .op) w (c .value) ≡ true → valuesMeetIn possible k (c .op) v (c .value) ≡ true
       ranges r e numbers f h = unfold valuesMeetIn valuesMeet in some-possible (endsOf v .low) (endsOf v .high) (orZero (rank (c .value))) (c .op) (orZero (rank w)) (ranked r e) h
-      ranges r e names f h = not-names r e f
+      ranges r e names f h = unfold fitsMode in no-range r e f
+      ranges r e dates f h = unfold fitsMode in no-range r e f
 
       go : (o : Option Range) → rangeOf v ≡ o → valuesMeetIn possible (c .kind) (c .op) v (c .value) ≡ true
       go none e = (unfold meetsIn meets in itself e possible) ∙ h

@@ -8,7 +8,7 @@ use mathlib.Core.Option.{Option, none, some}
 use mathlib.Core.Path.{_≡_}
 use Rattle.condition.specs.Cond.{Cond, Conds, both, comparisons, either, holds, last, more, negate, test}
 use Rattle.condition.specs.CondForm.{Compared, conditionInForm}
-use Rattle.condition.specs.Kinds.{Kind, Op, eq, ge, gt, le, lt, names, ne, numbers}
+use Rattle.condition.specs.Kinds.{Kind, Op, dates, eq, ge, gt, le, lt, names, ne, numbers}
 use Rattle.condition.specs.Ranges.{Mode, possible, sure}
 use Rattle.lists.specs.Lists.{anyOf}
 use Rattle.text.specs.Amounts.{Range}
@@ -17,7 +17,7 @@ use Rattle.text.specs.Ends.{answer}
 use Rattle.text.specs.Names.{sameName}
 use Rattle.text.specs.Reader.{Left, from}
 use Rattle.text.specs.Walking.{nextWord}
-use Rattle.text.specs.Words.{wordAt, wordOf}
+use Rattle.text.specs.Words.{wordAt, wordOf, writtenOf}
 use Rattle.condition.specs.declared.conditions.Read.{Read}
 use Rattle.condition.specs.declared.conditions.Read.the-variants as read
 use Rattle.condition.specs.declared.kinds.Kind as kinds
@@ -32,6 +32,7 @@ use Rattle.condition.specs.declared.walk.Walk.the-variants as walk
 abbrev pub kindOf : kinds.Kind → Kind
 kindOf kind.Num = numbers
 kindOf kind.Name = names
+kindOf kind.Date = dates
 
 -- the operator that the code's answer names
 abbrev pub opOf : ops.Op → Op
@@ -74,9 +75,10 @@ operatorBy (suc (suc (suc zero))) = le
 operatorBy (suc (suc (suc (suc zero)))) = gt
 operatorBy (suc (suc (suc (suc (suc n))))) = ge
 
--- the comparison whose operator stands at a position of a text: the name and the value are the two words behind it
+-- the comparison whose operator stands at a position of a text: the name is the word behind it, and the value is what is written behind
+-- that; the operator too is given as it is written, so that code names either by its place alone
 unfoldable pub comparedAt : List ℕ → ℕ → Compared
-comparedAt s at = record { op = operatorOf (wordAt s at); operator = wordOf s at; of = wordOf s (nextWord s at); value = wordOf s (nextWord s (nextWord s at)) }
+comparedAt s at = record { op = operatorOf (wordAt s at); operator = writtenOf s at; of = wordOf s (nextWord s at); value = writtenOf s (nextWord s (nextWord s at)) }
 
 -- where a condition ends, and how many comparisons it has
 abbrev pub readTo : Option (Cond Compared × Left) → Read

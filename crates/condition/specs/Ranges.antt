@@ -4,9 +4,10 @@ use lib.Dec.{eqb, leb, ltb}
 use mathlib.Core.Bool.{Bool, _&&_, false, not}
 use mathlib.Core.Option.{Option·getD, some}
 use mathlib.Core.Path.{_≡_}
-use Rattle.condition.specs.Comparison.{Comparison, namesMeet}
+use Rattle.calendar.specs.DateText.{dayRankOf}
+use Rattle.condition.specs.Comparison.{Comparison, namesMeet, ranksMeet}
 use Rattle.condition.specs.Cond.{Cond, holdsTwo}
-use Rattle.condition.specs.Kinds.{Kind, Op, eq, ge, gt, le, lt, names, ne, numbers}
+use Rattle.condition.specs.Kinds.{Kind, Op, dates, eq, ge, gt, le, lt, names, ne, numbers}
 use Rattle.lists.specs.Lists.{orZero}
 use Rattle.text.specs.Amounts.{Range, isRange, rangeOf}
 use Rattle.text.specs.Numbers.{Value, rank}
@@ -43,10 +44,12 @@ point n = record { low = n; high = n }
 unfoldable pub endsOf : Value → Range
 endsOf v = Option·getD (rangeOf v) (point (orZero (rank v)))
 
--- a value of a type, which may be a range, stands to another as the operator says; names are compared alike in both modes
+-- a value of a type, which may be a range, stands to another as the operator says; names are compared alike in both modes,
+-- and so are dates, each of which is one day
 unfoldable pub valuesMeetIn : Mode → Kind → Op → Value → Value → Bool
 valuesMeetIn m numbers op v w = rangeMeets m op (endsOf v .low) (endsOf v .high) (orZero (rank w))
 valuesMeetIn m names op v w = namesMeet op v w
+valuesMeetIn m dates op v w = ranksMeet op (dayRankOf v) (dayRankOf w)
 
 -- the comparison is sure, or possible, of the value of what it names
 unfoldable pub meetsIn : Mode → Comparison → Value → Bool

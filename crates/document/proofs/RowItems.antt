@@ -30,7 +30,7 @@ module _ (s : List ℕ) (at : ℕ) where
   unfolding leadingName
   no-leading e = ap leadingName (items-stop s at e)
 
-  -- where a bracket opens, the first item is `(v L)` or a range, and so no name
+  -- where a bracket opens, the first item is `(v L)`, a range or a date, and so no name
   first-unnamed : getD s (at + 1) 0 ≡ 40 → isName (writtenAt s (at + 1)) ≡ false
   unfolding isValue
   first-unnamed o = neither-left (isName (writtenAt s (at + 1))) (isNumber (writtenAt s (at + 1))) (bracket-no-value s (at + 1) o)

@@ -20,7 +20,7 @@ use Rattle.form.specs.RowText.{bracketText, itemTexts, keywordIn, labelCount, r
 use Rattle.lists.proofs.ListLaws.{map-inv}
 use Rattle.lists.proofs.Tests.{and-both, and-left, and-right}
 use Rattle.lists.specs.Lists.{allOf}
-use Rattle.text.specs.Amounts.{isCellValue}
+use Rattle.calendar.specs.CellValues.{isCellValue}
 use Rattle.text.specs.Bytes.{ascii}
 use Rattle.text.specs.Names.{Name, isName, sameName}
 use Rattle.text.specs.Numbers.{Value}

@@ -2,6 +2,7 @@
 use Rattle.lists.specs.Computing as lists
 use Rattle.purpose.specs.Computing as purpose
 use Rattle.text.specs.Computing as text
+use Rattle.calendar.specs.Computing as calendar
 use Rattle.condition.specs.Computing as condition
 use Rattle.form.specs.Computing as form
 use Rattle.document.specs.Policy as Policy
@@ -16,5 +17,5 @@ use Rattle.document.specs.Meaning as Meaning
 use Rattle.document.specs.Check as Check
 
 unfoldable pub computing : Unit {0}
-unfolding mathlib.Core.Option.bind mathlib.Core.List.flatten lists.computing purpose.computing text.computing condition.computing form.computing Policy.treeOf Policy.clockAttributes Policy.emptyPolicy Policy.emptyDoc Open.labelOpen Open.tableOpen Open.columnOpen Open.rowWithheld Open.cellOpen Lookup.purposeOf Lookup.roleOf Lookup.attributeOf Lookup.condRoleOf Lookup.labelOf Lookup.tableOf Lookup.userOf Lookup.columnOf Lookup.attributeNamed Lookup.attributeKind Lookup.columnKind Lookup.schemeAt Lookup.notesOf Lookup.isPublic Lookup.settled Lookup.labellingAt Lookup.columnsAt Lookup.schemeOf Lookup.labellingOf Lookup.columnsOf Lookup.isClock Lookup.hasAttribute Bounds.overBound Bounds.secondRoot Bounds.lateAttr NameFaults.takenNote NameFaults.taken NameFaults.usableFor NameFaults.leadingName NameFaults.bracketLabels NameFaults.rowLabels NameFaults.unknown ValueFaults.isAttributeOf ValueFaults.givenOnce ValueFaults.givesAll ValueFaults.plainValues ValueFaults.valuesBehindLabel ValueFaults.bracketValues ValueFaults.rowValues ValueFaults.misfit TypeFaults.cellHasKind TypeFaults.mistypedValue TypeFaults.wrongType AmountFaults.inOrder AmountFaults.brokenRange Meaning.nodeOf Meaning.givenOf Meaning.attributeComparison Meaning.marksOf Meaning.columnMeant Meaning.rowMeant Meaning.define Meaning.rowsGiven Meaning.add Check.checkForm Check.checkLine Check.checkFrom Check.check
+unfolding mathlib.Core.Option.bind mathlib.Core.List.flatten lists.computing purpose.computing text.computing calendar.computing condition.computing form.computing Policy.treeOf Policy.clockAttributes Policy.emptyPolicy Policy.emptyDoc Open.labelOpen Open.tableOpen Open.columnOpen Open.rowWithheld Open.cellOpen Lookup.purposeOf Lookup.roleOf Lookup.attributeOf Lookup.condRoleOf Lookup.labelOf Lookup.tableOf Lookup.userOf Lookup.columnOf Lookup.attributeNamed Lookup.attributeKind Lookup.columnKind Lookup.schemeAt Lookup.notesOf Lookup.isPublic Lookup.settled Lookup.labellingAt Lookup.columnsAt Lookup.schemeOf Lookup.labellingOf Lookup.columnsOf Lookup.isClock Lookup.hasAttribute Bounds.overBound Bounds.secondRoot Bounds.lateAttr NameFaults.takenNote NameFaults.taken NameFaults.usableFor NameFaults.leadingName NameFaults.bracketLabels NameFaults.rowLabels NameFaults.unknown ValueFaults.isAttributeOf ValueFaults.givenOnce ValueFaults.givesAll ValueFaults.plainValues ValueFaults.valuesBehindLabel ValueFaults.bracketValues ValueFaults.rowValues ValueFaults.misfit TypeFaults.cellHasKind TypeFaults.mistypedValue TypeFaults.wrongType AmountFaults.inOrder AmountFaults.brokenRange AmountFaults.dateExists AmountFaults.noSuchDate Meaning.nodeOf Meaning.givenOf Meaning.attributeComparison Meaning.marksOf Meaning.columnMeant Meaning.rowMeant Meaning.define Meaning.rowsGiven Meaning.add Check.checkForm Check.checkLine Check.checkFrom Check.check
 computing = tt

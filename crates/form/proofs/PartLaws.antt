@@ -21,7 +21,7 @@ use Rattle.text.proofs.Forward.{Forward, forward-many, forward-wordThat}
 use Rattle.text.proofs.Lefts.{before-end}
 use Rattle.text.proofs.Spaces.{next-here, next-not, optional-here, optional-not}
 use Rattle.text.proofs.WalkingLaws.{Finds, finds-word, word-within}
-use Rattle.text.specs.Amounts.{Range, cellValue, range}
+use Rattle.calendar.specs.CellValues.{cellValue}
 use Rattle.text.specs.Brackets.{keyword, many, next, optional}
 use Rattle.text.specs.CodeEnds.{optionalOf, wordEnd}
 use Rattle.text.specs.Names.{isName}
@@ -45,30 +45,26 @@ word-ends s at h k = omega (arith, word-within s at k)
 -- ---- an item of a row
 
 module _ (s : List ℕ) (at : ℕ) where
-  -- a value stands there: the item ends where it ends
-  pub item-ends : (e : ℕ) → wordEnd (cellValue (from s at)) ≡ At e → At e ≡ wordEnd (item (from s at))
-  unfolding plainItem
-  item-ends e h = sym h ∙ then-give cellValue s at plain refl ∙ sym (ap wordEnd (item-value (from s at) (go (cellValue (from s at)) h)))
+  -- a value ends there, or none is read
+  pub value-there : (e : ℕ) → wordEnd (cellValue (from s at)) ≡ At e → there (cellValue (from s at)) ≡ true
+  value-there e h = go (cellValue (from s at)) h
     where
       go : (o : Option (Word × Left)) → wordEnd o ≡ At e → there o ≡ true
       go none k = let z : _≡_ {A = ℕ} 0 1 = cc in absurd (omega arith)
       go (some r) k = unfold there in refl
 
+  pub value-absent : wordEnd (cellValue (from s at)) ≡ Nothing → there (cellValue (from s at)) ≡ false
+  unfolding there
+  value-absent h = ap there (end-none cellValue s at h)
+
+  -- a value stands there: the item ends where it ends
+  pub item-ends : (e : ℕ) → wordEnd (cellValue (from s at)) ≡ At e → At e ≡ wordEnd (item (from s at))
+  unfolding plainItem
+  item-ends e h = sym h ∙ then-give cellValue s at plain refl ∙ sym (ap wordEnd (item-value (from s at) (value-there e h)))
+
   -- none does: it is `(v L)`, if it is one
   pub item-unread : wordEnd (cellValue (from s at)) ≡ Nothing → wordEnd (item (from s at)) ≡ wordEnd (labelledItem (from s at))
-  item-unread h = ap wordEnd (item-labelled (from s at) (unfold there in ap there (end-none cellValue s at h)))
-
-  -- a range ends there, or none is read
-  pub range-there : (e : ℕ) → wordEnd (range (from s at)) ≡ At e → there (range (from s at)) ≡ true
-  range-there e h = go (range (from s at)) h
-    where
-      go : (o : Option (Range × Left)) → wordEnd o ≡ At e → there o ≡ true
-      go none k = let z : _≡_ {A = ℕ} 0 1 = cc in absurd (omega arith)
-      go (some r) k = unfold there in refl
-
-  pub range-absent : wordEnd (range (from s at)) ≡ Nothing → there (range (from s at)) ≡ false
-  unfolding there
-  range-absent h = ap there (end-none range s at h)
+  item-unread h = ap wordEnd (item-labelled (from s at) (value-absent h))
 
 -- ---- words behind a space
 

@@ -13,13 +13,13 @@ use Rattle.form.specs.Form.{Form, Item, Scheme, attr, byCell, byColumn, 
 use Rattle.form.specs.FormReader.{form, formOf, item, labelledItem, lineForms, plainItem, rowForm}
 use Rattle.form.specs.RowText.{bracketText, itemTexts, rowText, spaced}
 use Rattle.form.proofs.WalkLaws.{item-labelled, item-value}
-use Rattle.text.proofs.CellValues.{cellValue-fails, cellValue-reads, name-cell}
+use Rattle.calendar.proofs.CellValues.{cellValue-fails, cellValue-reads, name-cell}
 use Rattle.lists.proofs.ListLaws.{map-map}
 use Rattle.text.proofs.ReadBack.{Gives, Reads, bind-reads, bracketed-reads, give-reads, gives, left, gives-there, name-reads, next-reads, placeless, word-reads}
 use Rattle.text.proofs.NameLaws.{same-other}
 use Rattle.text.proofs.WordLaws.{same-name-bytes}
 use Rattle.lists.proofs.Tests.{and-left, and-right, true-not-false}
-use Rattle.text.specs.Amounts.{cellValue, isCellValue}
+use Rattle.calendar.specs.CellValues.{cellValue, isCellValue}
 use Rattle.text.specs.Brackets.{among, keyword, many, upTo}
 use Rattle.text.specs.Bytes.{ascii, firstByte, isDigit, isLetter, isNameByte}
 use Rattle.lists.specs.Lists.{allOf, there}

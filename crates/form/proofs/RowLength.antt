@@ -10,10 +10,10 @@ use Rattle.condition.specs.CondForm.{conditionInForm}
 use Rattle.form.specs.Form.{Form, Item, Scheme, attr, byCell, byColumn, byRow, byTable, condRole, grant, label, labelled, note, plain, public, purpose, role, row, table, unlabelled, user}
 use Rattle.form.specs.FormReader.{attrForm, column, columnsUnderLabel, condRoleForm, form, formOf, givenForm, grantForm, item, kinds, labelForm, labelledColumn, labelledColumns, labelledItem, lineForms, node, plainColumns, plainItem, publicForm, purposeSet, rowForm, schemes, tableForm, userForm}
 use Rattle.lists.specs.Lists.{there}
-use Rattle.text.proofs.CellValues.{eats-cellValue}
+use Rattle.calendar.proofs.CellValues.{eats-cellValue}
 use Rattle.text.proofs.NameLaws.{sameName-length}
 use Rattle.text.proofs.ReaderLaws.{Eats, eats-bind, eats-bracketed, eats-byte, eats-cond, eats-give, eats-less, eats-many, eats-next, eats-word, eats-wordThat, listCost, past-trans, then-some, whole-some}
-use Rattle.text.specs.Amounts.{cellValue}
+use Rattle.calendar.specs.CellValues.{cellValue}
 use Rattle.text.specs.Brackets.{Keywords, among, bracketed, keyword, many, next, optional}
 use Rattle.text.specs.Bytes.{ascii}
 use Rattle.text.specs.Names.{Name, isName, sameName}

@@ -17,11 +17,11 @@ use Rattle.form.specs.Walks.{isLabelledAt}
 use Rattle.lists.proofs.Tests.{and-both}
 use Rattle.lists.specs.Lists.{allOf, there}
 use Rattle.text.proofs.ByteLaws.{run-stops}
-use Rattle.text.proofs.CellValues.{cellValue-fails, prints-cellValue}
+use Rattle.calendar.proofs.CellValues.{cellValue-fails, prints-cellValue}
 use Rattle.text.proofs.ReadBack.{left}
 use Rattle.text.proofs.Forward.{Forward}
 use Rattle.text.proofs.Written.{Printed, Spells, printAll, prints-bind, prints-many, prints-next, spells-bracketed, spells-cond, spells-forward, spells-give, spells-keyword, spells-whole, spells-wordThat}
-use Rattle.text.specs.Amounts.{cellValue, isCellValue}
+use Rattle.calendar.specs.CellValues.{cellValue, isCellValue}
 use Rattle.text.specs.Brackets.{keyword, many, next}
 use Rattle.text.specs.Bytes.{ascii, isDigit, isLetter, isNameByte}
 use Rattle.text.specs.Names.{Name, isName, sameName}

@@ -9,23 +9,24 @@ use mathlib.Core.List.{List, [], _∷_, map}
 use mathlib.Core.Option.{some}
 use mathlib.Core.Path.{_∙_, _≡_, ap, refl, sym}
 use native.Mathlib.Omega.{arith}
-use Rattle.condition.specs.Kinds.{Kind, names, numbers}
+use Rattle.condition.specs.Kinds.{Kind, dates, names, numbers}
 use Rattle.form.specs.Form.{ColumnForm, GivenForm, Item, labelled, plain}
-use Rattle.form.specs.FormReader.{column, columnBody, givenForm, item, kinds, labelledColumn, labelledItem, plainItem}
-use Rattle.form.specs.Walks.{cellEndAt, cellLabelIn, columnAt, columnFormsAt, columnLabelAt, columnLabelsAt, firstIn, givenAt, givensAt, isLabelledAt, itemAt, itemEndAt, itemsAt, kindAt, labelledColumnsAt, listAt, listUpTo, namesAt, pairEndAt, secondIn, thirdIn, tripleEndAt, valuePlace}
+use Rattle.form.specs.FormReader.{column, columnBody, columnKinds, givenForm, item, kinds, labelledColumn, labelledItem, plainItem}
+use Rattle.form.specs.Walks.{cellEndAt, cellLabelIn, columnAt, columnFormsAt, columnKindAt, columnLabelAt, columnLabelsAt, firstIn, givenAt, givensAt, isLabelledAt, itemAt, itemEndAt, itemsAt, kindAt, labelledColumnsAt, listAt, listUpTo, namesAt, pairEndAt, secondIn, thirdIn, tripleEndAt, valuePlace}
 use Rattle.lists.specs.Lists.{there}
-use Rattle.text.proofs.CellValues.{cellValue-range, finds-cellValue}
+use Rattle.calendar.proofs.CellValues.{finds-cellValue}
 use Rattle.text.proofs.Closings.{value-onward, value-within}
 use Rattle.text.proofs.ReaderLaws.{byte-at-refused, not-read}
 use Rattle.text.proofs.WalkingLaws.{Finds, finds-bind, finds-bracketed, finds-give, finds-if, finds-next, finds-run, finds-word, next-forward, next-within, past-forward, past-here, past-within, word-forward, word-within}
-use Rattle.text.specs.Amounts.{cellValue, range}
+use Rattle.text.proofs.WordLaws.{word-always}
+use Rattle.calendar.specs.CellValues.{cellValue}
 use Rattle.text.specs.Brackets.{among, bracketed, keyword, many, upTo}
 use Rattle.text.specs.Bytes.{ascii}
 use Rattle.text.specs.Names.{isName, sameName}
 use Rattle.text.specs.Numbers.{isValue}
 use Rattle.text.specs.Reader.{Left, Reader, _>>=_, from, give, refuse}
 use Rattle.text.specs.Walking.{nextWord, past, wordEndAt, writtenEndAt}
-use Rattle.text.specs.Words.{Word, isCalled, name, value, wordOf, writtenOf}
+use Rattle.text.specs.Words.{Word, isCalled, name, value, wordAt, wordOf, writtenOf}
 
 -- ---- one item more, or none
 
@@ -225,9 +226,17 @@ pub finds-given : (s : List ℕ) → Finds s givenForm (givenAt s) (pairEndAt s)
 unfolding givenForm givenAt pairEndAt firstIn secondIn nextWord
 finds-given s = finds-bracketed (finds-bind (finds-name s) _ (λ a. finds-bind (finds-next (finds-value s)) _ (λ v. finds-give s (record { attribute = a; value = v }))))
 
-finds-columnBody : (s : List ℕ) → Finds s columnBody (λ at. record { name = wordOf s at; kind = kindAt s (nextWord s at) }) (λ at. wordEndAt s (nextWord s at))
+finds-columnKind : (s : List ℕ) → Finds s (keyword columnKinds) (columnKindAt s) (wordEndAt s)
+unfolding keyword columnKinds among isCalled columnKindAt wordEndAt
+finds-columnKind s = record { found = λ at k l h. go at k l (sameName (wordAt s at) (ascii "date")) (rw (word-always s at) at h) }
+  where
+    go : (at : ℕ) (k : Kind) (l : Left) (t : Bool) → cond t (give dates) (among kinds (wordOf s at)) (from s (wordEndAt s at)) ≡ some (k, l) → (k ≡ cond t dates (kindAt s at)) × (l ≡ from s (wordEndAt s at))
+    go at k l true h = finds-give s dates .found (wordEndAt s at) k l h
+    go at k l false h = finds-kind s .found at k l (unfold keyword in (rw (word-always s at) h))
+
+finds-columnBody : (s : List ℕ) → Finds s columnBody (λ at. record { name = wordOf s at; kind = columnKindAt s (nextWord s at) }) (λ at. wordEndAt s (nextWord s at))
 unfolding columnBody nextWord
-finds-columnBody s = finds-bind (finds-name s) _ (λ c. finds-bind (finds-next (finds-kind s)) _ (λ k. finds-give s (record { name = c; kind = k })))
+finds-columnBody s = finds-bind (finds-name s) _ (λ c. finds-bind (finds-next (finds-columnKind s)) _ (λ k. finds-give s (record { name = c; kind = k })))
 
 pub finds-column : (s : List ℕ) → Finds s column (columnAt s) (pairEndAt s)
 unfolding column columnAt pairEndAt firstIn secondIn
@@ -256,35 +265,23 @@ unfolding labelledItem cellEndAt cellLabelIn firstIn
 finds-labelledItem s = finds-bracketed (finds-bind (finds-cellValue s) _ (λ v. finds-bind (finds-next (finds-name s)) _ (λ l. finds-give s (labelled v l))))
 
 module _ (s : List ℕ) (at : ℕ) where
-  -- where no bracket opens, and at a range, there is no `(v L)`
+  -- where no bracket opens, and where a value is read, there is no `(v L)`
   pub unopened-unlabelled : (getD s at 0 ≡ 40 → ⊥) → isLabelledAt s at ≡ false
   unfolding isLabelledAt
   unopened-unlabelled h = rw (ne-eqb _ _ h)
 
-  pub ranged-unlabelled : there (range (from s at)) ≡ true → isLabelledAt s at ≡ false
+  pub value-unlabelled : there (cellValue (from s at)) ≡ true → isLabelledAt s at ≡ false
   unfolding isLabelledAt
-  ranged-unlabelled h = go (eqb (getD s at 0) 40)
+  value-unlabelled h = go (eqb (getD s at 0) 40)
     where
-      go : (t : Bool) → (t && not (there (range (from s at)))) ≡ false
+      go : (t : Bool) → (t && not (there (cellValue (from s at)))) ≡ false
       go true = rw h
       go false = refl
 
-  -- at any other bracket there is one
-  pub opened-labelled : getD s at 0 ≡ 40 → there (range (from s at)) ≡ false → isLabelledAt s at ≡ true
-  unfolding isLabelledAt
-  opened-labelled h k = rw (h, k)
-
-  -- where a value is read there is none
-  pub value-unlabelled : there (cellValue (from s at)) ≡ true → isLabelledAt s at ≡ false
-  value-unlabelled h = go (eqb (getD s at 0) 40) refl
-    where
-      go : (t : Bool) → eqb (getD s at 0) 40 ≡ t → isLabelledAt s at ≡ false
-      go true k = ranged-unlabelled (sym (cellValue-range s at (eqb-true _ _ k)) ∙ h)
-      go false k = unopened-unlabelled (eqb-false _ _ k)
-
-  -- and where a bracket opens and none is read there is one
+  -- where a bracket opens and none is read there is one
   pub bracket-labelled : getD s at 0 ≡ 40 → there (cellValue (from s at)) ≡ false → isLabelledAt s at ≡ true
-  bracket-labelled k h = opened-labelled k (sym (cellValue-range s at k) ∙ h)
+  unfolding isLabelledAt
+  bracket-labelled h k = rw (h, k)
 
   -- a bracket opens where `(v L)` is read
   pub labelled-opens : (i : Item) (l : Left) → labelledItem (from s at) ≡ some (i, l) → getD s at 0 ≡ 40

@@ -4,10 +4,10 @@ use lib.Dec.{eqb}
 use lib.ListN.{getD, length}
 use mathlib.Core.Bool.{Bool, _&&_, cond, not}
 use mathlib.Core.List.{List, [], _∷_}
-use Rattle.condition.specs.Kinds.{Kind, names, numbers}
+use Rattle.calendar.specs.CellValues.{cellValue}
+use Rattle.condition.specs.Kinds.{Kind, dates, names, numbers}
 use Rattle.form.specs.Form.{ColumnForm, GivenForm, Item, labelled, plain}
 use Rattle.lists.specs.Lists.{there}
-use Rattle.text.specs.Amounts.{range}
 use Rattle.text.specs.Bytes.{ascii}
 use Rattle.text.specs.Names.{sameName}
 use Rattle.text.specs.Reader.{from}
@@ -56,13 +56,17 @@ givenAt s at = record { attribute = wordOf s (firstIn s at); value = wordOf s (s
 unfoldable pub givensAt : List ℕ → ℕ → List GivenForm
 givensAt s at = listAt givenAt pairEndAt s at
 
--- the type that the word at a position names: `num`, or else `name`
+-- the type of an attribute that the word at a position names: `num`, or else `name`
 unfoldable pub kindAt : List ℕ → ℕ → Kind
 kindAt s at = cond (sameName (wordAt s at) (ascii "num")) numbers names
 
+-- the type of a column that it names: `date`, or else as of an attribute
+unfoldable pub columnKindAt : List ℕ → ℕ → Kind
+columnKindAt s at = cond (sameName (wordAt s at) (ascii "date")) dates (kindAt s at)
+
 -- the column of the `(COL num)` or `(COL num L)` at a position
 unfoldable pub columnAt : List ℕ → ℕ → ColumnForm
-columnAt s at = record { name = wordOf s (firstIn s at); kind = kindAt s (secondIn s at) }
+columnAt s at = record { name = wordOf s (firstIn s at); kind = columnKindAt s (secondIn s at) }
 
 -- the columns of a table from a position on
 unfoldable pub columnFormsAt : List ℕ → ℕ → List ColumnForm
@@ -100,9 +104,9 @@ plainAt s at = listAt writtenOf writtenEndAt s at
 unfoldable pub cellsAt : List ℕ → ℕ → List (Word × Word)
 cellsAt s at = listAt cellAt cellEndAt s at
 
--- the item of a row at a position is `(v L)`: a bracket opens that is no range (02, Q-12)
+-- the item of a row at a position is `(v L)`: a bracket opens that is no value (02, Q-12, Q-14)
 unfoldable pub isLabelledAt : List ℕ → ℕ → Bool
-isLabelledAt s at = eqb (getD s at 0) 40 && not (there (range (from s at)))
+isLabelledAt s at = eqb (getD s at 0) 40 && not (there (cellValue (from s at)))
 
 -- where its value stands: behind the bracket of `(v L)`, and else at the item
 unfoldable pub valuePlace : List ℕ → ℕ → ℕ

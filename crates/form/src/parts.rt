@@ -1,5 +1,5 @@
 // The brackets that lists of a line are made of, and the lists: where they end.
-use text::amounts::cell_value_end;
+use calendar::cell_values::cell_value_end;
 use text::brackets::byte_end;
 use text::brackets::spaced_name_end;
 use text::brackets::spaced_value_end;
@@ -12,9 +12,9 @@ ghost use mathlib.Core.Path.{_≡_};
 ghost use Rattle.text.specs.Brackets.{keyword, many, next};
 ghost use Rattle.text.specs.CodeEnds.{wordEnd};
 ghost use Rattle.text.specs.Reader.{from};
-ghost use Rattle.form.specs.FormReader.{column, columnBody, givenForm, item, kinds, labelledColumn, labelledItem};
+ghost use Rattle.form.specs.FormReader.{column, columnBody, columnKinds, givenForm, item, kinds, labelledColumn, labelledItem};
 
-// The end of the type `num` or `name` behind a space.
+// The end of the type of an attribute, `num` or `name`, behind a space.
 pub fn kind_end(s: &[u8], at: usize) -> End
     ensures { λ r. ⌜ r ≡ wordEnd (next (keyword kinds) (from (now (s .entry)) at)) ⌝ }
 {
@@ -29,6 +29,19 @@ pub fn kind_end(s: &[u8], at: usize) -> End
         return End::At(word_end(s, a));
     }
     End::Nothing
+}
+
+// The end of the type of a column behind a space: `date`, or one of an attribute.
+pub fn column_kind_end(s: &[u8], at: usize) -> End
+    ensures { λ r. ⌜ r ≡ wordEnd (next (keyword columnKinds) (from (now (s .entry)) at)) ⌝ }
+{
+    if byte_at(s, at) != b' ' {
+        return End::Nothing;
+    }
+    if is_word(s, at + 1, b"date") {
+        return End::At(word_end(s, at + 1));
+    }
+    kind_end(s, at)
 }
 
 // The end of `(A v)`.
@@ -73,7 +86,7 @@ pub fn column_body_end(s: &[u8], at: usize) -> End
     let End::At(e) = n else {
         return End::Nothing;
     };
-    kind_end(s, e)
+    column_kind_end(s, e)
 }
 
 // The end of `(COL num)`.

@@ -1,5 +1,5 @@
 // Walking through the lists of a line that was read: where the words of a bracket stand, and where a bracket or an item ends.
-use text::amounts::range_end;
+use calendar::cell_values::cell_value_end;
 use text::bytes::byte_at;
 use text::walking::next_word;
 use text::walking::skip_byte;
@@ -61,15 +61,15 @@ pub fn cell_end(line: &[u8], at: usize) -> usize
     skip_byte(line, word_end(line, last), b')')
 }
 
-// Whether the item of a row at a place is `(v L)`: a bracket opens that is no range.
+// Whether the item of a row at a place is `(v L)`: a bracket opens that is no value.
 pub fn is_labelled(line: &[u8], at: usize) -> bool
     ensures { λ r. ⌜ r ≡ isLabelledAt (now (line .entry)) at ⌝ }
 {
     if byte_at(line, at) != b'(' {
         return false;
     }
-    let k = range_end(line, at);
-    match k {
+    let v = cell_value_end(line, at);
+    match v {
         End::At(_) => false,
         End::Nothing => true,
     }

@@ -29,7 +29,7 @@ use Rattle.text.proofs.RefusalLaws.{not-refused}
 use Rattle.text.specs.Reasons.{reasonNumber, refusalOf}
 use Rattle.text.specs.Refusal.{Result, accepted, refused}
 use Rattle.text.specs.declared.refusals.Reason.{Reason}
-use Rattle.text.specs.declared.refusals.Reason.the-variants.{BufferTooShort, ClockOutOfRange, Closed, ImportTooShort, LateAttribute, MalformedRecord, MistypedQuery, NameTaken, NameUnknown, NotAQuery, NotAuthorised, OverBound, RangeNotTaken, RangeReversed, RoleNotGiven, SecondRoot, TooLong, UnfitField, UnknownColumn, UnknownParty, WrongForm, WrongType, WrongValues}
+use Rattle.text.specs.declared.refusals.Reason.the-variants.{BufferTooShort, ClockOutOfRange, Closed, ImportTooShort, LateAttribute, MalformedRecord, MistypedQuery, NameTaken, NameUnknown, NoSuchDate, NotAQuery, NotAuthorised, OverBound, RangeNotTaken, RangeReversed, RoleNotGiven, SecondRoot, TooLong, UnfitField, UnknownColumn, UnknownParty, WrongForm, WrongType, WrongValues}
 use Rattle.text.specs.declared.refusals.Refusal.{Refusal}
 
 -- no refusal has the code 0
@@ -57,6 +57,7 @@ numbered UnfitField e = omega (arith, e)
 numbered ImportTooShort e = omega (arith, e)
 numbered RangeNotTaken e = omega (arith, e)
 numbered RangeReversed e = omega (arith, e)
+numbered NoSuchDate e = omega (arith, e)
 
 -- the outcome of asking and its figures have one code, and the one is accepted where the other is
 code-figures : (o : Outcome) → codeOf (inFigures o) ≡ codeOf o

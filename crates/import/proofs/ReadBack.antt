@@ -18,7 +18,7 @@ use Rattle.csv.specs.Records.{Entry, firstUnfit, records, split}
 use Rattle.lists.proofs.KeptLaws.{all-append}
 use Rattle.lists.proofs.Tests.{and-both, and-left, and-right}
 use Rattle.lists.specs.Lists.{allOf}
-use Rattle.text.proofs.CellValues.{values-cells}
+use Rattle.calendar.proofs.CellValues.{values-cells}
 use Rattle.text.proofs.ByteLaws.{name-value, value-nameBytes}
 use Rattle.text.proofs.LineLaws.{cut-line, noFeed}
 use Rattle.text.proofs.ReadBack.{placeless}

@@ -1,6 +1,7 @@
 -- Laws of reading the comparisons and of judging the rows. Assumes nothing.
 pub mod ValueLaws
 pub mod OpenCells
+pub mod DateLaws
 pub mod ConstantLaws
 pub mod TestLaws
 pub mod TypeLaws

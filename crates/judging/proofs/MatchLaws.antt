@@ -9,8 +9,8 @@ use mathlib.Core.Option.{Option, Option·getD, Option·map, bind, none, some}
 use mathlib.Core.Path.{_∙_, _≡_, ap, refl, subst, sym}
 use native.Mathlib.Omega.{arith}
 use Rattle.answer.specs.Answer.{matches}
-use Rattle.judging.proofs.TypeLaws.{tabulated-taken, wrong-read}
-use Rattle.judging.specs.Reading.{Comparable, TestsRead, firstWrong, wrongBy}
+use Rattle.judging.proofs.TypeLaws.{missing-told, none-at, tabulated-taken, wrong-none, wrong-read}
+use Rattle.judging.specs.Reading.{Comparable, TestsRead, firstMissing, firstWrong, missingBy, wrongBy}
 use Rattle.judging.specs.Tests.{ProgramOf, TestAt, TestOf, comparisonBy, modeUnder, testIn}
 use Rattle.judging.specs.declared.sought.Sought.{Sought}
 use Rattle.judging.specs.declared.tests.TestRead.{TestRead}
@@ -32,13 +32,13 @@ use Rattle.program.proofs.ProgramLaws.{Agree, program-two}
 use Rattle.program.specs.Program.{Programmed, comesTo}
 use Rattle.query.specs.QueryForm.{modeOf}
 use Rattle.query.specs.QueryPlaces.{conditionAt, verbOf}
-use Rattle.query.specs.Query.{columnComparison}
+use Rattle.query.specs.Query.{columnComparison, isMissingDate}
 use Rattle.query.specs.declared.reading.Test.the-variants as tests
 use Rattle.query.specs.declared.reading.Test.{Test}
 use Rattle.text.specs.Numbers.{Value}
 use Rattle.text.specs.Reader.{Left, from}
-use Rattle.text.specs.Offending.{leftmost}
-use Rattle.text.specs.Words.{Word, isCalled, wordAt}
+use Rattle.text.specs.Offending.{leftmost, offendingIf}
+use Rattle.text.specs.Words.{Word, isCalled, writtenAt}
 use Rattle.workspace.proofs.TabulatedLaws.{tabulated-same}
 
 -- a condition has one comparison at least
@@ -140,7 +140,7 @@ module _ (text ts : List ℕ) (k t : ℕ) (d : Policy) (tables : Tables text ts 
     of = (h .column ∙ number) i;
     kind = (h .kind (table-inside text ts k t d tables inside) (column-inside text ts k t d tables inside c number-inside) ∙ sym kind-is) i;
     op = h .operator i;
-    value = wordAt s (h .place i);
+    value = writtenAt s (h .place i);
   }
 
   -- and tells what is wrong with its types
@@ -257,12 +257,27 @@ module _ (text ts s : List ℕ) (g : Sought) (ops cs : List ℕ) (d : Policy) (p
         ∙ sym (map-map wrong (comparedAt s) (take (g .tests) ops))
         ∙ ap (map wrong) (pr .compared))
 
+    -- 31, likewise
+    abbrev absent : Compared → Option Word
+    absent x = offendingIf (isMissingDate (x .value .bytes)) (x .value)
+
+    dates-told : firstMissing s rs (g .tests) ≡ leftmost (map absent (comparisonsIn (conditionAt s (g .test))))
+    unfolding firstMissing
+    dates-told =
+        ap leftmost
+        (tabulated-same (λ j. missingBy s (testIn rs j)) (λ j. absent (comparedAt s (getD ops j 0))) (g .tests)
+        (λ j l. missing-told ts (g .table) s (getD ops j 0) (getD cs (g .chosen + j) 0) (getD trues j 0) (getD falses j 0) (modeUnder mode (getD flips j false)) (testIn rs j) (each j l))
+        ∙ tabulated-taken (λ p. absent (comparedAt s p)) (g .tests) ops long
+        ∙ sym (map-map absent (comparedAt s) (take (g .tests) ops))
+        ∙ ap (map absent) (pr .compared))
+
     pub tests-read : ProgramOf s (g .test) trues falses flips → TestsRead s g rs columns
     tests-read p = record {
       wrong = wrong-told;
-      tested = record {
+      dates = dates-told;
+      tested = λ typed. record {
         few = pr .few;
-        sized = λ j l. each j l .sized;
+        sized = λ j l. each j l .sized (wrong-none s (testIn rs j) (none-at (λ i. wrongBy s (testIn rs i)) (g .tests) j l (unfold firstWrong in typed)));
         trues = trues;
         falses = falses;
         flips = flips;

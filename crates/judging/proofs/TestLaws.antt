@@ -12,13 +12,15 @@ use native.Mathlib.Omega.{arith}
 use Rattle.answer.specs.Answer.{matches}
 use Rattle.judging.specs.Tests.{ProgramOf, Sized, TestOf, TestStored, Tested, comparisonBy, modeIs, modeUnder, testHolds, testIn}
 use Rattle.judging.specs.declared.tests.TestRead.{TestRead}
+use Rattle.calendar.specs.DateText.{dayRankOf}
 use Rattle.condition.specs.Answers.{modeBy, operatorBy}
-use Rattle.condition.specs.Comparison.{Comparison, namesMeet}
+use Rattle.condition.specs.Comparison.{Comparison, namesMeet, ranksMeet}
 use Rattle.condition.specs.Cond.{Cond}
-use Rattle.condition.specs.Kinds.{Kind, Op, names}
+use Rattle.condition.specs.Kinds.{Kind, Op}
 use Rattle.condition.specs.Ranges.{Mode, endsOf, meetsIn, other, rangeMeets, valuesMeetIn}
 use Rattle.condition.specs.declared.conditions.Read.{Read}
 use Rattle.condition.specs.declared.conditions.Read.the-variants as read
+use Rattle.workspace.proofs.CellLaws.{kind-dates}
 use Rattle.workspace.specs.Cells.{kindOfCell}
 use Rattle.relations.specs.Rows.{rowIn}
 use Rattle.lists.proofs.Tests.{and-left, both, never, true-not-false}
@@ -42,12 +44,6 @@ use Rattle.text.specs.Words.{toClosing, wordAt, writtenAt}
 pub same-turned : (m n : Name) → sameName m n ≡ sameName n m
 same-turned m n = both (sameName m n) (sameName n m) (sameName-sym m n) (sameName-sym n m)
 
--- every number but 0 is the type of names
-kind-names : (n : ℕ) → (n ≡ 0 → ⊥) → kindOfCell n ≡ names
-unfolding kindOfCell
-kind-names zero h = absurd (h refl)
-kind-names (suc n) h = refl
-
 -- a name is no value that begins with a bracket
 pub bracket-unlike : (q : List ℕ) (p : ℕ) (s : List ℕ) (at : ℕ) → getD s at 0 ≡ 40 → sameName (wordAt q p) (writtenAt s at) ≡ false
 unfolding sameName isNameByte isLetter isDigit
@@ -69,14 +65,22 @@ module _ (text ws : List ℕ) (r : ℕ) (s : List ℕ) (x : TestRead) (o : Op) (
   unfolding testHolds meetsIn valuesMeetIn kindOfCell
   holds-numbers z sized e n ee en h =
       h ∙ (λ i. rangeMeets (modeIs x) (eo i) ((ee ∙ ap endsOf ev) i .low) ((ee ∙ ap endsOf ev) i .high) ((en ∙ sized .ranked (ap kindOfCell z)) i))
-      ∙ ap (λ (y : ℕ). valuesMeetIn (modeIs x) (kindOfCell y) (operatorBy (x .operator)) (getD (rowIn text ws r .values) (x .column) []) (wordAt s (x .place))) (sym z)
+      ∙ ap (λ (y : ℕ). valuesMeetIn (modeIs x) (kindOfCell y) (operatorBy (x .operator)) (getD (rowIn text ws r .values) (x .column) []) (writtenAt s (x .place))) (sym z)
 
   -- of names
-  pub holds-names : (x .kind ≡ 0 → ⊥) → b ≡ namesMeet o v (wordAt s (x .place)) → b ≡ testHolds text ws r s x
+  pub holds-names : x .kind ≡ 1 → Sized s x → b ≡ namesMeet o v (wordAt s (x .place)) → b ≡ testHolds text ws r s x
+  unfolding testHolds meetsIn valuesMeetIn kindOfCell
+  holds-names z sized h =
+      h ∙ (λ i. namesMeet (eo i) (ev i) (sym (sized .plain (ap kindOfCell z)) i))
+      ∙ ap (λ (y : ℕ). valuesMeetIn (modeIs x) (kindOfCell y) (operatorBy (x .operator)) (getD (rowIn text ws r .values) (x .column) []) (writtenAt s (x .place))) (sym z)
+
+  -- of dates, m being the rank of the value and n that of the other
+  pub holds-dates : (x .kind ≡ 0 → ⊥) → (x .kind ≡ 1 → ⊥) → Sized s x → (m n : ℕ) → m ≡ dayRankOf v → n ≡ x .rank → b ≡ ranksMeet o m n → b ≡ testHolds text ws r s x
   unfolding testHolds meetsIn valuesMeetIn
-  holds-names z h =
-      h ∙ (λ i. namesMeet (eo i) (ev i) (wordAt s (x .place)))
-      ∙ ap (λ (y : Kind). valuesMeetIn (modeIs x) y (operatorBy (x .operator)) (getD (rowIn text ws r .values) (x .column) []) (wordAt s (x .place))) (sym (kind-names (x .kind) z))
+  holds-dates y z sized m n em en h =
+      let k = kind-dates (x .kind) y z in
+      h ∙ (λ i. ranksMeet (eo i) ((em ∙ ap dayRankOf ev) i) ((en ∙ sized .dated k) i))
+      ∙ ap (λ (y : Kind). valuesMeetIn (modeIs x) y (operatorBy (x .operator)) (getD (rowIn text ws r .values) (x .column) []) (writtenAt s (x .place))) (sym k)
 
 -- ---- how it is asked
 

@@ -14,14 +14,15 @@ use native.Mathlib.Omega.{arith}
 use Rattle.condition.specs.Answers.{comparedAt, operatorBy}
 use Rattle.condition.specs.CondForm.{mistyped}
 use Rattle.condition.specs.Kinds.{hasKind, takes}
-use Rattle.judging.specs.Reading.{wrongBy}
+use Rattle.judging.specs.Reading.{missingBy, wrongBy}
 use Rattle.condition.specs.Ranges.{Mode}
 use Rattle.judging.specs.Tests.{TestOf}
 use Rattle.judging.specs.declared.tests.TestRead.{TestRead}
 use Rattle.lists.proofs.ListLaws.{map-append}
-use Rattle.text.proofs.OffendingLaws.{leftmost-fail, leftmost-nil, leftmost-on, leftmost-only, unless-false, unless-true}
-use Rattle.text.specs.Offending.{leftmost, unless}
-use Rattle.text.specs.Words.{Word, wordAt, wordOf}
+use Rattle.text.proofs.OffendingLaws.{leftmost-fail, leftmost-head, leftmost-nil, leftmost-on, leftmost-only, leftmost-tail, unless-false, unless-none, unless-true}
+use Rattle.query.specs.Query.{isMissingDate}
+use Rattle.text.specs.Offending.{leftmost, offendingIf, unless}
+use Rattle.text.specs.Words.{Word, writtenAt, writtenOf}
 use Rattle.workspace.specs.Cells.{kindOfCell}
 use Rattle.workspace.specs.Tabulated.{tabulated}
 
@@ -41,7 +42,24 @@ leftmost-stays [] ys w h = absurd (Option·none-ne-some _ h)
 leftmost-stays (none ∷ xs) ys w h = leftmost-stays xs ys w h
 leftmost-stays (some v ∷ xs) ys w h = h
 
+-- where two lists have none, each has none
+leftmost-parts : (xs ys : List (Option Word)) → leftmost (xs ++ ys) ≡ none → (leftmost xs ≡ none) × (leftmost ys ≡ none)
+unfolding leftmost
+leftmost-parts [] ys h = (refl, h)
+leftmost-parts (none ∷ xs) ys h = leftmost-parts xs ys h
+leftmost-parts (some w ∷ xs) ys h = absurd (Option·some-ne-none _ h)
+
 module _ (f : ℕ → Option Word) where
+  pub none-at : (k j : ℕ) → j < k → leftmost (tabulated f k) ≡ none → f j ≡ none
+  unfolding tabulated
+  none-at zero j l h = absurd (omega (arith, l))
+  none-at (suc k) j l h =
+      let p = leftmost-parts (tabulated f k) (f k ∷ []) h in
+      ⊎-elim (λ s. ap f s ∙ leftmost-head (f k) [] (p .1)) (λ m. none-at k j m (p .0)) (eq-or-lt-of-le (le j k l))
+    where
+      le : (j k : ℕ) → j < suc k → j ≤ k
+      le j k l = omega (arith, l)
+
   pub none-below : (k : ℕ) → ((i : ℕ) → i < k → f i ≡ none) → leftmost (tabulated f k) ≡ none
   unfolding tabulated
   none-below zero h = leftmost-nil
@@ -73,23 +91,43 @@ tabulated-taken h (suc m) xs l =
 pub wrong-read : (ts : List ℕ) (t : ℕ) (s : List ℕ) (op c y n : ℕ) (mode : Mode) (x : TestRead) → TestOf ts t s op c y n mode x → wrongBy s x ≡ mistyped (kindOfCell (x .kind)) (comparedAt s op)
 unfolding wrongBy mistyped comparedAt
 wrong-read ts t s op c y n mode x h = λ i.
-    leftmost (unless (takes (kindOfCell (x .kind)) (h .operator i)) (wordOf s (h .sign i))
-    ∷ unless ((h .fits ∙ ap (λ p. hasKind (kindOfCell (x .kind)) (wordAt s p)) (h .place)) i) (wordOf s (h .place i))
+    leftmost (unless (takes (kindOfCell (x .kind)) (h .operator i)) (writtenOf s (h .sign i))
+    ∷ unless ((h .fits ∙ ap (λ p. hasKind (kindOfCell (x .kind)) (writtenAt s p)) (h .place)) i) (writtenOf s (h .place i))
     ∷ [])
+
+-- where nothing is wrong, the value is of the type
+pub wrong-none : (s : List ℕ) (x : TestRead) → wrongBy s x ≡ none → eqb (x .fits) 1 ≡ true
+unfolding wrongBy
+wrong-none s x h = unless-none _ _ (leftmost-head _ _ (leftmost-tail _ _ h))
+
+-- what was read of a comparison tells whether its value is a date that does not exist
+pub missing-told : (ts : List ℕ) (t : ℕ) (s : List ℕ) (op c y n : ℕ) (mode : Mode) (x : TestRead) → TestOf ts t s op c y n mode x → missingBy s x ≡ offendingIf (isMissingDate (comparedAt s op .value .bytes)) (comparedAt s op .value)
+unfolding missingBy comparedAt
+missing-told ts t s op c y n mode x h = ap (λ p. offendingIf (isMissingDate (writtenAt s p)) (writtenOf s p)) (h .place)
 
 -- what the code finds of a comparison, where b says whether the operator takes the type
 module _ (s : List ℕ) (x : TestRead) (b : Bool) (is : b ≡ takes (kindOfCell (x .kind)) (operatorBy (x .operator))) where
-  pub wrong-operator : b ≡ false → some (wordOf s (x .sign)) ≡ wrongBy s x
+  pub wrong-operator : b ≡ false → some (writtenOf s (x .sign)) ≡ wrongBy s x
   unfolding wrongBy
-  wrong-operator h = sym (leftmost-fail _ (wordOf s (x .sign)) (unless (eqb (x .fits) 1) (wordOf s (x .place)) ∷ []) (sym is ∙ h))
+  wrong-operator h = sym (leftmost-fail _ (writtenOf s (x .sign)) (unless (eqb (x .fits) 1) (writtenOf s (x .place)) ∷ []) (sym is ∙ h))
 
   module _ (h : b ≡ true) where
-    by-value : wrongBy s x ≡ unless (eqb (x .fits) 1) (wordOf s (x .place))
+    by-value : wrongBy s x ≡ unless (eqb (x .fits) 1) (writtenOf s (x .place))
     unfolding wrongBy
-    by-value = leftmost-on _ (wordOf s (x .sign)) (unless (eqb (x .fits) 1) (wordOf s (x .place))) (sym is ∙ h)
+    by-value = leftmost-on _ (writtenOf s (x .sign)) (unless (eqb (x .fits) 1) (writtenOf s (x .place))) (sym is ∙ h)
 
     pub wrong-nothing : x .fits ≡ 1 → none ≡ wrongBy s x
-    wrong-nothing e = sym (by-value ∙ unless-true (eqb (x .fits) 1) (wordOf s (x .place)) (eq-eqb (x .fits) 1 e))
+    wrong-nothing e = sym (by-value ∙ unless-true (eqb (x .fits) 1) (writtenOf s (x .place)) (eq-eqb (x .fits) 1 e))
 
-    pub wrong-value : (x .fits ≡ 1 → ⊥) → some (wordOf s (x .place)) ≡ wrongBy s x
-    wrong-value e = sym (by-value ∙ unless-false (eqb (x .fits) 1) (wordOf s (x .place)) (ne-eqb (x .fits) 1 e))
+    pub wrong-value : (x .fits ≡ 1 → ⊥) → some (writtenOf s (x .place)) ≡ wrongBy s x
+    wrong-value e = sym (by-value ∙ unless-false (eqb (x .fits) 1) (writtenOf s (x .place)) (ne-eqb (x .fits) 1 e))
+
+-- the first date that does not exist, by the test b
+module _ (s : List ℕ) (x : TestRead) (b : Bool) (is : b ≡ isMissingDate (writtenAt s (x .place))) where
+  pub missing-here : b ≡ true → missingBy s x ≡ some (writtenOf s (x .place))
+  unfolding missingBy offendingIf
+  missing-here h = ap (λ t. offendingIf t (writtenOf s (x .place))) (sym is ∙ h)
+
+  pub missing-not : b ≡ false → missingBy s x ≡ none
+  unfolding missingBy offendingIf
+  missing-not h = ap (λ t. offendingIf t (writtenOf s (x .place))) (sym is ∙ h)

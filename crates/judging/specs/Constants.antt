@@ -1,7 +1,8 @@
 -- Contract: a constant that a condition compares with, as it is read.
 use lib.Dec.{eqb}
 use mathlib.Core.Path.{_≡_}
-use Rattle.condition.specs.Kinds.{Kind, hasKind, numbers}
+use Rattle.calendar.specs.DateText.{dayRankOf}
+use Rattle.condition.specs.Kinds.{Kind, dates, hasKind, numbers}
 use Rattle.judging.specs.declared.constants.Constant.{Constant}
 use Rattle.lists.specs.Lists.{orZero}
 use Rattle.text.specs.Numbers.{Value, rank}
@@ -10,3 +11,4 @@ use Rattle.text.specs.Numbers.{Value, rank}
 pub record ConstantOf (k : Kind) (v : Value) (x : Constant) : Type 0 where
   pub fits : eqb (x .fits) 1 ≡ hasKind k v
   pub ranked : k ≡ numbers → x .rank ≡ orZero (rank v)
+  pub dated : k ≡ dates → x .rank ≡ dayRankOf v

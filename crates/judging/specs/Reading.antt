@@ -1,10 +1,10 @@
--- Contract: what reading a query's comparisons needs of it, and what it gives: 16, and how the rows are judged.
+-- Contract: what reading a query's comparisons needs of it, and what it gives: 16, 31, and how the rows are judged.
 use Prim.Native.Nat.{_<_, _≤_, ℕ}
 use lib.Dec.{eqb}
 use lib.ListN.{drop, take}
 use mathlib.Core.Bool.{true}
 use mathlib.Core.List.{List, [], _∷_, map}
-use mathlib.Core.Option.{Option, Option·map}
+use mathlib.Core.Option.{Option, Option·map, none}
 use mathlib.Core.Path.{_≡_}
 use Rattle.condition.specs.Answers.{comparedAt, operatorBy}
 use Rattle.condition.specs.Cond.{comparisonsIn, mapCond}
@@ -16,12 +16,12 @@ use Rattle.judging.specs.Tests.{Tested, testIn}
 use Rattle.judging.specs.declared.sought.Sought.{Sought}
 use Rattle.judging.specs.declared.tests.TestRead.{TestRead}
 use Rattle.lists.specs.Lists.{allOf, orZero, there}
-use Rattle.query.specs.Query.{columnComparison}
+use Rattle.query.specs.Query.{columnComparison, isMissingDate}
 use Rattle.query.specs.QueryForm.{modeOf}
 use Rattle.query.specs.QueryPlaces.{conditionAt, verbOf}
 use Rattle.relations.specs.Tables.{Tables}
-use Rattle.text.specs.Offending.{leftmost, unless}
-use Rattle.text.specs.Words.{Word, wordOf}
+use Rattle.text.specs.Offending.{leftmost, offendingIf, unless}
+use Rattle.text.specs.Words.{Word, writtenAt, writtenOf}
 use Rattle.workspace.specs.Cells.{kindOfCell}
 use Rattle.workspace.specs.Tabulated.{tabulated}
 
@@ -43,14 +43,23 @@ pub record Comparable (text ts s : List ℕ) (g : Sought) (ops cs : List ℕ) (d
 
 -- the operator of a comparison, or else its value, that is of the wrong type, as what was read tells it
 unfoldable pub wrongBy : List ℕ → TestRead → Option Word
-wrongBy s x = leftmost (unless (takes (kindOfCell (x .kind)) (operatorBy (x .operator))) (wordOf s (x .sign)) ∷ unless (eqb (x .fits) 1) (wordOf s (x .place)) ∷ [])
+wrongBy s x = leftmost (unless (takes (kindOfCell (x .kind)) (operatorBy (x .operator))) (writtenOf s (x .sign)) ∷ unless (eqb (x .fits) 1) (writtenOf s (x .place)) ∷ [])
 
 -- the first of the wrong type among the m comparisons of the array ws
 unfoldable pub firstWrong : (s ws : List ℕ) → ℕ → Option Word
 firstWrong s ws m = leftmost (tabulated (λ j. wrongBy s (testIn ws j)) m)
 
--- the comparisons of what is sought are read into the array ws: it tells what is of the wrong type (16), and what the condition,
--- whose columns are among these, comes to of a row
+-- the value of a comparison, where it is a date that does not exist
+unfoldable pub missingBy : List ℕ → TestRead → Option Word
+missingBy s x = offendingIf (isMissingDate (writtenAt s (x .place))) (writtenOf s (x .place))
+
+-- the first date that does not exist among the m comparisons of the array ws
+unfoldable pub firstMissing : (s ws : List ℕ) → ℕ → Option Word
+firstMissing s ws m = leftmost (tabulated (λ j. missingBy s (testIn ws j)) m)
+
+-- the comparisons of what is sought are read into the array ws: it tells what is of the wrong type (16), which date does not exist
+-- (31), and, where the types are right, what the condition, whose columns are among these, comes to of a row
 pub record TestsRead (s : List ℕ) (g : Sought) (ws : List ℕ) (columns : List Column) : Type 0 where
   pub wrong : firstWrong s ws (g .tests) ≡ leftmost (map (λ x. mistyped (columnKind columns (x .of)) x) (comparisonsIn (conditionAt s (g .test))))
-  pub tested : Tested s ws (g .tests) (modeOf (verbOf (g .verb))) (Option·map (mapCond (columnComparison columns)) (conditionAt s (g .test)))
+  pub dates : firstMissing s ws (g .tests) ≡ leftmost (map (λ x. offendingIf (isMissingDate (x .value .bytes)) (x .value)) (comparisonsIn (conditionAt s (g .test))))
+  pub tested : firstWrong s ws (g .tests) ≡ none → Tested s ws (g .tests) (modeOf (verbOf (g .verb))) (Option·map (mapCond (columnComparison columns)) (conditionAt s (g .test)))

@@ -9,10 +9,11 @@ use mathlib.Core.Path.{_≡_}
 use Rattle.answer.specs.Answer.{matches}
 use Rattle.judging.specs.declared.sought.Sought.{Sought}
 use Rattle.judging.specs.declared.tests.TestRead.{TestRead}
+use Rattle.calendar.specs.DateText.{dayRankOf}
 use Rattle.condition.specs.Answers.{modeBy, operatorBy, operatorOf}
 use Rattle.condition.specs.Comparison.{Comparison}
 use Rattle.condition.specs.Cond.{Cond}
-use Rattle.condition.specs.Kinds.{hasKind, numbers}
+use Rattle.condition.specs.Kinds.{dates, hasKind, names, numbers}
 use Rattle.condition.specs.Ranges.{Mode, meetsIn, other}
 use Rattle.condition.specs.declared.conditions.Read.{Read}
 use Rattle.workspace.specs.Cells.{kindOfCell}
@@ -26,7 +27,7 @@ use Rattle.query.specs.declared.reading.Test.the-variants as tests
 use Rattle.query.specs.declared.reading.Test.{Test}
 use Rattle.text.specs.Numbers.{Value, rank}
 use Rattle.text.specs.Walking.{nextWord}
-use Rattle.text.specs.Words.{wordAt}
+use Rattle.text.specs.Words.{wordAt, writtenAt}
 
 -- ---- one comparison
 
@@ -53,7 +54,7 @@ pub record TestStored (before after : List ℕ) (j : ℕ) (x : TestRead) : Type 
 
 -- the comparison that was read, where s is the query's text
 abbrev pub comparisonBy : List ℕ → TestRead → Comparison
-comparisonBy s x = record { of = x .column; kind = kindOfCell (x .kind); op = operatorBy (x .operator); value = wordAt s (x .place) }
+comparisonBy s x = record { of = x .column; kind = kindOfCell (x .kind); op = operatorBy (x .operator); value = writtenAt s (x .place) }
 
 -- the mode in which it is asked: 1 is for sure
 abbrev pub modeIs : TestRead → Mode
@@ -63,10 +64,12 @@ modeIs x = modeBy (eqb (x .certain) 1)
 abbrev pub modeUnder : Mode → Bool → Mode
 modeUnder m odd = cond odd (other m) m
 
--- its size is that of its value, and of a number so is its rank
+-- its size is that of its value where that is a name, and its rank is that of a number or a date
 pub record Sized (s : List ℕ) (x : TestRead) : Type 0 where
   pub size : x .size ≡ length (wordAt s (x .place))
-  pub ranked : kindOfCell (x .kind) ≡ numbers → x .rank ≡ orZero (rank (wordAt s (x .place)))
+  pub ranked : kindOfCell (x .kind) ≡ numbers → x .rank ≡ orZero (rank (writtenAt s (x .place)))
+  pub plain : kindOfCell (x .kind) ≡ names → writtenAt s (x .place) ≡ wordAt s (x .place)
+  pub dated : kindOfCell (x .kind) ≡ dates → x .rank ≡ dayRankOf (writtenAt s (x .place))
 
 -- x is read of the comparison of column c of table t whose operator stands at a place of s; it goes on with y or n, and is
 -- asked in this mode
@@ -76,8 +79,8 @@ pub record TestOf (ts : List ℕ) (t : ℕ) (s : List ℕ) (op c y n : ℕ) (mod
   pub operator : operatorBy (x .operator) ≡ operatorOf (wordAt s op)
   pub sign : x .sign ≡ op
   pub place : x .place ≡ nextWord s (nextWord s op)
-  pub fits : eqb (x .fits) 1 ≡ hasKind (kindOfCell (x .kind)) (wordAt s (x .place))
-  pub sized : Sized s x
+  pub fits : eqb (x .fits) 1 ≡ hasKind (kindOfCell (x .kind)) (writtenAt s (x .place))
+  pub sized : eqb (x .fits) 1 ≡ true → Sized s x
   pub hit : x .hit ≡ y
   pub miss : x .miss ≡ n
   pub asked : modeIs x ≡ mode

@@ -1,4 +1,4 @@
-// The comparisons of a query read once, and their types (16); the rows of its table, each judged once: those that pass are marked,
+// The comparisons of a query read once, and their types (16) and dates (31); the rows of its table, each judged once: those that pass are marked,
 // and all are counted.
 pub mod cells;
 mod comparing;

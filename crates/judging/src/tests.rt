@@ -1,4 +1,4 @@
-// The comparisons of a query, read once into one array: 16 is told from it, and the rows are judged by it.
+// The comparisons of a query, read once into one array: 16 and 31 are told from it, and the rows are judged by it.
 use crate::constants::read_constant;
 use crate::sought::Sought;
 use condition::kinds::op_at;
@@ -30,7 +30,7 @@ pub(crate) const TESTS: usize = 64;
 pub const TEST_CELLS: usize = 704;
 
 // A comparison as it is read: the number of its column, its type as a number, the code of its operator and where that stands in the
-// query; where its value stands, how long it is, 1 if it is of the type and else 0, and its rank, if it is a number; and the
+// query; where its value stands, how long it is, 1 if it is of the type and else 0, and its rank, if it is a number or a date; and the
 // comparison to go on with where it holds, and where it does not; and 1 if it is asked for sure, 0 if it is for what is possible.
 pub(crate) struct TestRead {
     pub column: usize,

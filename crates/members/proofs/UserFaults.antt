@@ -7,7 +7,7 @@ use mathlib.Core.Bool.{_&&_, false, not, true}
 use mathlib.Core.List.{List, [], _∷_, map}
 use mathlib.Core.Option.{Option, none, some}
 use mathlib.Core.Path.{_∙_, _≡_, ap, refl, sym}
-use Rattle.document.specs.AmountFaults.{brokenRange}
+use Rattle.document.specs.AmountFaults.{brokenRange, noSuchDate}
 use Rattle.document.specs.Bounds.{lateAttr, overBound, secondRoot}
 use Rattle.document.specs.Check.{checkForm}
 use Rattle.document.specs.Lookup.{attributeOf, roleOf}
@@ -100,5 +100,5 @@ module _ (d : Doc) (line : List ℕ) (u r : Word) (gs : List GivenForm) where
 
             -- nothing is wrong
             pub user-fine : leftmost (map (mistypedGiven (d .policy)) gs) ≡ none → checkForm d line (user u r gs) ≡ accepted (add d (user u r gs))
-            unfolding wrongType brokenRange lateAttr
-            user-fine h = judge-fine d line (user u r gs) few free all-known no-root (fits ∙ ap not full) h refl refl
+            unfolding wrongType brokenRange noSuchDate lateAttr
+            user-fine h = judge-fine d line (user u r gs) few free all-known no-root (fits ∙ ap not full) h refl refl refl

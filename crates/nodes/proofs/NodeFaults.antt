@@ -8,7 +8,7 @@ use mathlib.Core.List.{List, []}
 use mathlib.Core.Option.{Option, none, some}
 use mathlib.Core.Path.{_∙_, _≡_, ap, refl}
 use native.Mathlib.Omega.{arith}
-use Rattle.document.specs.AmountFaults.{brokenRange}
+use Rattle.document.specs.AmountFaults.{brokenRange, noSuchDate}
 use Rattle.document.specs.Bounds.{lateAttr, overBound, secondRoot}
 use Rattle.document.specs.Lookup.{purposeOf, roleOf}
 use Rattle.document.specs.NameFaults.{taken, unknown}
@@ -47,10 +47,11 @@ pub record Kind (nodes : Policy → List Node) (form : Word → Option Word → 
   pub fits : (d : Policy) (w : Word) (p : Option Word) → misfit d (form w p) ≡ false
   pub typed : (d : Policy) (w : Word) (p : Option Word) → wrongType d (form w p) ≡ none
   pub ordered : (d : Policy) (w : Word) (p : Option Word) → brokenRange d (form w p) ≡ none
+  pub dated : (d : Policy) (w : Word) (p : Option Word) → noSuchDate d (form w p) ≡ none
   pub early : (d : Policy) (w : Word) (p : Option Word) → lateAttr d (form w p) ≡ false
 
 pub purpose-kind : Kind (λ d. d .purposes) purpose limit
-unfolding overBound taken unknown secondRoot misfit wrongType brokenRange lateAttr purposeOf there
+unfolding overBound taken unknown secondRoot misfit wrongType brokenRange noSuchDate lateAttr purposeOf there
 purpose-kind = record {
   bound = λ d w p. refl;
   taken = λ d w p. refl;
@@ -59,11 +60,12 @@ purpose-kind = record {
   fits = λ d w p. refl;
   typed = λ d w p. refl;
   ordered = λ d w p. refl;
+  dated = λ d w p. refl;
   early = λ d w p. refl;
 }
 
 pub role-kind : Kind (λ d. d .roles) role 64
-unfolding overBound taken unknown secondRoot misfit wrongType brokenRange lateAttr roleOf
+unfolding overBound taken unknown secondRoot misfit wrongType brokenRange noSuchDate lateAttr roleOf
 role-kind = record {
   bound = λ d w p. refl;
   taken = λ d w p. refl;
@@ -72,6 +74,7 @@ role-kind = record {
   fits = λ d w p. refl;
   typed = λ d w p. refl;
   ordered = λ d w p. refl;
+  dated = λ d w p. refl;
   early = λ d w p. refl;
 }
 
@@ -129,6 +132,7 @@ module _ (nodes : Policy → List Node) (form : Word → Option Word → Form) (
             (λ d h. kind .fits (d .policy) (wordOf line n) p)
             (λ d h. kind .typed (d .policy) (wordOf line n) p)
             (λ d h. kind .ordered (d .policy) (wordOf line n) p)
+            (λ d h. kind .dated (d .policy) (wordOf line n) p)
             l
             (λ d h. kind .early (d .policy) (wordOf line n) p)
 

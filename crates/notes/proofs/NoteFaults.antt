@@ -6,7 +6,7 @@ use mathlib.Core.List.{List}
 use mathlib.Core.Option.{none, some}
 use mathlib.Core.Path.{_∙_, _≡_, ap, refl, subst, sym}
 use native.Mathlib.Omega.{arith}
-use Rattle.document.specs.AmountFaults.{brokenRange}
+use Rattle.document.specs.AmountFaults.{brokenRange, noSuchDate}
 use Rattle.document.specs.Bounds.{lateAttr, overBound, secondRoot}
 use Rattle.document.specs.Lookup.{isPublic, notesOf, tableOf}
 use Rattle.document.specs.NameFaults.{taken, takenNote, unknown}
@@ -80,8 +80,8 @@ module _ (text ws : List ℕ) (k : ℕ) (line : List ℕ) (t : ℕ) (x : Found)
     public-twice p = says-taken Held (t ≤ length line) line Said 0 1 roomy t (λ q. q) (λ d h. said-so d h ∙ ap (λ c. offendingIf c (wordOf line t)) p)
 
     pub public-once : b ≡ false → Says Fine
-    unfolding offendingIf unknown noteLabels lateAttr secondRoot misfit wrongType brokenRange
+    unfolding offendingIf unknown noteLabels lateAttr secondRoot misfit wrongType brokenRange noSuchDate
     public-once p =
         says-fine Held (t ≤ length line) line Said 0 1 roomy (λ d h. said-so d h ∙ ap (λ c. offendingIf c (wordOf line t)) p)
         (λ d h. leftmost-on _ (wordOf line t) _ (found-there x _ (looked-up d h) n e) ∙ missing-nil _)
-        (λ d h. refl) (λ d h. refl) (λ d h. refl) (λ d h. refl) (omega arith) (λ d h. refl)
+        (λ d h. refl) (λ d h. refl) (λ d h. refl) (λ d h. refl) (λ d h. refl) (omega arith) (λ d h. refl)

@@ -14,14 +14,14 @@ use Rattle.document.specs.Lookup.{columnKind, columnOf, columnsOf, labellingOf,
 use Rattle.document.specs.Open.{columnOpen, tableOpen}
 use Rattle.document.specs.Policy.{Column, Policy}
 use Rattle.query.proofs.WantedLaws.{gaps-map, selected-map}
-use Rattle.query.specs.Query.{closedPart, columnComparison, columnsIn, mistypedQuery, openFor, resolved, sourceOf, unknownColumn, unknownParty, wantedOf}
+use Rattle.query.specs.Query.{closedPart, columnComparison, columnsIn, missingDate, mistypedQuery, isMissingDate, openFor, resolved, sourceOf, unknownColumn, unknownParty, wantedOf}
 use Rattle.query.specs.QueryForm.{QueryForm, Ref, Wanted, countsOnly, hasGaps, mapWanted, namedRefs, namedWords, plainRef, rowsOf, selectedRefs, selectedWords, testedRefs, withholdingRefs, withinBounds}
 use Rattle.lists.proofs.KeptLaws.{keep-map}
 use Rattle.lists.proofs.ListLaws.{map-append, map-map}
 use Rattle.text.proofs.Places.{leftmost-placeless, unless-placeless}
 use Rattle.text.proofs.ReadBack.{placeless}
 use Rattle.lists.specs.Lists.{anyOf, found, keep, orZero, there}
-use Rattle.text.specs.Offending.{leftmost, missing, unless}
+use Rattle.text.specs.Offending.{leftmost, missing, offendingIf, unless}
 use Rattle.text.specs.Words.{Word, isCalled, plainWord}
 
 -- a query without places
@@ -126,6 +126,18 @@ module _ (d : Policy) (q : QueryForm) where
       let f : Word → Kind = columnKind (columnsOf d (q .table)) in
       ap (λ l. leftmost (map (λ (x : Compared). mistyped (f (x .of)) x) l)) (comparisons-placeless q)
       ∙ tests-placeless placelessCompared (λ x. mistyped (f (x .of)) x) (λ x. mistyped-placeless f (λ w. refl) x) (comparisonsIn (q .condition))
+
+offending-placeless : (b : Bool) (w : Word) → offendingIf b (placeless w) ≡ Option·map placeless (offendingIf b w)
+unfolding offendingIf
+offending-placeless true w = refl
+offending-placeless false w = refl
+
+pub dates-placeless : (q : QueryForm) → missingDate (placelessQuery q) ≡ Option·map placeless (missingDate q)
+unfolding missingDate placelessCompared placeless plainWord
+dates-placeless q =
+    let f : Compared → Option Word = λ x. offendingIf (isMissingDate (x .value .bytes)) (x .value) in
+    ap (λ l. leftmost (map f l)) (comparisons-placeless q)
+    ∙ tests-placeless placelessCompared f (λ x. offending-placeless (isMissingDate (x .value .bytes)) (x .value)) (comparisonsIn (q .condition))
 
 wanted-placeless : (cs : List Column) (w : Wanted Word) → wantedOf cs (mapWanted placeless w) ≡ wantedOf cs w
 unfolding wantedOf mapWanted columnOf isCalled placeless plainWord

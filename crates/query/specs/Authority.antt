@@ -1,10 +1,11 @@
 -- Meaning: clock and authority (01, "Clock and authority"; 001, definition 8).
-use Prim.Native.Nat.{_%_, ℕ}
+use Prim.Native.Nat.{ℕ}
 use lib.Dec.{eqb, leb}
 use lib.ListN.{getElem?}
-use mathlib.Core.Bool.{Bool, _&&_, _||_, cond, not}
+use mathlib.Core.Bool.{Bool, _&&_}
 use mathlib.Core.List.{[], _∷_}
 use mathlib.Core.Option.{Option, Option·map, bind, none, some}
+use Rattle.calendar.specs.Calendar.{daysIn}
 use Rattle.condition.specs.Comparison.{Comparison, meets, ranksMeet}
 use Rattle.condition.specs.Cond.{holds}
 use Rattle.document.specs.Policy.{CondRole, Grant, Policy, User, treeOf}
@@ -18,14 +19,6 @@ pub record Clock : Type 0 where
   pub year : ℕ
   pub day : ℕ
   pub hour : ℕ
-
--- a Gregorian leap year: divisible by 4, not by 100 unless by 400
-unfoldable pub leap : ℕ → Bool
-leap y = eqb (y % 4) 0 && (not (eqb (y % 100) 0) || eqb (y % 400) 0)
-
--- the number of days in a year
-unfoldable pub daysIn : ℕ → ℕ
-daysIn y = cond (leap y) 366 365
 
 -- year 1 to 9999, day 1 to 365 or 366, hour 0 to 23
 unfoldable pub inRange : Clock → Bool

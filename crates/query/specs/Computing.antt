@@ -2,6 +2,7 @@
 use Rattle.lists.specs.Computing as lists
 use Rattle.purpose.specs.Computing as purpose
 use Rattle.text.specs.Computing as text
+use Rattle.calendar.specs.Computing as calendar
 use Rattle.condition.specs.Computing as condition
 use Rattle.form.specs.Computing as form
 use Rattle.document.specs.Computing as document
@@ -13,5 +14,5 @@ use Rattle.query.specs.QueryPlaces as QueryPlaces
 use Rattle.query.specs.QueryPartPlaces as QueryPartPlaces
 
 unfoldable pub computing : Unit {0}
-unfolding mathlib.Core.Option.bind mathlib.Core.List.flatten lists.computing purpose.computing text.computing condition.computing form.computing document.computing QueryForm.selected QueryForm.mapWanted QueryForm.leavesGaps QueryForm.hasGaps QueryForm.takesRanges QueryForm.admitsRanges QueryForm.modeOf QueryForm.modeIn QueryForm.columnList QueryForm.wantedRows QueryForm.queryBody QueryForm.queryForms QueryForm.queryForm QueryForm.selectedWords QueryForm.selectedRefs QueryForm.testedRefs QueryForm.namedRefs QueryForm.withholdingRefs QueryForm.namedWords QueryForm.withinBounds QueryForm.ifWithinBounds QueryForm.queryOf Authority.leap Authority.daysIn Authority.inRange Authority.clockNumber Authority.userValue Authority.attributeMeets Authority.belongs Authority.authorises Authority.firstGrant Query.tested Query.unknownParty Query.unknownColumn Query.mistypedQuery Query.openFor Query.closedPart Query.columnsIn Query.sourceOf Query.sources Query.columnComparison Query.wantedOf Query.resolved HostClock.clockOf QueryPlaces.conditionAt QueryPlaces.selectedFrom QueryPlaces.verbOf QueryPlaces.wantedAt QueryPlaces.formAt QueryPlaces.asksRows QueryPlaces.verbIn QueryPlaces.chosenCount QueryPlaces.comparisonCount QueryPlaces.TestWithin QueryPlaces.WantedWithin QueryPlaces.ReadsQuery QueryPartPlaces.headThen QueryPartPlaces.headTo QueryPartPlaces.HeadedWithin QueryPartPlaces.listedAt QueryPartPlaces.ListedWithin QueryPartPlaces.testedAt QueryPartPlaces.TestedWithin QueryPartPlaces.bodyAt QueryPartPlaces.BodyWithin QueryPartPlaces.isBounded
+unfolding mathlib.Core.Option.bind mathlib.Core.List.flatten lists.computing purpose.computing text.computing calendar.computing condition.computing form.computing document.computing QueryForm.selected QueryForm.mapWanted QueryForm.leavesGaps QueryForm.hasGaps QueryForm.takesRanges QueryForm.admitsRanges QueryForm.modeOf QueryForm.modeIn QueryForm.columnList QueryForm.wantedRows QueryForm.queryBody QueryForm.queryForms QueryForm.queryForm QueryForm.selectedWords QueryForm.selectedRefs QueryForm.testedRefs QueryForm.namedRefs QueryForm.withholdingRefs QueryForm.namedWords QueryForm.withinBounds QueryForm.ifWithinBounds QueryForm.queryOf Authority.inRange Authority.clockNumber Authority.userValue Authority.attributeMeets Authority.belongs Authority.authorises Authority.firstGrant Query.tested Query.unknownParty Query.unknownColumn Query.mistypedQuery Query.isMissingDate Query.missingDate Query.openFor Query.closedPart Query.columnsIn Query.sourceOf Query.sources Query.columnComparison Query.wantedOf Query.resolved HostClock.clockOf QueryPlaces.conditionAt QueryPlaces.selectedFrom QueryPlaces.verbOf QueryPlaces.wantedAt QueryPlaces.formAt QueryPlaces.asksRows QueryPlaces.verbIn QueryPlaces.chosenCount QueryPlaces.comparisonCount QueryPlaces.TestWithin QueryPlaces.WantedWithin QueryPlaces.ReadsQuery QueryPartPlaces.headThen QueryPartPlaces.headTo QueryPartPlaces.HeadedWithin QueryPartPlaces.listedAt QueryPartPlaces.ListedWithin QueryPartPlaces.testedAt QueryPartPlaces.TestedWithin QueryPartPlaces.bodyAt QueryPartPlaces.BodyWithin QueryPartPlaces.isBounded
 computing = tt

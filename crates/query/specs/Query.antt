@@ -1,9 +1,11 @@
--- Meaning: queries resolved against a policy, and the faults 12 and 15 to 17 (01, "Queries" and "Asking").
+-- Meaning: queries resolved against a policy, and the faults 12, 15 to 17 and 31 (01, "Queries" and "Asking"; 02, Q-14).
 use Prim.Native.Nat.{ℕ}
-use mathlib.Core.Bool.{Bool, cond, true}
+use mathlib.Core.Bool.{Bool, cond, not, true}
 use mathlib.Core.List.{List, [], _++_, _∷_, map}
 use mathlib.Core.Option.{Option, Option·map}
 use mathlib.Core.Path.{_≡_}
+use Rattle.calendar.specs.Calendar.{exists}
+use Rattle.calendar.specs.DateText.{dateOf}
 use Rattle.condition.specs.Comparison.{Comparison}
 use Rattle.condition.specs.Cond.{Cond, comparisonsIn, mapCond}
 use Rattle.condition.specs.CondForm.{Compared, mistyped}
@@ -11,8 +13,9 @@ use Rattle.document.specs.Lookup.{columnKind, columnOf, columnsOf, labellingAt,
 use Rattle.document.specs.Open.{columnOpen, labelOpen, tableOpen}
 use Rattle.document.specs.Policy.{Column, Policy}
 use Rattle.query.specs.QueryForm.{QueryForm, Ref, Wanted, hasGaps, mapWanted, namedRefs, namedWords, selected, withholdingRefs}
-use Rattle.lists.specs.Lists.{anyOf, found, keep, member, orZero, there}
-use Rattle.text.specs.Offending.{leftmost, missing, unless}
+use Rattle.lists.specs.Lists.{anyOf, found, holdsOf, keep, member, orZero, there}
+use Rattle.text.specs.Numbers.{Value}
+use Rattle.text.specs.Offending.{leftmost, missing, offendingIf, unless}
 use Rattle.text.specs.Words.{Word, isCalled}
 
 -- a table that a query reads: its number, the columns that the query names in it, and those whose closed cells withhold a row
@@ -62,6 +65,14 @@ unknownColumn d q = leftmost (
 unfoldable pub mistypedQuery : Policy → QueryForm → Option Word
 mistypedQuery d q =
     leftmost (map (λ x. mistyped (columnKind (columnsOf d (q .table)) (x .of)) x) (comparisonsIn (q .condition)))
+
+-- the value is a date as a form, and there is no such date (02, Q-14)
+unfoldable pub isMissingDate : Value → Bool
+isMissingDate v = holdsOf (λ x. not (exists x)) (dateOf v)
+
+-- 31: no such date, in the condition
+unfoldable pub missingDate : QueryForm → Option Word
+missingDate q = leftmost (map (λ x. offendingIf (isMissingDate (x .value .bytes)) (x .value)) (comparisonsIn (q .condition)))
 
 -- the test of labels for the query's purpose, which is known
 unfoldable pub openFor : Policy → QueryForm → Option ℕ → Bool

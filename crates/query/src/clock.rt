@@ -1,36 +1,14 @@
 // The host's clock, and its range.
+use calendar::dates::days_in;
 ghost use mathlib.Core.Path.{_≡_};
 ghost use Rattle.query.specs.HostClock.{clockOf};
-ghost use Rattle.query.specs.Authority.{inRange, leap, daysIn};
+ghost use Rattle.query.specs.Authority.{inRange};
 
 // The host's clock. The day is counted from 1, the first of January.
 pub struct Clock {
     pub year: u64,
     pub day: u64,
     pub hour: u64,
-}
-
-// Whether a year is a Gregorian leap year.
-fn is_leap(year: u64) -> bool
-    ensures { λ r. ⌜ r ≡ leap year ⌝ }
-{
-    if year % 4 != 0 {
-        return false;
-    }
-    if year % 100 != 0 {
-        return true;
-    }
-    year % 400 == 0
-}
-
-// The number of days in a year.
-fn days_in(year: u64) -> u64
-    ensures { λ r. ⌜ r ≡ daysIn year ⌝ }
-{
-    if is_leap(year) {
-        return 366;
-    }
-    365
 }
 
 // Whether the clock is in range: year 1 to 9999, day 1 to 365 or 366, hour 0 to 23.

@@ -6,8 +6,9 @@ use mathlib.Core.List.{List, [], _∷_, map}
 use mathlib.Core.Option.{Option, Option·none-ne-some, Option·some-injective, none, some}
 use mathlib.Core.Path.{_∙_, _≡_, ap, refl, subst, sym}
 use native.Mathlib.Numerals.{add-one}
+use Rattle.calendar.specs.DateText.{dateOf}
 use Rattle.condition.specs.Kinds.{Kind}
-use Rattle.document.specs.AmountFaults.{inOrder}
+use Rattle.document.specs.AmountFaults.{dateExists, inOrder}
 use Rattle.document.specs.Lookup.{columnsAt}
 use Rattle.document.specs.NameFaults.{bracketLabels}
 use Rattle.document.specs.Policy.{Column, Policy}
@@ -21,6 +22,7 @@ use Rattle.relations.proofs.TableLaws.{column-at, column-inside, table-inside, 
 use Rattle.relations.specs.Tables.{Cut, Tables, columnCountIn, columnIn, columnKindIn}
 use Rattle.text.proofs.OffendingLaws.{leftmost-fail, leftmost-on, leftmost-only, missing-here, missing-next, missing-nil}
 use Rattle.text.specs.Amounts.{rangeOf}
+use Rattle.text.specs.Numbers.{Value}
 use Rattle.text.specs.Offending.{leftmost, missing, unless}
 use Rattle.text.specs.Words.{Word, wordOf, writtenAt, writtenOf}
 
@@ -122,21 +124,28 @@ module _ (text ws : List ℕ) (k t : ℕ) (d : Policy) (h : Tables text ws k (d 
   pub types-here : b ≡ false → mistypedValue (drop c (columnsAt d t)) (valuesAt s i) ≡ some (writtenOf s v)
   types-here x = types-step ∙ leftmost-fail b (writtenOf s v) _ x
 
--- ---- ranges that are not in order
+-- ---- values that fail a test of their own: ranges that are not in order, dates that do not exist
 
--- the first value that is one
+-- the first value that fails
+abbrev pub firstFailing : (Value → Bool) → List Word → Option Word
+firstFailing f ws = missing (λ w. f (w .bytes)) ws
+
 abbrev pub firstBroken : List Word → Option Word
-firstBroken ws = missing (λ w. inOrder (rangeOf (w .bytes))) ws
+firstBroken ws = firstFailing (λ v. inOrder (rangeOf v)) ws
 
-module _ (s : List ℕ) (i : ℕ) (e : getD s i 0 ≡ 32) (v : ℕ) (place : v ≡ valuePlace s (i + 1)) (b : Bool) (is : b ≡ inOrder (rangeOf (writtenAt s v))) where
-  order-step : firstBroken (valuesAt s i) ≡ firstBroken (writtenOf s v ∷ valuesAt s (itemEndAt s (i + 1)))
-  order-step = ap firstBroken (values-more s i e) ∙ ap (λ (w : Word). firstBroken (w ∷ valuesAt s (itemEndAt s (i + 1)))) (value-is s i v place)
+abbrev pub firstUnreal : List Word → Option Word
+firstUnreal ws = firstFailing (λ v. dateExists (dateOf v)) ws
 
-  pub order-on : b ≡ true → firstBroken (valuesAt s i) ≡ firstBroken (valuesAt s (itemEndAt s (i + 1)))
-  order-on x = order-step ∙ missing-next (λ w. inOrder (rangeOf (w .bytes))) (writtenOf s v) (valuesAt s (itemEndAt s (i + 1))) (sym is ∙ x)
+module _ (f : Value → Bool) where
+  module _ (s : List ℕ) (i : ℕ) (e : getD s i 0 ≡ 32) (v : ℕ) (place : v ≡ valuePlace s (i + 1)) (b : Bool) (is : b ≡ f (writtenAt s v)) where
+    test-step : firstFailing f (valuesAt s i) ≡ firstFailing f (writtenOf s v ∷ valuesAt s (itemEndAt s (i + 1)))
+    test-step = ap (firstFailing f) (values-more s i e) ∙ ap (λ (w : Word). firstFailing f (w ∷ valuesAt s (itemEndAt s (i + 1)))) (value-is s i v place)
 
-  pub order-here : b ≡ false → firstBroken (valuesAt s i) ≡ some (writtenOf s v)
-  order-here x = order-step ∙ missing-here (λ w. inOrder (rangeOf (w .bytes))) (writtenOf s v) (valuesAt s (itemEndAt s (i + 1))) (sym is ∙ x)
+    pub test-on : b ≡ true → firstFailing f (valuesAt s i) ≡ firstFailing f (valuesAt s (itemEndAt s (i + 1)))
+    test-on x = test-step ∙ missing-next (λ w. f (w .bytes)) (writtenOf s v) (valuesAt s (itemEndAt s (i + 1))) (sym is ∙ x)
 
-pub order-done : (s : List ℕ) (i : ℕ) → (getD s i 0 ≡ 32 → ⊥) → firstBroken (valuesAt s i) ≡ none
-order-done s i h = ap firstBroken (values-stop s i h) ∙ missing-nil (λ w. inOrder (rangeOf (w .bytes)))
+    pub test-here : b ≡ false → firstFailing f (valuesAt s i) ≡ some (writtenOf s v)
+    test-here x = test-step ∙ missing-here (λ w. f (w .bytes)) (writtenOf s v) (valuesAt s (itemEndAt s (i + 1))) (sym is ∙ x)
+
+  pub test-done : (s : List ℕ) (i : ℕ) → (getD s i 0 ≡ 32 → ⊥) → firstFailing f (valuesAt s i) ≡ none
+  test-done s i h = ap (firstFailing f) (values-stop s i h) ∙ missing-nil (λ w. f (w .bytes))

@@ -8,7 +8,7 @@ use mathlib.Core.List.{List, [], _∷_}
 use mathlib.Core.Option.{Option, Option·getD, none, some}
 use mathlib.Core.Path.{_∙_, _≡_, ap, refl, subst, sym}
 use native.Mathlib.Omega.{arith}
-use Rattle.document.specs.AmountFaults.{brokenRange}
+use Rattle.document.specs.AmountFaults.{brokenRange, noSuchDate}
 use Rattle.document.specs.Bounds.{lateAttr, overBound, secondRoot}
 use Rattle.document.specs.Check.{checkForm}
 use Rattle.document.specs.Lookup.{columnsAt, columnsOf, labelOf, schemeAt, schemeOf, tableOf}
@@ -17,11 +17,15 @@ use Rattle.document.specs.NameFaults.{rowLabels, taken, unknown}
 use Rattle.document.specs.Policy.{Doc}
 use Rattle.document.specs.TypeFaults.{mistypedValue, wrongType}
 use Rattle.document.specs.ValueFaults.{misfit, rowValues}
-use Rattle.stepping.proofs.Judging.{judge-bound, judge-fine, judge-order, judge-type, judge-unknown, judge-values}
-use Rattle.rows.proofs.RowChecks.{firstBroken}
+use Rattle.stepping.proofs.Judging.{judge-bound, judge-date, judge-fine, judge-order, judge-type, judge-unknown, judge-values}
+use Rattle.rows.proofs.RowChecks.{firstBroken, firstUnreal}
 use Rattle.rows.proofs.RowItems.{width-fits}
-use Rattle.rows.specs.RowWords.{offendingValue, valuesAt}
+use Rattle.rows.specs.RowWords.{valuesAt}
+use Rattle.rows.specs.Promises.{DatesJudged, dateVerdict}
 use Rattle.form.specs.Form.{Item, Scheme, row}
+use Rattle.stepping.specs.Judged.{ReachesBy, RoomFor, judged}
+use Rattle.stepping.specs.Places.{Near}
+use Rattle.stepping.specs.declared.fault.Verdict.{Verdict}
 use Rattle.relations.proofs.TableLaws.{scheme-read, width-read}
 use Rattle.workspace.specs.Found.{FoundBelow, foundAs}
 use Rattle.relations.specs.Tables.{Cut, Tables, columnCountIn, columnLabelIn, columnLabelsIn, schemeBy, schemeIn, tableLabelIn}
@@ -34,7 +38,7 @@ use Rattle.form.specs.declared.lines.Scheme as coded
 use Rattle.lists.proofs.ListLaws.{holdsOf-some}
 use Rattle.lists.specs.Lists.{orZero, there}
 use Rattle.text.proofs.OffendingLaws.{leftmost-fail, leftmost-on}
-use Rattle.text.specs.CodeEnds.{offendingOf}
+use Rattle.text.specs.CodeEnds.{offendingOf, offendingValue}
 use Rattle.text.specs.Offending.{leftmost, missing, unless}
 use Rattle.text.specs.Refusal.{accepted, document, pointing, pointingAll, refused}
 use Rattle.text.specs.Words.{Word, wordOf, writtenOf}
@@ -114,12 +118,21 @@ module _ (d : Doc) (line : List ℕ) (w : Word) (is : List Item) (k : ℕ) (coun
             pub row-broken : (u : Word) → firstBroken ws ≡ some u → checkForm d line (row w is) ≡ refused (pointing 28 document u)
             row-broken u o = judge-order d line (row w is) row-room row-new (unknown-is ∙ l) one-root (misfit-is ∙ ap not f) (types-are ∙ m) u (order-is ∙ o)
 
-            pub row-fine : firstBroken ws ≡ none → checkForm d line (row w is) ≡ accepted (add d (row w is))
-            unfolding lateAttr
-            row-fine o = judge-fine d line (row w is) row-room row-new (unknown-is ∙ l) one-root (misfit-is ∙ ap not f) (types-are ∙ m) (order-is ∙ o) late
-              where
-                late : lateAttr (d .policy) (row w is) ≡ false
-                late = refl
+            -- and in order
+            module _ (o : firstBroken ws ≡ none) where
+              dates-are : noSuchDate (d .policy) (row w is) ≡ firstUnreal ws
+              unfolding noSuchDate
+              dates-are = ap (λ z. firstUnreal (Option·getD (rowValues z is) [])) scheme-is ∙ ap (λ q. firstUnreal (Option·getD q [])) v
+
+              pub row-unreal : (u : Word) → firstUnreal ws ≡ some u → checkForm d line (row w is) ≡ refused (pointing 31 document u)
+              row-unreal u q = judge-date d line (row w is) row-room row-new (unknown-is ∙ l) one-root (misfit-is ∙ ap not f) (types-are ∙ m) (order-is ∙ o) u (dates-are ∙ q)
+
+              pub row-fine : firstUnreal ws ≡ none → checkForm d line (row w is) ≡ accepted (add d (row w is))
+              unfolding lateAttr
+              row-fine q = judge-fine d line (row w is) row-room row-new (unknown-is ∙ l) one-root (misfit-is ∙ ap not f) (types-are ∙ m) (order-is ∙ o) (dates-are ∙ q) late
+                where
+                  late : lateAttr (d .policy) (row w is) ≡ false
+                  late = refl
 
 -- ---- what the code found of the table
 
@@ -187,7 +200,28 @@ module _ (text tables line : List ℕ) (n k t : ℕ) (is : List Item) (d : Doc) 
             row-broken d line (wordOf line t) is k counted room x table-is schemeRead scheme-of labelled-all (fits-is ∙ fit) (found-values .0) (found-values .1) typed-all (writtenOf line p)
             (sym order-of ∙ ap (offendingValue line) e)
 
-        pub found-fine : o ≡ offending.Nothing → checkForm d line (row (wordOf line t) is) ≡ accepted (add d (row (wordOf line t) is))
-        found-fine e =
-            row-fine d line (wordOf line t) is k counted room x table-is schemeRead scheme-of labelled-all (fits-is ∙ fit) (found-values .0) (found-values .1) typed-all
-            (sym order-of ∙ ap (offendingValue line) e)
+        pub found-dated : o ≡ offending.Nothing → (r : Verdict) → DatesJudged line start r → checkForm d line (row (wordOf line t) is) ≡ judged d line (row (wordOf line t) is) r
+        found-dated e r j = go (j .absent) (sym (j .is ∙ ap firstUnreal values-are)) ∙ ap (judged d line (row (wordOf line t) is)) (sym (j .told))
+          where
+            go : (q : Offending) → firstUnreal (found-values .0) ≡ offendingValue line q → checkForm d line (row (wordOf line t) is) ≡ judged d line (row (wordOf line t) is) (dateVerdict q)
+            go (offending.At p) is-at =
+                row-unreal d line (wordOf line t) is k counted room x table-is schemeRead scheme-of labelled-all (fits-is ∙ fit) (found-values .0) (found-values .1) typed-all
+                (sym order-of ∙ ap (offendingValue line) e) (writtenOf line p) is-at
+            go offending.Nothing is-none =
+                row-fine d line (wordOf line t) is k counted room x table-is schemeRead scheme-of labelled-all (fits-is ∙ fit) (found-values .0) (found-values .1) typed-all
+                (sym order-of ∙ ap (offendingValue line) e) is-none
+
+-- where the dates alone are to be judged: there is room if there was, and what is refused stands in the line
+pub dated-roomy : (line : List ℕ) (at : ℕ) (r : Verdict) (k room : ℕ) → DatesJudged line at r → k < room → RoomFor r k room
+dated-roomy line at r k room j l = subst (λ (v : Verdict). RoomFor v k room) (sym (j .told)) (go (j .absent))
+  where
+    go : (q : Offending) → RoomFor (dateVerdict q) k room
+    go (offending.At p) = tt
+    go offending.Nothing = l
+
+pub dated-reaches : (line : List ℕ) (at : ℕ) (r : Verdict) → DatesJudged line at r → ReachesBy line r
+dated-reaches line at r j = subst (ReachesBy line) (sym (j .told)) (go (j .absent) (j .near))
+  where
+    go : (q : Offending) → Near line q → ReachesBy line (dateVerdict q)
+    go (offending.At p) n = n
+    go offending.Nothing n = tt

@@ -4,6 +4,8 @@ use lib.ListN.{length}
 use mathlib.Core.List.{List, [], _++_, _∷_, map}
 use mathlib.Core.Option.{some}
 use mathlib.Core.Path.{_≡_}
+use Rattle.calendar.specs.DateText.{dateOf}
+use Rattle.document.specs.AmountFaults.{dateExists}
 use Rattle.document.specs.Check.{checkForm}
 use Rattle.document.specs.Lookup.{labelOf}
 use Rattle.document.specs.Meaning.{add}
@@ -18,12 +20,33 @@ use Rattle.relations.specs.Labels.{Labels}
 use Rattle.relations.specs.Rows.{Rows}
 use Rattle.relations.specs.Tables.{Tables}
 use Rattle.stepping.specs.Follows.{Follows}
+use Rattle.rows.specs.RowWords.{valuesAt}
 use Rattle.stepping.specs.Judged.{Judges}
+use Rattle.stepping.specs.Places.{Near}
 use Rattle.stepping.specs.Stored.{LineAt, Passes, RowFilled}
+use Rattle.text.specs.CodeEnds.{offendingValue}
+use Rattle.text.specs.Offending.{missing}
 use Rattle.text.specs.Words.{Word, wordOf}
 use Rattle.index.specs.declared.counts.Counts.{Counts}
+use Rattle.stepping.specs.declared.fault.Fault.the-variants.{Value}
 use Rattle.stepping.specs.declared.fault.Verdict.{Verdict}
+use Rattle.stepping.specs.declared.fault.Verdict.the-variants.{Faulty, Fine}
+use Rattle.text.specs.declared.offending.Offending.{Offending}
+use Rattle.text.specs.declared.offending.Offending.the-variants as offending
+use Rattle.text.specs.declared.refusals.Reason.the-variants.{NoSuchDate}
 use Rattle.stepping.specs.declared.step.Step.{Step}
+
+-- the verdict on the dates of a row, by the place of the first that does not exist
+abbrev pub dateVerdict : Offending → Verdict
+dateVerdict offending.Nothing = Fine
+dateVerdict (offending.At p) = Faulty (Value NoSuchDate p)
+
+-- faults::date_fault: what is wrong with values that have no other fault
+pub record DatesJudged (line : List ℕ) (at : ℕ) (r : Verdict) : Type 0 where
+  pub absent : Offending
+  pub is : offendingValue line absent ≡ missing (λ w. dateExists (dateOf (w .bytes))) (valuesAt line at)
+  pub near : Near line absent
+  pub told : r ≡ dateVerdict absent
 
 -- faults::row_fault: what is wrong with `(row T item ..)`, the table's name at t and the items from `is` on, where there are k rows already
 abbrev pub RowFaultPromise : (text labels : List ℕ) (labelsCount : ℕ) (tables : List ℕ) (tablesCount k : ℕ) (line : List ℕ) (t is : ℕ) (r : Verdict) → Type 0

@@ -2,13 +2,11 @@
 use Prim.Native.Nat.{ℕ}
 use mathlib.Core.Bool.{Bool, false, true}
 use mathlib.Core.List.{List}
-use mathlib.Core.Option.{Option, none, some}
+use mathlib.Core.Option.{Option}
 use Rattle.document.specs.ValueFaults.{bracketValues, plainValues}
 use Rattle.form.specs.Form.{Item}
 use Rattle.form.specs.Walks.{cellLabelIn, itemEndAt, listAt, valuePlace}
 use Rattle.text.specs.Words.{Word, wordOf, writtenOf}
-use Rattle.text.specs.declared.offending.Offending.{Offending}
-use Rattle.text.specs.declared.offending.Offending.the-variants.{At, Nothing}
 
 -- the value of the item at a position: it stands there, or behind the bracket of `(v L)`
 unfoldable pub itemValueAt : List ℕ → ℕ → Word
@@ -26,8 +24,3 @@ labelAt s at = wordOf s (cellLabelIn s at)
 unfoldable pub shapedValues : Bool → List Item → Option (List Word)
 shapedValues true is = bracketValues is
 shapedValues false is = plainValues is
-
--- the value of a cell at the place that the code's answer names, if it names one
-abbrev pub offendingValue : List ℕ → Offending → Option Word
-offendingValue s Nothing = none
-offendingValue s (At at) = some (writtenOf s at)

@@ -3,6 +3,9 @@ use crate::items::behind_first;
 use crate::items::leads;
 use crate::items::led_values_fit;
 use crate::items::values_fit;
+use calendar::reading::DateRead;
+use calendar::reading::is_date;
+use calendar::reading::read_date;
 use condition::kinds::Kind;
 use condition::kinds::has_kind;
 use form::lines::Scheme;
@@ -34,15 +37,16 @@ ghost use lib.ListN.{length};
 ghost use mathlib.Core.List.{List, [], _∷_};
 ghost use mathlib.Core.Option.{some};
 ghost use mathlib.Core.Path.{_≡_};
+ghost use Rattle.calendar.specs.DateText.{dateOf};
 ghost use Rattle.condition.specs.Answers.{kindOf};
-ghost use Rattle.document.specs.AmountFaults.{inOrder};
+ghost use Rattle.document.specs.AmountFaults.{dateExists, inOrder};
 ghost use Rattle.document.specs.Lookup.{columnsAt, labelOf};
 ghost use Rattle.document.specs.NameFaults.{bracketLabels, leadingName, rowLabels};
 ghost use Rattle.document.specs.Policy.{Policy};
 ghost use Rattle.document.specs.TypeFaults.{cellHasKind, mistypedValue};
 ghost use Rattle.document.specs.ValueFaults.{rowValues};
 ghost use Rattle.stepping.specs.Places.{Near};
-ghost use Rattle.rows.specs.RowWords.{labelAt, offendingValue, valuesAt};
+ghost use Rattle.rows.specs.RowWords.{labelAt, valuesAt};
 ghost use Rattle.form.specs.Walks.{itemAt, itemsAt};
 ghost use Rattle.relations.specs.Labels.{Labels};
 ghost use Rattle.relations.specs.Tables.{Tables, schemeBy};
@@ -50,8 +54,8 @@ ghost use Rattle.lists.specs.Lists.{holdsOf, there};
 ghost use Rattle.text.specs.Amounts.{isRange, rangeOf};
 ghost use Rattle.text.specs.Offending.{missing, unless};
 ghost use Rattle.text.specs.Words.{Word, writtenAt};
-ghost use Rattle.text.specs.CodeEnds.{offendingOf};
-ghost use Rattle.rows.specs.Promises.{RowFaultPromise};
+ghost use Rattle.text.specs.CodeEnds.{offendingOf, offendingValue};
+ghost use Rattle.rows.specs.Promises.{DatesJudged, RowFaultPromise};
 
 // Whether the items from a position on are shaped for the scheme, with as many values as this.
 fn row_fits(scheme: Scheme, line: &[u8], at: usize, width: usize) -> bool
@@ -90,7 +94,7 @@ fn is_range(line: &[u8], at: usize) -> bool
     }
 }
 
-// Whether the value at a position is of the type: numbers take a range as well.
+// Whether the value at a position is of the type: numbers take a range as well, and dates nothing but a date.
 fn typed(line: &[u8], at: usize, kind: Kind) -> bool
     ensures { λ r. ⌜ r ≡ cellHasKind (kindOf kind) (writtenAt (now (line .entry)) at) ⌝ }
 {
@@ -100,6 +104,7 @@ fn typed(line: &[u8], at: usize, kind: Kind) -> bool
     match kind {
         Kind::Name => false,
         Kind::Num => is_range(line, at),
+        Kind::Date => is_date(line, at),
     }
 }
 
@@ -111,6 +116,18 @@ fn in_order(line: &[u8], at: usize) -> bool
     match k {
         Span::At(_, low, high) => low <= high,
         Span::Nothing => true,
+    }
+}
+
+// Whether the value at a position exists, if it is a date.
+fn date_exists(line: &[u8], at: usize) -> bool
+    ensures { λ r. ⌜ r ≡ dateExists (dateOf (writtenAt (now (line .entry)) at)) ⌝ }
+{
+    let d = read_date(line, at);
+    match d {
+        DateRead::At(_, _) => true,
+        DateRead::NoSuchDate(_) => false,
+        DateRead::Nothing => true,
     }
 }
 
@@ -149,6 +166,32 @@ fn first_broken(line: &[u8], at: usize) -> Offending
         i = item_end_at(line, i + 1);
     }
     Offending::Nothing
+}
+
+// The first value of the items from a position on that is a date that does not exist.
+fn first_missing_date(line: &[u8], at: usize) -> Offending
+    ensures { λ r. ⌜ (offendingValue (now (line .entry)) r ≡ missing (λ w. dateExists (dateOf (w .bytes))) (valuesAt (now (line .entry)) at)) × Near (now (line .entry)) r ⌝ }
+{
+    let mut i = at;
+    while byte_at(line, i) == b' ' {
+        let v = value_place(line, i + 1);
+        if !date_exists(line, v) {
+            return Offending::At(v);
+        }
+        i = item_end_at(line, i + 1);
+    }
+    Offending::Nothing
+}
+
+// The verdict on values that have no other fault: one of them may be a date that does not exist.
+fn date_fault(line: &[u8], at: usize) -> Verdict
+    ensures { λ r. ⌜ DatesJudged (now (line .entry)) at r ⌝ }
+{
+    let absent = first_missing_date(line, at);
+    match absent {
+        Offending::At(p) => Verdict::Faulty(Fault::Value(Reason::NoSuchDate, p)),
+        Offending::Nothing => Verdict::Fine,
+    }
 }
 
 // Whether the label of the item at a position is known; where it has none, there is nothing to know.
@@ -262,6 +305,6 @@ pub fn row_fault(
     let broken = first_broken(line, start);
     match broken {
         Offending::At(p) => Verdict::Faulty(Fault::Value(Reason::RangeReversed, p)),
-        Offending::Nothing => Verdict::Fine,
+        Offending::Nothing => date_fault(line, start),
     }
 }

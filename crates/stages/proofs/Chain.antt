@@ -13,14 +13,14 @@ use Rattle.document.specs.Policy.{Doc}
 use Rattle.workspace.specs.Found.{foundAs}
 use Rattle.lists.specs.Lists.{orZero}
 use Rattle.query.specs.Authority.{Clock, firstGrant, inRange}
-use Rattle.query.specs.Query.{closedPart, mistypedQuery, unknownColumn, unknownParty}
+use Rattle.query.specs.Query.{closedPart, missingDate, mistypedQuery, unknownColumn, unknownParty}
 use Rattle.query.specs.QueryForm.{QueryForm, queryOf}
 use Rattle.resolving.specs.Acting.{PartiesKnown, RoleMissing}
-use Rattle.text.specs.CodeEnds.{offendingOf}
+use Rattle.text.specs.CodeEnds.{offendingOf, offendingValue}
 use Rattle.text.specs.Refusal.{Refusal, _>>=_, _>>_, accepted, need, pointing, pointingAll, pointingNowhere, query, refuseAt, refuseIf, refused}
-use Rattle.text.specs.Words.{Word, wordOf}
+use Rattle.text.specs.Words.{Word, wordOf, writtenOf}
 use Rattle.stages.specs.Figures.{answeredAs, figuresOf, inFigures}
-use Rattle.stages.specs.Tails.{Gives, afterFitting, answerUnder, ifActing, ifGranted, ifKnown, ifOpen, ifParties, ifPlain, ifRead, ifTimed, ifTyped, refusedAt}
+use Rattle.stages.specs.Tails.{Gives, afterFitting, answerUnder, ifActing, ifDated, ifGranted, ifKnown, ifOpen, ifParties, ifPlain, ifRead, ifTimed, ifTyped, refusedAt, refusedWritten}
 use Rattle.answering.specs.declared.answers.Measured.{Measured}
 use Rattle.index.specs.declared.counts.Counts.{Counts}
 use Rattle.workspace.specs.declared.found.Found.{Found}
@@ -47,6 +47,13 @@ named-word s e h = ap (offendingOf s) (sym e) ∙ h
 
 pub no-word : (s : List ℕ) {x : Offending} {o : Option Word} → x ≡ offending.Nothing → offendingOf s x ≡ o → none ≡ o
 no-word s e h = ap (offendingOf s) (sym e) ∙ h
+
+-- the same of a value as it is written
+named-value : (s : List ℕ) {x : Offending} {at : ℕ} {o : Option Word} → x ≡ offending.At at → offendingValue s x ≡ o → some (writtenOf s at) ≡ o
+named-value s e h = ap (offendingValue s) (sym e) ∙ h
+
+pub no-value : (s : List ℕ) {x : Offending} {o : Option Word} → x ≡ offending.Nothing → offendingValue s x ≡ o → none ≡ o
+no-value s e h = ap (offendingValue s) (sym e) ∙ h
 
 -- what is needed is there, or refused
 lacks : {o : Option ℕ} (r : Refusal) (f : ℕ → Outcome) → none ≡ o → need o r >>= f ≡ refused r
@@ -75,21 +82,29 @@ module _ (d : Doc) (q : QueryForm) (g : ℕ) (s : List ℕ) {x : Offending} wher
   unfolding ifOpen
   open-passes e h = passes 17 (accepted (answerUnder d q g)) (no-word s e h)
 
+  pub dated-refused : {at : ℕ} → x ≡ offending.At at → offendingValue s x ≡ missingDate q → ifDated d q g ≡ refused (refusedWritten 31 s at)
+  unfolding ifDated refusedWritten
+  dated-refused e h = offends 31 (ifOpen d q g) (named-value s e h)
+
+  pub dated-passes : x ≡ offending.Nothing → offendingValue s x ≡ missingDate q → ifDated d q g ≡ ifOpen d q g
+  unfolding ifDated
+  dated-passes e h = passes 31 (ifOpen d q g) (no-value s e h)
+
   pub plain-refused : {at : ℕ} → x ≡ offending.At at → offendingOf s x ≡ rangedColumn d q → ifPlain d q g ≡ refused (refusedAt 27 s at)
   unfolding ifPlain refusedAt
-  plain-refused e h = offends 27 (ifOpen d q g) (named-word s e h)
+  plain-refused e h = offends 27 (ifDated d q g) (named-word s e h)
 
-  pub plain-passes : x ≡ offending.Nothing → offendingOf s x ≡ rangedColumn d q → ifPlain d q g ≡ ifOpen d q g
+  pub plain-passes : x ≡ offending.Nothing → offendingOf s x ≡ rangedColumn d q → ifPlain d q g ≡ ifDated d q g
   unfolding ifPlain
-  plain-passes e h = passes 27 (ifOpen d q g) (no-word s e h)
+  plain-passes e h = passes 27 (ifDated d q g) (no-word s e h)
 
-  pub typed-refused : {at : ℕ} → x ≡ offending.At at → offendingOf s x ≡ mistypedQuery (d .policy) q → ifTyped d q g ≡ refused (refusedAt 16 s at)
-  unfolding ifTyped refusedAt
-  typed-refused e h = offends 16 (ifPlain d q g) (named-word s e h)
+  pub typed-refused : {at : ℕ} → x ≡ offending.At at → offendingValue s x ≡ mistypedQuery (d .policy) q → ifTyped d q g ≡ refused (refusedWritten 16 s at)
+  unfolding ifTyped refusedWritten
+  typed-refused e h = offends 16 (ifPlain d q g) (named-value s e h)
 
-  pub typed-passes : x ≡ offending.Nothing → offendingOf s x ≡ mistypedQuery (d .policy) q → ifTyped d q g ≡ ifPlain d q g
+  pub typed-passes : x ≡ offending.Nothing → offendingValue s x ≡ mistypedQuery (d .policy) q → ifTyped d q g ≡ ifPlain d q g
   unfolding ifTyped
-  typed-passes e h = passes 16 (ifPlain d q g) (no-word s e h)
+  typed-passes e h = passes 16 (ifPlain d q g) (no-value s e h)
 
   pub known-refused : {at : ℕ} → x ≡ offending.At at → offendingOf s x ≡ unknownColumn (d .policy) q → ifKnown d q g ≡ refused (refusedAt 15 s at)
   unfolding ifKnown refusedAt
@@ -131,7 +146,7 @@ module _ (d : Doc) (c : Clock) (q : QueryForm) where
 
   -- the definition's chain is that of the tails
   pub form-tails : answerForm d c q ≡ ifParties d c q
-  unfolding answerForm ifParties ifActing ifGranted ifKnown ifTyped ifPlain ifOpen answerUnder
+  unfolding answerForm ifParties ifActing ifGranted ifKnown ifTyped ifPlain ifDated ifOpen answerUnder
   form-tails = refl
 
 module _ (d : Doc) (c : Clock) (text : List ℕ) where

@@ -18,7 +18,7 @@ use Rattle.workspace.specs.Found.{FoundBelow, foundAs}
 use Rattle.relations.specs.Labels.{Opened}
 use Rattle.relations.specs.Tables.{Tables}
 use Rattle.judging.specs.Prepared.{Prepared, firstWithholding, wantedBy}
-use Rattle.judging.specs.Reading.{Comparable, TestsRead, firstWrong}
+use Rattle.judging.specs.Reading.{Comparable, TestsRead, firstMissing, firstWrong}
 use Rattle.judging.specs.Tests.{Tested}
 use Rattle.lists.proofs.ListLaws.{all-map, all-parts, map-append, map-map}
 use Rattle.lists.specs.Lists.{allOf, orZero, there}
@@ -28,12 +28,12 @@ use Rattle.query.proofs.WantedLaws.{mode-map}
 use Rattle.query.proofs.NamedColumns.{columnNumber, names-parts, parts-open, withholding-words}
 use Rattle.query.proofs.Sources.{named-words-are, withholding-words-are, withholdingWords}
 use Rattle.query.specs.Naming.{NamesPlaced, TestsPlaced, wordsAt}
-use Rattle.query.specs.Query.{NamesParts, PartsOpen, closedPart, columnComparison, mistypedQuery, openFor, resolved, sourceOf, unknownColumn, wantedOf}
+use Rattle.query.specs.Query.{NamesParts, PartsOpen, closedPart, columnComparison, missingDate, mistypedQuery, openFor, resolved, sourceOf, unknownColumn, wantedOf}
 use Rattle.query.specs.QueryForm.{QueryForm, admitsRanges, countsOnly, hasGaps, leavesGaps, mapWanted, modeIn, modeOf, namedWords, rowsOf, selected, selectedWords, takesRanges}
 use Rattle.query.specs.QueryPlaces.{IsQuery, asksRows, chosenCount, comparisonCount, conditionAt, formAt, verbIn, verbOf, wantedAt}
 use Rattle.resolving.specs.Resolved.{Resolves}
-use Rattle.text.specs.CodeEnds.{offendingOf}
-use Rattle.stages.proofs.Chain.{no-word, number-found}
+use Rattle.text.specs.CodeEnds.{offendingOf, offendingValue}
+use Rattle.stages.proofs.Chain.{no-value, no-word, number-found}
 use Rattle.stages.specs.Promises.{plainAt}
 use Rattle.stages.specs.Stages.{ColumnsKnown, Granted, InTable, soughtIn}
 use Rattle.text.proofs.OffendingLaws.{leftmost-only, missing-none}
@@ -236,12 +236,19 @@ module _ {d : Policy} {s : List ℕ} (q : Question) {t k : ℕ} {numbers ops : L
   unfolding mistypedQuery formAt
   types-are = ap (λ ys. leftmost (map (λ x. mistyped (columnKind ys (x .of)) x) comparisons)) (sym (columns-are table))
 
-  pub types-judged : {g : Sought} {ws : List ℕ} (x : Offending) → g ≡ soughtIn q t → TestsRead s g ws (columnsAt d (g .table)) → (g .tests ≤ 64 → offendingOf s x ≡ firstWrong s ws (g .tests)) → offendingOf s x ≡ mistypedQuery d (formAt s q)
+  pub types-judged : {g : Sought} {ws : List ℕ} (x : Offending) → g ≡ soughtIn q t → TestsRead s g ws (columnsAt d (g .table)) → (g .tests ≤ 64 → offendingValue s x ≡ firstWrong s ws (g .tests)) → offendingValue s x ≡ mistypedQuery d (formAt s q)
   unfolding soughtIn
   types-judged {ws} x e r h =
-      subst (λ g. g .tests ≤ 64 → offendingOf s x ≡ firstWrong s ws (g .tests)) e h (tests .few)
+      subst (λ g. g .tests ≤ 64 → offendingValue s x ≡ firstWrong s ws (g .tests)) e h (tests .few)
       ∙ subst (λ g. TestsRead s g ws (columnsAt d (g .table))) e r .wrong
       ∙ types-are
+
+  -- 31: which date does not exist is what the definition says
+  pub dates-judged : {g : Sought} {ws : List ℕ} (x : Offending) → g ≡ soughtIn q t → TestsRead s g ws (columnsAt d (g .table)) → (g .tests ≤ 64 → offendingValue s x ≡ firstMissing s ws (g .tests)) → offendingValue s x ≡ missingDate (formAt s q)
+  unfolding soughtIn missingDate formAt
+  dates-judged {ws} x e r h =
+      subst (λ g. g .tests ≤ 64 → offendingValue s x ≡ firstMissing s ws (g .tests)) e h (tests .few)
+      ∙ subst (λ g. TestsRead s g ws (columnsAt d (g .table))) e r .dates
 
   wanted-are : wantedOf (columnsOf d (wordOf s (q .head .table))) (wantedAt s (q .wanted)) ≡ wantedBy (asksRows (q .wanted)) (verbIn (q .wanted)) (take chosen numbers)
   unfolding formAt
@@ -288,9 +295,9 @@ mode-same d s q = mode-map _ (wantedAt s (q .wanted)) ∙ mode-is s (q .wanted)
 module _ {text ts ws : List ℕ} {c : Counts} {os : List Bool} {s : List ℕ} (q : Question) {t : ℕ} {numbers ops rs : List ℕ} {d : Doc}
     (h : Granted text ts ws c os s q d) (table : InTable (d .policy) (formAt s q) t (c .tables)) (columns : ColumnsKnown (d .policy) (formAt s q) t numbers) (tests : TestsPlaced s (q .test) ops)
     (parts : PartsOpen (d .policy) (resolved (d .policy) (formAt s q))) where
-  as-read : TestsRead s (soughtIn q t) rs (columnsAt (d .policy) (soughtIn q t .table)) → Prepared text ts ws (c .rows) os s (soughtIn q t) rs numbers d (resolved (d .policy) (formAt s q))
+  as-read : TestsRead s (soughtIn q t) rs (columnsAt (d .policy) (soughtIn q t .table)) → firstWrong s rs (comparisonCount (q .test)) ≡ none → Prepared text ts ws (c .rows) os s (soughtIn q t) rs numbers d (resolved (d .policy) (formAt s q))
   unfolding resolved sourceOf formAt soughtIn firstWithholding
-  as-read r = record {
+  as-read r typed = record {
     small = h .small;
     tableCount = c .tables;
     tables = h .tables;
@@ -304,11 +311,13 @@ module _ {text ts ws : List ℕ} {c : Counts} {os : List Bool} {s : List ℕ} (q
     parts = parts;
     withholding = withholding-are q (h .query) table columns tests;
     tested = subst (Tested s rs (comparisonCount (q .test)) (modeIn (wantedOf (columnsOf (d .policy) (wordOf s (q .head .table))) (wantedAt s (q .wanted))))) (sym (condition-is q (h .query) table columns tests))
-        (subst (λ m. Tested s rs (comparisonCount (q .test)) m (Option·map (mapCond (columnComparison (columnsAt (d .policy) t))) (conditionAt s (q .test)))) (sym (mode-same (d .policy) s q)) (r .tested));
+        (subst (λ m. Tested s rs (comparisonCount (q .test)) m (Option·map (mapCond (columnComparison (columnsAt (d .policy) t))) (conditionAt s (q .test)))) (sym (mode-same (d .policy) s q)) (r .tested typed));
   }
 
-  -- by what is sought as the code finds it
-  pub prepared : {g : Sought} → g ≡ soughtIn q t → TestsRead s g rs (columnsAt (d .policy) (g .table)) → Prepared text ts ws (c .rows) os s g rs numbers d (resolved (d .policy) (formAt s q))
-  prepared e r =
+  -- by what is sought as the code finds it, x being what was judged with 16
+  pub prepared : {g : Sought} {x : Offending} → g ≡ soughtIn q t → TestsRead s g rs (columnsAt (d .policy) (g .table)) → x ≡ offending.Nothing → (g .tests ≤ 64 → offendingValue s x ≡ firstWrong s rs (g .tests))
+      → Prepared text ts ws (c .rows) os s g rs numbers d (resolved (d .policy) (formAt s q))
+  unfolding soughtIn
+  prepared {x} e r n h =
       subst (λ g. Prepared text ts ws (c .rows) os s g rs numbers d (resolved (d .policy) (formAt s q))) (sym e)
-      (as-read (subst (λ g. TestsRead s g rs (columnsAt (d .policy) (g .table))) e r))
+      (as-read (subst (λ g. TestsRead s g rs (columnsAt (d .policy) (g .table))) e r) (sym (no-value s n (subst (λ g. g .tests ≤ 64 → offendingValue s x ≡ firstWrong s rs (g .tests)) e h (tests .few)))))

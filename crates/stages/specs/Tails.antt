@@ -1,4 +1,4 @@
--- Contract: the tails of asking: what is left of it from one of the refusals 10 to 17 and 27 on, the lent buffer's length aside.
+-- Contract: the tails of asking: what is left of it from one of the refusals 10 to 17, 27 and 31 on, the lent buffer's length aside.
 use Prim.Native.Nat.{ℕ}
 use mathlib.Core.Bool.{not}
 use mathlib.Core.List.{List}
@@ -13,10 +13,10 @@ use Rattle.document.specs.Policy.{Doc}
 use Rattle.stages.specs.Figures.{answeredAs, inFigures}
 use Rattle.lists.specs.Lists.{orZero}
 use Rattle.query.specs.Authority.{Clock, firstGrant, inRange}
-use Rattle.query.specs.Query.{closedPart, mistypedQuery, resolved, unknownColumn, unknownParty}
+use Rattle.query.specs.Query.{closedPart, missingDate, mistypedQuery, resolved, unknownColumn, unknownParty}
 use Rattle.query.specs.QueryForm.{QueryForm, queryOf}
 use Rattle.text.specs.Refusal.{Refusal, _>>=_, _>>_, accepted, need, pointing, pointingAll, pointingNowhere, query, refuseAt, refuseIf, refused}
-use Rattle.text.specs.Words.{wordOf}
+use Rattle.text.specs.Words.{wordOf, writtenOf}
 use Rattle.stages.specs.declared.answered.Answered as code
 
 -- the answer to the query, under the grant of number g
@@ -29,11 +29,17 @@ ifOpen d q g = do
   refuseAt 17 query (closedPart (d .policy) q)
   accepted (answerUnder d q g)
 
+-- 31 on
+unfoldable pub ifDated : Doc → QueryForm → ℕ → Outcome
+ifDated d q g = do
+  refuseAt 31 query (missingDate q)
+  ifOpen d q g
+
 -- 27 on
 unfoldable pub ifPlain : Doc → QueryForm → ℕ → Outcome
 ifPlain d q g = do
   refuseAt 27 query (rangedColumn d q)
-  ifOpen d q g
+  ifDated d q g
 
 -- 16 on
 unfoldable pub ifTyped : Doc → QueryForm → ℕ → Outcome
@@ -80,6 +86,10 @@ ifTimed d c text = do
 -- the refusal that hands back the word at a place of the query
 unfoldable pub refusedAt : ℕ → List ℕ → ℕ → Refusal
 refusedAt n s at = pointing n query (wordOf s at)
+
+-- the refusal that hands back the value at a place of the query, as it is written
+unfoldable pub refusedWritten : ℕ → List ℕ → ℕ → Refusal
+refusedWritten n s at = pointing n query (writtenOf s at)
 
 -- the lent buffer afterwards, where 18 is still to be judged: an answer that it has room for fills its first bytes, a longer
 -- one and a refusal leave it

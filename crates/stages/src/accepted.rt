@@ -31,7 +31,7 @@ ghost use Rattle.query.specs.HostClock.{clockOf};
 ghost use Rattle.stages.specs.Stages.{Standing};
 ghost use Rattle.stages.specs.Tails.{Gives, ifTimed};
 
-// The answer to a query over an accepted document (10 to 17, and the rows): each refusal in the order of its number.
+// The answer to a query over an accepted document (10 to 16, 27, 31, 17, and the rows): each refusal in this order.
 pub fn ask_accepted(
     text: &[u8],
     purposes: &[usize; PURPOSE_CELLS],

@@ -3,11 +3,13 @@ use crate::answered::Answered;
 use crate::answered::Figures;
 use crate::ranged::ranged_column;
 use crate::refusing::refused_at;
+use crate::refusing::refused_written;
 use answering::answers::answer_rows;
 use index::counts::Counts;
 use judging::sought::Sought;
 use judging::tests::TEST_CELLS;
 use judging::tests::read_tests;
+use judging::types::missing_date;
 use judging::types::mistyped_test;
 use query::naming::named_places;
 use query::reading::Question;
@@ -93,7 +95,7 @@ fn ask_rows(
     })
 }
 
-// The answer under a grant (15, 16, 27 and 17, and the rows). Which labels are open to the purpose is given.
+// The answer under a grant (15, 16, 27, 31 and 17, and the rows). Which labels are open to the purpose is given.
 pub(crate) fn ask_granted(
     text: &[u8],
     tables: &[usize; TABLE_CELLS],
@@ -125,13 +127,17 @@ pub(crate) fn ask_granted(
     read_tests(tables, query, s, &ops, &columns, &mut tests);
     let wrong = mistyped_test(&tests, s.tests);
     if let Offending::At(at) = wrong {
-        return refused_at(query, Reason::MistypedQuery, at);
+        return refused_written(query, Reason::MistypedQuery, at);
     }
     let verb = s.verb;
     let taken = takes_ranges(verb);
     let ranged = ranged_column(taken, text, rows, c.rows, t, &places, n, &columns);
     if let Offending::At(at) = ranged {
         return refused_at(query, Reason::RangeNotTaken, at);
+    }
+    let absent = missing_date(query, &tests, s.tests);
+    if let Offending::At(at) = absent {
+        return refused_written(query, Reason::NoSuchDate, at);
     }
     let closed = closed_part(tables, t, opened, query, h.table, &places, n, &columns);
     if let Offending::At(at) = closed {

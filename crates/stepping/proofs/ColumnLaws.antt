@@ -9,7 +9,7 @@ use Rattle.document.specs.Lookup.{labelOf}
 use Rattle.document.specs.Meaning.{columnMeant}
 use Rattle.document.specs.Policy.{Column, Noted, Policy, Table}
 use Rattle.form.proofs.WalkSteps.{column-labels-more, columns-more, labelled-columns-more}
-use Rattle.form.specs.Walks.{columnAt, columnFormsAt, columnLabelAt, columnLabelsAt, firstIn, kindAt, labelledColumnsAt, pairEndAt, secondIn, thirdIn, tripleEndAt}
+use Rattle.form.specs.Walks.{columnAt, columnFormsAt, columnLabelAt, columnLabelsAt, firstIn, columnKindAt, labelledColumnsAt, pairEndAt, secondIn, thirdIn, tripleEndAt}
 use Rattle.workspace.proofs.TabulatedLaws.{length-tabulated}
 use Rattle.relations.proofs.TableLaws.{table-empty}
 use Rattle.relations.specs.Notes.{Notes}
@@ -89,7 +89,7 @@ module _ (s : List ℕ) (p w q e : ℕ) (first : w ≡ past 40 s p) (second : q 
 -- ---- one turn of the loops
 
 module _ {text : List ℕ} {at : ℕ} {line : List ℕ} (l : LineAt text at line) (j w q e pos : ℕ) (type : Kind) (space : getD line j 0 ≡ 32) (inside : j < length line)
-    (first : w ≡ past 40 line (j + 1)) (second : q ≡ nextWord line w) (placed : at + w ≤ length text → pos ≡ at + w) (kind : type ≡ kindAt line q) where
+    (first : w ≡ past 40 line (j + 1)) (second : q ≡ nextWord line w) (placed : at + w ≤ length text → pos ≡ at + w) (kind : type ≡ columnKindAt line q) where
   within : w ≤ length line
   within = subst (λ n. n ≤ length line) (sym first) (past-within 40 line (j + 1) (omega arith))
 
@@ -99,7 +99,7 @@ module _ {text : List ℕ} {at : ℕ} {line : List ℕ} (l : LineAt text at line
 
   kind-is : type ≡ columnMeant (columnAt line (j + 1)) .kind
   unfolding columnMeant columnAt
-  kind-is = kind ∙ ap (kindAt line) (second-is line (j + 1) w q e first second)
+  kind-is = kind ∙ ap (columnKindAt line) (second-is line (j + 1) w q e first second)
 
   pub plain-turn : {before ws after : List ℕ} {k c : ℕ} (cs : ℕ) → e ≡ past 41 line (q + length (wordAt line q)) → ColumnStored ws after k c pos type 0 → k < 8 → length (columnFormsAt line cs) ≤ 16
       → Columned text before ws k c (map columnMeant (columnFormsAt line cs)) (map columnMeant (columnFormsAt line j)) (map (λ x. 0) (columnFormsAt line cs)) (map (λ x. 0) (columnFormsAt line j))

@@ -46,7 +46,8 @@ late-none d line f e h =
     let h7 = then-accepted _ _ _ (h6 .2) in
     let h8 = then-accepted _ _ _ (h7 .2) in
     let h28 = then-accepted _ _ _ (h8 .2) in
-    let h9 = then-accepted _ _ _ (h28 .2) in
+    let h31 = then-accepted _ _ _ (h28 .2) in
+    let h9 = then-accepted _ _ _ (h31 .2) in
     refuseIf-accepted _ _ (h9 .1)
 
 -- users that are none stay so, whatever the policy

@@ -4,7 +4,7 @@ use mathlib.Core.Bool.{false, true}
 use mathlib.Core.List.{List}
 use mathlib.Core.Option.{none, some}
 use mathlib.Core.Path.{_≡_}
-use Rattle.document.specs.AmountFaults.{brokenRange}
+use Rattle.document.specs.AmountFaults.{brokenRange, noSuchDate}
 use Rattle.document.specs.Bounds.{lateAttr, overBound, secondRoot}
 use Rattle.document.specs.Check.{checkForm}
 use Rattle.document.specs.Meaning.{add}
@@ -52,10 +52,15 @@ module _ (d : Doc) (line : List ℕ) (f : Form) where
               judge-order w o = rw (a, b, c, e, g, h, o)
 
               module _ (o : brokenRange (d .policy) f ≡ none) where
-                pub judge-late : lateAttr (d .policy) f ≡ true → checkForm d line f ≡ refused (pointingAll 9 document line)
+                pub judge-date : (w : Word) → noSuchDate (d .policy) f ≡ some w → checkForm d line f ≡ refused (pointing 31 document w)
                 unfolding checkForm _>>_ refuseIf refuseAt
-                judge-late i = rw (a, b, c, e, g, h, o, i)
+                judge-date w q = rw (a, b, c, e, g, h, o, q)
 
-                pub judge-fine : lateAttr (d .policy) f ≡ false → checkForm d line f ≡ accepted (add d f)
-                unfolding checkForm _>>_ refuseIf refuseAt
-                judge-fine i = rw (a, b, c, e, g, h, o, i)
+                module _ (q : noSuchDate (d .policy) f ≡ none) where
+                  pub judge-late : lateAttr (d .policy) f ≡ true → checkForm d line f ≡ refused (pointingAll 9 document line)
+                  unfolding checkForm _>>_ refuseIf refuseAt
+                  judge-late i = rw (a, b, c, e, g, h, o, q, i)
+
+                  pub judge-fine : lateAttr (d .policy) f ≡ false → checkForm d line f ≡ accepted (add d f)
+                  unfolding checkForm _>>_ refuseIf refuseAt
+                  judge-fine i = rw (a, b, c, e, g, h, o, q, i)

@@ -6,7 +6,7 @@ use mathlib.Core.Bool.{false, true}
 use mathlib.Core.List.{List}
 use mathlib.Core.Option.{none, some}
 use mathlib.Core.Path.{_≡_}
-use Rattle.document.specs.AmountFaults.{brokenRange}
+use Rattle.document.specs.AmountFaults.{brokenRange, noSuchDate}
 use Rattle.document.specs.Bounds.{lateAttr, overBound, secondRoot}
 use Rattle.document.specs.NameFaults.{taken, unknown}
 use Rattle.document.specs.Policy.{Doc}
@@ -39,11 +39,12 @@ module _ (Held : Doc → Type 0) (Placed : Type 0) (line : List ℕ) (f : Form) 
         says-root e = record { is = λ d h. judge-root d line f (a d h) (b d h) (c d h) (e d h); roomy = tt; reaches = λ p. tt }
 
         module _ (e : (d : Doc) → Held d → secondRoot (d .policy) f ≡ false) (g : (d : Doc) → Held d → misfit (d .policy) f ≡ false)
-            (t : (d : Doc) → Held d → wrongType (d .policy) f ≡ none) (o : (d : Doc) → Held d → brokenRange (d .policy) f ≡ none) where
+            (t : (d : Doc) → Held d → wrongType (d .policy) f ≡ none) (o : (d : Doc) → Held d → brokenRange (d .policy) f ≡ none)
+            (q : (d : Doc) → Held d → noSuchDate (d .policy) f ≡ none) where
           pub says-late : ((d : Doc) → Held d → lateAttr (d .policy) f ≡ true) → Judges Held Placed line f k room (Faulty (Whole LateAttribute))
           says-late i =
-              record { is = λ d h. judge-late d line f (a d h) (b d h) (c d h) (e d h) (g d h) (t d h) (o d h) (i d h); roomy = tt; reaches = λ p. tt }
+              record { is = λ d h. judge-late d line f (a d h) (b d h) (c d h) (e d h) (g d h) (t d h) (o d h) (q d h) (i d h); roomy = tt; reaches = λ p. tt }
 
           pub says-fine : k < room → ((d : Doc) → Held d → lateAttr (d .policy) f ≡ false) → Judges Held Placed line f k room Fine
           says-fine l i =
-              record { is = λ d h. judge-fine d line f (a d h) (b d h) (c d h) (e d h) (g d h) (t d h) (o d h) (i d h); roomy = l; reaches = λ p. tt }
+              record { is = λ d h. judge-fine d line f (a d h) (b d h) (c d h) (e d h) (g d h) (t d h) (o d h) (q d h) (i d h); roomy = l; reaches = λ p. tt }

@@ -7,7 +7,7 @@ use mathlib.Core.List.{List, _++_}
 use mathlib.Core.Option.{none}
 use mathlib.Core.Path.{_∙_, _≡_, ap, refl, sym}
 use native.Mathlib.Omega.{arith}
-use Rattle.document.specs.AmountFaults.{brokenRange}
+use Rattle.document.specs.AmountFaults.{brokenRange, noSuchDate}
 use Rattle.document.specs.Bounds.{lateAttr, overBound, secondRoot}
 use Rattle.document.specs.Lookup.{labelOf, purposeOf}
 use Rattle.document.specs.NameFaults.{taken, unknown}
@@ -115,8 +115,8 @@ module _ (text ws : List ℕ) (m : ℕ) (labels : List ℕ) (k : ℕ) (line : Li
                 (λ d h. allowed-known d h ∙ place-word line f5 _ (is5 .0 (d .policy .purposes) (h .0)) v e5)
 
             pub label-fine : f5 ≡ offending.Nothing → Says Fine
-            unfolding unknown purposeOf secondRoot misfit wrongType brokenRange lateAttr
+            unfolding unknown purposeOf secondRoot misfit wrongType brokenRange noSuchDate lateAttr
             label-fine e5 =
                 says-fine Held (l ≤ length line) line form′ k 64 roomy untaken
                 (λ d h. allowed-known d h ∙ place-none line f5 _ (is5 .0 (d .policy .purposes) (h .0)) e5)
-                (λ d h. refl) (λ d h. refl) (λ d h. refl) (λ d h. refl) q (λ d h. refl)
+                (λ d h. refl) (λ d h. refl) (λ d h. refl) (λ d h. refl) (λ d h. refl) q (λ d h. refl)

@@ -10,7 +10,7 @@ use mathlib.Core.List.{List, [], _++_, _∷_, append-assoc, map}
 use mathlib.Core.Option.{Option, none, some}
 use mathlib.Core.Path.{_∙_, _≡_, ap, refl, sym}
 use native.Mathlib.Omega.{arith}
-use Rattle.document.specs.AmountFaults.{brokenRange}
+use Rattle.document.specs.AmountFaults.{brokenRange, noSuchDate}
 use Rattle.document.specs.Bounds.{lateAttr, overBound, secondRoot}
 use Rattle.document.specs.Lookup.{labelOf, tableOf}
 use Rattle.document.specs.NameFaults.{taken, unknown}
@@ -262,6 +262,10 @@ module _ (d : Doc) (line : List ℕ) (t : ℕ) (scheme : coded.Scheme) (l cs : �
   pub table-order : brokenRange (d .policy) form ≡ none
   unfolding brokenRange
   table-order = refl
+
+  pub table-dated : noSuchDate (d .policy) form ≡ none
+  unfolding noSuchDate
+  table-dated = refl
 
   pub table-late : lateAttr (d .policy) form ≡ false
   unfolding lateAttr

@@ -20,14 +20,17 @@ ghost use mathlib.Core.List.{map};
 ghost use mathlib.Core.Path.{_≡_};
 ghost use Rattle.condition.specs.Answers.{kindOf};
 ghost use Rattle.document.specs.Meaning.{columnMeant};
-ghost use Rattle.form.specs.Walks.{columnFormsAt, kindAt};
+ghost use Rattle.form.specs.Walks.{columnFormsAt, columnKindAt};
 ghost use Rattle.stepping.specs.Stored.{ColumnsFilled, LineAt};
 ghost use Rattle.tables.specs.Promises.{StoreLabelledColumnsPromise, StoreTablePromise};
 
-// The type that the word at a place of the line names.
+// The type of a column that the word at a place of the line names.
 fn kind_at(line: &[u8], q: usize) -> Kind
-    ensures { λ r. ⌜ kindOf r ≡ kindAt (now (line .entry)) q ⌝ }
+    ensures { λ r. ⌜ kindOf r ≡ columnKindAt (now (line .entry)) q ⌝ }
 {
+    if is_word(line, q, b"date") {
+        return Kind::Date;
+    }
     if is_word(line, q, b"num") {
         return Kind::Num;
     }

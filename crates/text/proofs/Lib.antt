@@ -24,5 +24,6 @@ pub mod WalkingLaws
 pub mod Closings
 pub mod RangeLaws
 pub mod CellValues
+pub mod Enclosed
 pub mod CodeLaws
 pub mod EndLaws

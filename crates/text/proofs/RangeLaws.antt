@@ -36,7 +36,7 @@ pub record RangeText (r : Range) (v : List ℕ) : Type 0 where
 
 -- ---- what was read was written so
 
-number-spelled : Spells (λ k bs. rank bs ≡ some k) readNumber
+pub number-spelled : Spells (λ k bs. rank bs ≡ some k) readNumber
 unfolding readNumber
 number-spelled = prints-bind (λ w. w .bytes) (λ w. true) (λ k bs. rank bs ≡ some k) _ _ spells-word (λ w _. go w (rank (w .bytes)) refl)
   where
@@ -95,7 +95,7 @@ range-whole {r} {v} t = go (subst (λ (bs : List ℕ). Gives (λ (x : Range). x)
     go : {o : Option (Range × Left)} → Gives (λ (x : Range). x) r [] o → ended o ≡ some r
     go (gives p) = unfold ended in ap some p
 
-number-bytes : (a : List ℕ) (k : ℕ) → rank a ≡ some k → allOf isNameByte a ≡ true
+pub number-bytes : (a : List ℕ) (k : ℕ) → rank a ≡ some k → allOf isNameByte a ≡ true
 number-bytes a k e = number-nameBytes a (unfold isNumber there in rw e)
 
 -- it ends with its first closing bracket

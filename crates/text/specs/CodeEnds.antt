@@ -8,7 +8,7 @@ use mathlib.Core.Option.{Option, none, some}
 use Rattle.text.specs.Amounts.{Range}
 use Rattle.text.specs.Ends.{endOf}
 use Rattle.text.specs.Reader.{Left, byte}
-use Rattle.text.specs.Words.{Word, wordOf}
+use Rattle.text.specs.Words.{Word, wordOf, writtenOf}
 use Rattle.text.specs.declared.amounts.Span.{Span}
 use Rattle.text.specs.declared.amounts.Span.the-variants as span
 use Rattle.text.specs.declared.brackets.Optional.{Optional}
@@ -69,3 +69,8 @@ endOfRange (some r) = span.At (r .1 .at) (r .0 .low) (r .0 .high)
 abbrev pub offendingOf : List ℕ → Offending → Option Word
 offendingOf s offending.Nothing = none
 offendingOf s (offending.At at) = some (wordOf s at)
+
+-- the value of a text, as it is written, at the place that the code's answer names, if it names one
+abbrev pub offendingValue : List ℕ → Offending → Option Word
+offendingValue s offending.Nothing = none
+offendingValue s (offending.At at) = some (writtenOf s at)

@@ -1,11 +1,10 @@
-// Ranges of numbers, `(LOW HIGH)`, and the values of cells.
+// Ranges of numbers, `(LOW HIGH)`.
 use crate::bytes::byte_at;
 use crate::numbers::Number;
 use crate::numbers::read_number;
 use crate::words::End;
-use crate::words::value_end;
 ghost use mathlib.Core.Path.{_≡_};
-ghost use Rattle.text.specs.Amounts.{cellValue, range};
+ghost use Rattle.text.specs.Amounts.{range};
 ghost use Rattle.text.specs.CodeEnds.{endOfRange, wordEnd};
 ghost use Rattle.text.specs.Reader.{from};
 
@@ -48,14 +47,4 @@ pub fn range_end(s: &[u8], at: usize) -> End
         Span::At(e, _, _) => End::At(e),
         Span::Nothing => End::Nothing,
     }
-}
-
-// The end of the value of a cell: a name, a number or a range.
-pub fn cell_value_end(s: &[u8], at: usize) -> End
-    ensures { λ r. ⌜ r ≡ wordEnd (cellValue (from (now (s .entry)) at)) ⌝ }
-{
-    if byte_at(s, at) == b'(' {
-        return range_end(s, at);
-    }
-    value_end(s, at)
 }

@@ -27,6 +27,7 @@ pub enum Reason {
     ImportTooShort,
     RangeNotTaken,
     RangeReversed,
+    NoSuchDate,
 }
 
 // The text that a refusal points into.
@@ -72,5 +73,6 @@ pub fn number(r: Reason) -> usize
         Reason::ImportTooShort => 21,
         Reason::RangeNotTaken => 27,
         Reason::RangeReversed => 28,
+        Reason::NoSuchDate => 31,
     }
 }

@@ -26,7 +26,7 @@ use Rattle.walks.specs.Walked.{CellsTaken, LabelTaken, LabelWalked, type
 use Rattle.stepping.proofs.PlaceLaws.{written-placed}
 use Rattle.rows.proofs.RowTurns.{Rowed, label-added, rowed-all, rowed-none, value-added}
 use Rattle.stepping.specs.Stored.{LineAt}
-use Rattle.text.proofs.CellValues.{forward-cellValue}
+use Rattle.calendar.proofs.CellValues.{forward-cellValue}
 use Rattle.text.proofs.CodeLaws.{word-at}
 use Rattle.text.proofs.EndLaws.{held-end}
 use Rattle.text.proofs.Forward.{forward-next, forward-wordThat}
@@ -35,7 +35,7 @@ use Rattle.text.proofs.ReaderLaws.{byte-at-read}
 use Rattle.text.proofs.Spaces.{next-here}
 use Rattle.text.proofs.WalkingLaws.{past-here}
 use Rattle.text.proofs.WordLaws.{word-read}
-use Rattle.text.specs.Amounts.{cellValue}
+use Rattle.calendar.specs.CellValues.{cellValue}
 use Rattle.text.specs.Brackets.{next}
 use Rattle.text.specs.CodeEnds.{wordEnd}
 use Rattle.text.specs.Names.{isName}

@@ -9,14 +9,16 @@ use mathlib.Core.List.{List, [], _++_, _∷_, map}
 use mathlib.Core.Option.{none, some}
 use mathlib.Core.Path.{_∙_, _≡_, ap, refl, subst, sym}
 use native.Mathlib.Omega.{arith}
+use Rattle.calendar.specs.DateText.{dateOf}
 use Rattle.condition.specs.Kinds.{hasKind, names}
 use Rattle.document.proofs.RowItems.{led-name, led-values}
+use Rattle.document.specs.AmountFaults.{dateExists, inOrder}
 use Rattle.document.specs.Lookup.{columnsAt, labelOf, schemeAt, schemeOf, tableOf}
 use Rattle.document.specs.NameFaults.{rowLabels}
 use Rattle.document.specs.Policy.{Column, Doc, Policy}
 use Rattle.document.specs.TypeFaults.{cellHasKind, mistypedValue}
 use Rattle.document.specs.ValueFaults.{plainValues, rowValues}
-use Rattle.rows.proofs.RowChecks.{firstBroken, labels-done, no-values-left, one-missing, order-done}
+use Rattle.rows.proofs.RowChecks.{firstBroken, firstUnreal, labels-done, no-values-left, one-missing, test-done}
 use Rattle.rows.proofs.RowItems.{fits-stop, shaped-at, width-fits}
 use Rattle.rows.proofs.RowJudging.{row-fine}
 use Rattle.rows.proofs.RowTypes.{word-kind}
@@ -46,6 +48,7 @@ use Rattle.rows.proofs.RowStored.{AddsRow, RowFits, cells-stored, leading-store
 use Rattle.stepping.specs.Stored.{Passes}
 use Rattle.text.proofs.EndLaws.{list-more}
 use Rattle.text.proofs.OffendingLaws.{missing-nil, unless-true}
+use Rattle.text.specs.Amounts.{rangeOf}
 use Rattle.text.specs.Brackets.{many}
 use Rattle.text.specs.CodeEnds.{wordEnd}
 use Rattle.text.specs.Offending.{missing}
@@ -70,7 +73,10 @@ module _ {b : Bool} {line : List ℕ} {n : ℕ} {cs : List Column} {is e : ℕ} 
   walked-typed = w .typed ∙ no-values-left (drop n cs) line e (no-space line e shut)
 
   walked-ordered : firstBroken (valuesAt line is) ≡ none
-  walked-ordered = w .ordered ∙ order-done line e (no-space line e shut)
+  walked-ordered = w .ordered ∙ test-done (λ v. inOrder (rangeOf v)) line e (no-space line e shut)
+
+  walked-dated : firstUnreal (valuesAt line is) ≡ none
+  walked-dated = w .dated ∙ test-done (λ v. dateExists (dateOf v)) line e (no-space line e shut)
 
 -- ---- a row of table x, whose scheme is s: its labels are known, and the values of its items are those that were walked from j on
 
@@ -89,6 +95,7 @@ module _ (d : Doc) (line : List ℕ) (is k x : ℕ) (counted : k ≡ length (d .
       row-fine d line (wordOf line 5) (itemsAt line is) k counted room x table s scheme labelled fits-columns (values-of .0) (values-of .1)
       (ap (mistypedValue (columnsAt (d .policy) x)) (sym (shaped-at b line j (values-of .0) (sym shaped ∙ values-of .1))) ∙ walked-typed w shut)
       (ap firstBroken (sym (shaped-at b line j (values-of .0) (sym shaped ∙ values-of .1))) ∙ walked-ordered w shut)
+      (ap firstUnreal (sym (shaped-at b line j (values-of .0) (sym shaped ∙ values-of .1))) ∙ walked-dated w shut)
 
   row-of : RowFits d (wordOf line 5) (itemsAt line is) k s
   unfolding schemeOf orZero

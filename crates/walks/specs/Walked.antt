@@ -5,8 +5,11 @@ use lib.ListN.{drop, getD, length}
 use mathlib.Core.Bool.{Bool, _&&_, cond, false, true}
 use mathlib.Core.List.{List, [], map}
 use mathlib.Core.Path.{_≡_}
+use Rattle.calendar.specs.DateText.{dateOf}
+use Rattle.calendar.specs.declared.reading.DateRead.{DateRead}
+use Rattle.calendar.specs.declared.reading.DateRead.the-variants as dateRead
 use Rattle.condition.specs.Kinds.{Kind}
-use Rattle.document.specs.AmountFaults.{inOrder}
+use Rattle.document.specs.AmountFaults.{dateExists, inOrder}
 use Rattle.document.specs.Lookup.{labelOf}
 use Rattle.document.specs.NameFaults.{bracketLabels}
 use Rattle.document.specs.Policy.{Column, Policy, Row}
@@ -31,9 +34,13 @@ use Rattle.text.specs.declared.amounts.Span.the-variants as span
 use Rattle.text.specs.declared.words.End.{End}
 use Rattle.text.specs.declared.words.End.the-variants.{At, Nothing}
 
--- the value is of the type, and in order if it is a range
+-- the value is in order if it is a range, and exists if it is a date
+unfoldable pub isSound : Value → Bool
+isSound v = inOrder (rangeOf v) && dateExists (dateOf v)
+
+-- the value is of the type, and sound
 unfoldable pub isTaken : Kind → Value → Bool
-isTaken kind v = cellHasKind kind v && inOrder (rangeOf v)
+isTaken kind v = cellHasKind kind v && isSound v
 
 -- where the value at a place ends, if it is so
 unfoldable pub typedEnd : List ℕ → ℕ → Kind → End
@@ -44,16 +51,23 @@ abbrev pub orderedEnd : Span → End
 orderedEnd span.Nothing = Nothing
 orderedEnd (span.At e l h) = cond (leb l h) (At e) Nothing
 
+-- where a date ends, if it exists, by the code's answer for its reader
+abbrev pub existingEnd : DateRead → End
+existingEnd dateRead.Nothing = Nothing
+existingEnd (dateRead.NoSuchDate e) = Nothing
+existingEnd (dateRead.At e r) = At e
+
 -- the first k rows stay
 abbrev pub KeepsRows : (text before after : List ℕ) → ℕ → Type 0
 KeepsRows text before after k = (rs : List Row) → Rows text before k rs → Rows text after k rs
 
--- n items, with labels (true) or without (false), stand from `is` to e, and each has a value of its column's type that is in order
+-- n items, with labels (true) or without (false), stand from `is` to e, and each has a value of its column's type that is sound
 pub record ItemsWalked (bracketed : Bool) (line : List ℕ) (n : ℕ) (cs : List Column) (is e : ℕ) : Type 0 where
   pub ends : wordEnd (many item (from line is)) ≡ wordEnd (many item (from line e))
   pub fits : holdsOf (λ ws. eqb (length ws) n) (shapedValues bracketed (itemsAt line is)) ≡ holdsOf (λ ws. eqb (n + length ws) n) (shapedValues bracketed (itemsAt line e))
   pub typed : mistypedValue cs (valuesAt line is) ≡ mistypedValue (drop n cs) (valuesAt line e)
   pub ordered : missing (λ w. inOrder (rangeOf (w .bytes))) (valuesAt line is) ≡ missing (λ w. inOrder (rangeOf (w .bytes))) (valuesAt line e)
+  pub dated : missing (λ w. dateExists (dateOf (w .bytes))) (valuesAt line is) ≡ missing (λ w. dateExists (dateOf (w .bytes))) (valuesAt line e)
 
 -- n values stand from `is` to e, and if they are all, they are stored as those of row k, which has m labels already
 pub record ValuesTaken (text before after line : List ℕ) (k n m : ℕ) (ls : List ℕ) (cs : List Column) (is e : ℕ) : Type 0 where

@@ -1,4 +1,6 @@
 // The values and labels of a row line: judged while they are read, and stored while they are judged.
+use calendar::reading::DateRead;
+use calendar::reading::read_date;
 use condition::kinds::Kind;
 use relations::labels::find_label_to;
 use relations::rows::set_label;
@@ -20,7 +22,7 @@ ghost use Prim.Native.Nat.{ℕ};
 ghost use mathlib.Core.List.{List};
 ghost use mathlib.Core.Path.{_≡_};
 ghost use Rattle.condition.specs.Answers.{kindOf};
-ghost use Rattle.condition.specs.Kinds.{numbers};
+ghost use Rattle.condition.specs.Kinds.{dates, numbers};
 ghost use Rattle.document.specs.Policy.{Policy};
 ghost use Rattle.relations.specs.Labels.{Labels};
 ghost use Rattle.text.specs.Amounts.{range};
@@ -58,13 +60,26 @@ fn number_end(line: &[u8], at: usize) -> End
     }
 }
 
-// The end of the value of the type that stands at a position, if it is in order.
+// The end of the date at a position, if it exists.
+fn existing_end(line: &[u8], at: usize) -> End
+    ensures { λ r. ⌜ r ≡ typedEnd (now (line .entry)) at dates ⌝ }
+{
+    let d = read_date(line, at);
+    match d {
+        DateRead::At(e, _) => End::At(e),
+        DateRead::NoSuchDate(_) => End::Nothing,
+        DateRead::Nothing => End::Nothing,
+    }
+}
+
+// The end of the value of the type that stands at a position, if it is in order and exists.
 fn typed_end(line: &[u8], at: usize, kind: Kind) -> End
     ensures { λ r. ⌜ r ≡ typedEnd (now (line .entry)) at (kindOf kind) ⌝ }
 {
     match kind {
         Kind::Name => name_end(line, at),
         Kind::Num => number_end(line, at),
+        Kind::Date => existing_end(line, at),
     }
 }
 

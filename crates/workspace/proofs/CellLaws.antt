@@ -4,7 +4,7 @@ use lib.ListN.{getD, set}
 use lib.Seq.{getD-set-other}
 use mathlib.Core.List.{List}
 use mathlib.Core.Path.{_∙_, _≡_, refl}
-use Rattle.condition.specs.Kinds.{names}
+use Rattle.condition.specs.Kinds.{dates}
 use Rattle.workspace.specs.Cells.{kindOfCell}
 
 pub kept-3 : (ws : List ℕ) (a b c u v w n : ℕ) → (n ≡ a → ⊥) → (n ≡ b → ⊥) → (n ≡ c → ⊥) → getD (set (set (set ws a u) b v) c w) n 0 ≡ getD ws n 0
@@ -14,8 +14,9 @@ kept-3 ws a b c u v w n p q r =
 pub kept-4 : (ws : List ℕ) (a b c d u v w x n : ℕ) → (n ≡ a → ⊥) → (n ≡ b → ⊥) → (n ≡ c → ⊥) → (n ≡ d → ⊥) → getD (set (set (set (set ws a u) b v) c w) d x) n 0 ≡ getD ws n 0
 kept-4 ws a b c d u v w x n p q r s = getD-set-other (set (set (set ws a u) b v) c w) d n x 0 s ∙ kept-3 ws a b c u v w n p q r
 
--- any number but 0 stands for names
-pub kind-names : (n : ℕ) → (n ≡ 0 → ⊥) → kindOfCell n ≡ names
+-- any number but 0 and 1 stands for dates
+pub kind-dates : (n : ℕ) → (n ≡ 0 → ⊥) → (n ≡ 1 → ⊥) → kindOfCell n ≡ dates
 unfolding kindOfCell
-kind-names zero h = absurd (h refl)
-kind-names (suc n) h = refl
+kind-dates zero h k = absurd (h refl)
+kind-dates (suc zero) h k = absurd (k refl)
+kind-dates (suc (suc n)) h k = refl

@@ -21,6 +21,7 @@ pub fn kind_cell(kind: Kind) -> usize
     match kind {
         Kind::Num => 0,
         Kind::Name => 1,
+        Kind::Date => 2,
     }
 }
 
@@ -31,5 +32,8 @@ pub fn kind_by(n: usize) -> Kind
     if n == 0 {
         return Kind::Num;
     }
-    Kind::Name
+    if n == 1 {
+        return Kind::Name;
+    }
+    Kind::Date
 }

@@ -12,7 +12,7 @@ use Rattle.document.specs.Lookup.{condRoleOf, roleOf}
 use Rattle.document.specs.NameFaults.{taken, unknown}
 use Rattle.document.specs.Policy.{Doc}
 use Rattle.document.specs.TypeFaults.{wrongType}
-use Rattle.attributes.proofs.CondLineLaws.{cond-form, cond-late, cond-order, cond-many, cond-new, cond-room, cond-root, cond-taken, cond-values, cond-wide, not-both, read-there, role-unknown, stored-count, stored-many, stored-near, stored-over, types-stored, unknown-stored}
+use Rattle.attributes.proofs.CondLineLaws.{cond-form, cond-late, cond-order, cond-dated, cond-many, cond-new, cond-room, cond-root, cond-taken, cond-values, cond-wide, not-both, read-there, role-unknown, stored-count, stored-many, stored-near, stored-over, types-stored, unknown-stored}
 use Rattle.stepping.proofs.Judging.{judge-bound, judge-fine, judge-taken, judge-type, judge-unknown}
 use Rattle.stepping.specs.Places.{Near}
 use Rattle.principals.proofs.IndexLaws.{conds-length}
@@ -20,9 +20,9 @@ use Rattle.principals.specs.Attributes.{Attributes}
 use Rattle.principals.specs.CondRoles.{CondRoles}
 use Rattle.workspace.specs.Found.{foundAs}
 use Rattle.principals.specs.Nodes.{Nodes}
-use Rattle.text.specs.CodeEnds.{offendingOf}
+use Rattle.text.specs.CodeEnds.{offendingOf, offendingValue}
 use Rattle.text.specs.Reader.{Left, from}
-use Rattle.text.specs.Words.{wordOf}
+use Rattle.text.specs.Words.{wordOf, writtenOf}
 use Rattle.text.specs.declared.offending.Offending.{Offending}
 use Rattle.attributes.proofs.cond_faults.cond_role_fault.Statement.{statement}
 use Rattle.attributes.proofs.cond_faults.cond_role_fault.Tie as tie
@@ -153,7 +153,7 @@ enum-known-mistyped c = search needs
 
 -- what is of the wrong type is what was found
 types : (c : tie.After-first-mistyped) (d : Doc) (x : Cond Compared) (l : Left) → conditionInForm (from (c .before .before .before .before .before .before .before .before .before .before .before .before .before .before .before .before .before .before .before .before .before .before .args .line .now) (c .before .before .before .before .before .before .before .before .before .before .before .before .before .before .before .before .before .before .before .before .before .before .args .t)) ≡ some (x, l) → Attributes (c .before .before .before .before .before .before .before .before .before .before .before .before .before .before .before .before .before .before .before .before .before .before .args .text .now) (c .before .before .before .before .before .before .before .before .before .before .before .before .before .before .before .before .before .before .before .before .before .before .args .attributes .now) (c .before .before .before .before .before .before .before .before .before .before .before .before .before .before .before .before .before .before .before .before .before .before .args .n) (d .policy .attributes)
-    → wrongType (d .policy) (cond-form (c .before .before .before .before .before .before .before .before .before .before .before .before .before .before .before .before .before .before .before .before .before .before .args .line .now) (c .before .before .before .before .before .before .before .before .before .before .before .before .before .before .before .before .before .before .before .before .before .before .args .c) (c .before .before .before .before .before .before .before .before .before .before .before .before .before .before .before .before .before .before .before .before .before .before .args .r) x) ≡ offendingOf (c .before .before .before .before .before .before .before .before .before .before .before .before .before .before .before .before .before .before .before .before .before .before .args .line .now) (c .first-mistyped .result)
+    → wrongType (d .policy) (cond-form (c .before .before .before .before .before .before .before .before .before .before .before .before .before .before .before .before .before .before .before .before .before .before .args .line .now) (c .before .before .before .before .before .before .before .before .before .before .before .before .before .before .before .before .before .before .before .before .before .before .args .c) (c .before .before .before .before .before .before .before .before .before .before .before .before .before .before .before .before .before .before .before .before .before .before .args .r) x) ≡ offendingValue (c .before .before .before .before .before .before .before .before .before .before .before .before .before .before .before .before .before .before .before .before .before .before .args .line .now) (c .first-mistyped .result)
 types c d x l k h =
     types-stored d (c .before .before .before .before .before .before .before .before .before .before .before .before .before .before .before .before .before .before .before .before .before .before .args .line .now) (c .before .before .before .before .before .before .before .before .before .before .before .before .before .before .before .before .before .before .before .before .before .before .args .c) (c .before .before .before .before .before .before .before .before .before .before .before .before .before .before .before .before .before .before .before .before .before .before .args .r) x l (c .before .before .before .before .before .before .before .before .before .before .before .before .before .before .before .before .before .before .before .before .before .before .args .t) k (c .before .before .before .before .before .before .before .before .before .before .before .before .before .before .before .before .before .before .read-places .result) _ (c .before .before .before .before .before .before .before .before .before .before .before .before .before .before .before .before .before .before .read-places .ensures) _ _ (c .before .before .before .before .before .before .before .before .before .before .before .before .before .before .before .before .read .given .1) (c .before .before .before .before .before .before .before .before .before .before .before .before .before .if2 .left)
     ∙ sym (c .first-mistyped .ensures .0 (d .policy) h)
@@ -162,8 +162,8 @@ returns-7 : tie.Need-returns-7
 returns-7 c = record {
   judges = λ x l k. record {
     is = λ d h. judge-type d (c .before .before .before .before .before .before .before .before .before .before .before .before .before .before .before .before .before .before .before .before .before .before .before .before .before .args .line .now) (cond-form (c .before .before .before .before .before .before .before .before .before .before .before .before .before .before .before .before .before .before .before .before .before .before .before .before .before .args .line .now) (c .before .before .before .before .before .before .before .before .before .before .before .before .before .before .before .before .before .before .before .before .before .before .before .before .before .args .c) (c .before .before .before .before .before .before .before .before .before .before .before .before .before .before .before .before .before .before .before .before .before .before .before .before .before .args .r) x) (room (c .before .before .before .before .before .before .before .before .before .before .before .before .before .before .before .before) d x l k (h .2)) (fresh (c .before .before .before .before .before .before .before .before .before .before .before .before .before) d x (h .2))
-        (unknowns (c .before .before .before .before .before .before .before) d x l k (h .0) (h .1) ∙ ap (offendingOf (c .before .before .before .before .before .before .before .before .before .before .before .before .before .before .before .before .before .before .before .before .before .before .before .before .before .args .line .now)) (c .before .before .before .before .before .enum-told5 .given .1)) (cond-root d (c .before .before .before .before .before .before .before .before .before .before .before .before .before .before .before .before .before .before .before .before .before .before .before .before .before .args .line .now) (c .before .before .before .before .before .before .before .before .before .before .before .before .before .before .before .before .before .before .before .before .before .before .before .before .before .args .c) (c .before .before .before .before .before .before .before .before .before .before .before .before .before .before .before .before .before .before .before .before .before .before .before .before .before .args .r) x) (cond-values d (c .before .before .before .before .before .before .before .before .before .before .before .before .before .before .before .before .before .before .before .before .before .before .before .before .before .args .line .now) (c .before .before .before .before .before .before .before .before .before .before .before .before .before .before .before .before .before .before .before .before .before .before .before .before .before .args .c) (c .before .before .before .before .before .before .before .before .before .before .before .before .before .before .before .before .before .before .before .before .before .before .before .before .before .args .r) x) (wordOf (c .before .before .before .before .before .before .before .before .before .before .before .before .before .before .before .before .before .before .before .before .before .before .before .before .before .args .line .now) (c .before .mistyped .given .0 .0))
-        (types (c .before .before .before) d x l k (h .1) ∙ ap (offendingOf (c .before .before .before .before .before .before .before .before .before .before .before .before .before .before .before .before .before .before .before .before .before .before .before .before .before .args .line .now)) (c .before .mistyped .given .1));
+        (unknowns (c .before .before .before .before .before .before .before) d x l k (h .0) (h .1) ∙ ap (offendingOf (c .before .before .before .before .before .before .before .before .before .before .before .before .before .before .before .before .before .before .before .before .before .before .before .before .before .args .line .now)) (c .before .before .before .before .before .enum-told5 .given .1)) (cond-root d (c .before .before .before .before .before .before .before .before .before .before .before .before .before .before .before .before .before .before .before .before .before .before .before .before .before .args .line .now) (c .before .before .before .before .before .before .before .before .before .before .before .before .before .before .before .before .before .before .before .before .before .before .before .before .before .args .c) (c .before .before .before .before .before .before .before .before .before .before .before .before .before .before .before .before .before .before .before .before .before .before .before .before .before .args .r) x) (cond-values d (c .before .before .before .before .before .before .before .before .before .before .before .before .before .before .before .before .before .before .before .before .before .before .before .before .before .args .line .now) (c .before .before .before .before .before .before .before .before .before .before .before .before .before .before .before .before .before .before .before .before .before .before .before .before .before .args .c) (c .before .before .before .before .before .before .before .before .before .before .before .before .before .before .before .before .before .before .before .before .before .before .before .before .before .args .r) x) (writtenOf (c .before .before .before .before .before .before .before .before .before .before .before .before .before .before .before .before .before .before .before .before .before .before .before .before .before .args .line .now) (c .before .mistyped .given .0 .0))
+        (types (c .before .before .before) d x l k (h .1) ∙ ap (offendingValue (c .before .before .before .before .before .before .before .before .before .before .before .before .before .before .before .before .before .before .before .before .before .before .before .before .before .args .line .now)) (c .before .mistyped .given .1));
     roomy = tt;
     reaches = λ p. subst (λ (f : Offending). Near (c .before .before .before .before .before .before .before .before .before .before .before .before .before .before .before .before .before .before .before .before .before .before .before .before .before .args .line .now) f) (c .before .mistyped .given .1) (c .before .before .before .first-mistyped .ensures .1 (stored-near (c .before .before .before .before .before .before .before .before .before .before .before .before .before .before .before .before .before .before .before .before .before .before .before .before .before .args .line .now) (c .before .before .before .before .before .before .before .before .before .before .before .before .before .before .before .before .before .before .before .before .before .before .before .before .before .args .t) (c .before .before .before .before .before .before .before .before .before .before .before .before .before .before .before .before .before .before .before .before .before .read-places .result) _ (c .before .before .before .before .before .before .before .before .before .before .before .before .before .before .before .before .before .before .before .before .before .read-places .ensures) _ _ (c .before .before .before .before .before .before .before .before .before .before .before .before .before .before .before .before .before .before .before .read .given .1) (c .before .before .before .before .before .before .before .before .before .before .before .before .before .before .before .before .if2 .left)));
   };
@@ -178,7 +178,7 @@ returns-8 c = record {
   judges = λ x l k. record {
     is = λ d h. judge-fine d (c .before .before .before .before .before .before .before .before .before .before .before .before .before .before .before .before .before .before .before .before .before .before .before .before .args .line .now) (cond-form (c .before .before .before .before .before .before .before .before .before .before .before .before .before .before .before .before .before .before .before .before .before .before .before .before .args .line .now) (c .before .before .before .before .before .before .before .before .before .before .before .before .before .before .before .before .before .before .before .before .before .before .before .before .args .c) (c .before .before .before .before .before .before .before .before .before .before .before .before .before .before .before .before .before .before .before .before .before .before .before .before .args .r) x) (room (c .before .before .before .before .before .before .before .before .before .before .before .before .before .before .before) d x l k (h .2)) (fresh (c .before .before .before .before .before .before .before .before .before .before .before .before) d x (h .2))
         (unknowns (c .before .before .before .before .before .before) d x l k (h .0) (h .1) ∙ ap (offendingOf (c .before .before .before .before .before .before .before .before .before .before .before .before .before .before .before .before .before .before .before .before .before .before .before .before .args .line .now)) (c .before .before .before .before .enum-told5 .given .1)) (cond-root d (c .before .before .before .before .before .before .before .before .before .before .before .before .before .before .before .before .before .before .before .before .before .before .before .before .args .line .now) (c .before .before .before .before .before .before .before .before .before .before .before .before .before .before .before .before .before .before .before .before .before .before .before .before .args .c) (c .before .before .before .before .before .before .before .before .before .before .before .before .before .before .before .before .before .before .before .before .before .before .before .before .args .r) x) (cond-values d (c .before .before .before .before .before .before .before .before .before .before .before .before .before .before .before .before .before .before .before .before .before .before .before .before .args .line .now) (c .before .before .before .before .before .before .before .before .before .before .before .before .before .before .before .before .before .before .before .before .before .before .before .before .args .c) (c .before .before .before .before .before .before .before .before .before .before .before .before .before .before .before .before .before .before .before .before .before .before .before .before .args .r) x)
-        (types (c .before .before) d x l k (h .1) ∙ ap (offendingOf (c .before .before .before .before .before .before .before .before .before .before .before .before .before .before .before .before .before .before .before .before .before .before .before .before .args .line .now)) (c .enum-told6 .given .1)) (cond-order d (c .before .before .before .before .before .before .before .before .before .before .before .before .before .before .before .before .before .before .before .before .before .before .before .before .args .line .now) (c .before .before .before .before .before .before .before .before .before .before .before .before .before .before .before .before .before .before .before .before .before .before .before .before .args .c) (c .before .before .before .before .before .before .before .before .before .before .before .before .before .before .before .before .before .before .before .before .before .before .before .before .args .r) x) (cond-late d (c .before .before .before .before .before .before .before .before .before .before .before .before .before .before .before .before .before .before .before .before .before .before .before .before .args .line .now) (c .before .before .before .before .before .before .before .before .before .before .before .before .before .before .before .before .before .before .before .before .before .before .before .before .args .c) (c .before .before .before .before .before .before .before .before .before .before .before .before .before .before .before .before .before .before .before .before .before .before .before .before .args .r) x);
+        (types (c .before .before) d x l k (h .1) ∙ ap (offendingValue (c .before .before .before .before .before .before .before .before .before .before .before .before .before .before .before .before .before .before .before .before .before .before .before .before .args .line .now)) (c .enum-told6 .given .1)) (cond-order d (c .before .before .before .before .before .before .before .before .before .before .before .before .before .before .before .before .before .before .before .before .before .before .before .before .args .line .now) (c .before .before .before .before .before .before .before .before .before .before .before .before .before .before .before .before .before .before .before .before .before .before .before .before .args .c) (c .before .before .before .before .before .before .before .before .before .before .before .before .before .before .before .before .before .before .before .before .before .before .before .before .args .r) x) (cond-dated d (c .before .before .before .before .before .before .before .before .before .before .before .before .before .before .before .before .before .before .before .before .before .before .before .before .args .line .now) (c .before .before .before .before .before .before .before .before .before .before .before .before .before .before .before .before .before .before .before .before .before .before .before .before .args .c) (c .before .before .before .before .before .before .before .before .before .before .before .before .before .before .before .before .before .before .before .before .before .before .before .before .args .r) x) (cond-late d (c .before .before .before .before .before .before .before .before .before .before .before .before .before .before .before .before .before .before .before .before .before .before .before .before .args .line .now) (c .before .before .before .before .before .before .before .before .before .before .before .before .before .before .before .before .before .before .before .before .before .before .before .before .args .c) (c .before .before .before .before .before .before .before .before .before .before .before .before .before .before .before .before .before .before .before .before .before .before .before .before .args .r) x);
     roomy = c .before .before .before .before .before .before .before .before .before .before .before .before .before .before .before .before .if1 .left;
     reaches = λ p. tt;
   };

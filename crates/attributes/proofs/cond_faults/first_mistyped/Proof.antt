@@ -14,9 +14,9 @@ use Rattle.document.specs.Policy.{Policy}
 use Rattle.attributes.proofs.CondLineLaws.{mistyped-near}
 use Rattle.principals.specs.Attributes.{Attributes}
 use Rattle.text.proofs.FirstOffending.{first-of, none-of}
-use Rattle.text.specs.CodeEnds.{offendingOf}
+use Rattle.text.specs.CodeEnds.{offendingValue}
 use Rattle.text.specs.Walking.{nextWord}
-use Rattle.text.specs.Words.{wordOf}
+use Rattle.text.specs.Words.{wordOf, writtenOf}
 use Rattle.attributes.proofs.cond_faults.first_mistyped.Statement.{statement}
 use Rattle.attributes.proofs.cond_faults.first_mistyped.Tie as tie
 
@@ -48,7 +48,7 @@ enum-known-w : tie.Need-enum-known-w Inv-loop μ-loop
 enum-known-w c = search needs
 
 -- what the code found is what is wrong with the comparison
-found : (c : tie.After-wrong-type Inv-loop μ-loop) (d : Policy) → Attributes (c .before .before .before .before .before .before .before .before .args .text .now) (c .before .before .before .before .before .before .before .before .args .attributes .now) (c .before .before .before .before .before .before .before .before .args .n) (d .attributes) → offendingOf (c .before .before .before .before .before .before .before .before .args .line .now) (c .wrong-type .result) ≡ mistyped (attributeKind d (wordOf (c .before .before .before .before .before .before .before .before .args .line .now) (nextWord (c .before .before .before .before .before .before .before .before .args .line .now) (getD (c .before .before .before .before .before .before .before .before .args .ops .now) (c .before .before .before .before .before .loop .j) 0)))) (comparedAt (c .before .before .before .before .before .before .before .before .args .line .now) (getD (c .before .before .before .before .before .before .before .before .args .ops .now) (c .before .before .before .before .before .loop .j) 0))
+found : (c : tie.After-wrong-type Inv-loop μ-loop) (d : Policy) → Attributes (c .before .before .before .before .before .before .before .before .args .text .now) (c .before .before .before .before .before .before .before .before .args .attributes .now) (c .before .before .before .before .before .before .before .before .args .n) (d .attributes) → offendingValue (c .before .before .before .before .before .before .before .before .args .line .now) (c .wrong-type .result) ≡ mistyped (attributeKind d (wordOf (c .before .before .before .before .before .before .before .before .args .line .now) (nextWord (c .before .before .before .before .before .before .before .before .args .line .now) (getD (c .before .before .before .before .before .before .before .before .args .ops .now) (c .before .before .before .before .before .loop .j) 0)))) (comparedAt (c .before .before .before .before .before .before .before .before .args .line .now) (getD (c .before .before .before .before .before .before .before .before .args .ops .now) (c .before .before .before .before .before .loop .j) 0))
 found c d h =
     let s = c .before .before .before .before .before .before .before .before .args .line .now in
     let kind : kindOf (c .before .kind-named .result) ≡ attributeKind d (wordOf s (nextWord s (getD (c .before .before .before .before .before .before .before .before .args .ops .now) (c .before .before .before .before .before .loop .j) 0))) = c .before .kind-named .ensures d h ∙ ap (λ p. attributeKind d (wordOf s p)) (c .before .before .next-word .ensures) in
@@ -60,9 +60,9 @@ returns c =
     let many : c .before .before .before .before .before .before .before .before .before .before .before .args .count ≤ length (c .before .before .before .before .before .before .before .before .before .before .before .args .ops .now) = c .before .before .before .before .before .before .before .before .before .before .before .pre .1 in
     let op = getD (c .before .before .before .before .before .before .before .before .before .before .before .args .ops .now) (c .before .before .before .before .before .before .before .before .loop .j) 0 in (
       (λ d h.
-          sym (first-of (λ p. mistyped (attributeKind d (wordOf s (nextWord s p))) (comparedAt s p)) (c .before .before .before .before .before .before .before .before .before .before .before .args .ops .now) (c .before .before .before .before .before .before .before .before .before .before .before .args .count) (c .before .before .before .before .before .before .before .before .loop .j) (wordOf s (c .before .w .given .0 .0)) many (c .before .before .before .before .before .before .before .loop-test .taken) (c .before .before .before .before .before .before .before .before .loop .inv .1 d h)
-          (sym (found (c .before .before .before) d h) ∙ ap (offendingOf s) (c .before .w .given .1)))),
-      (λ near. mistyped-near s (kindOf (c .before .before .before .before .kind-named .result)) op (c .before .w .given .0 .0) (near (c .before .before .before .before .before .before .before .before .loop .j) (c .before .before .before .before .before .before .before .loop-test .taken)) (sym (ap (offendingOf s) (c .before .w .given .1)) ∙ c .before .before .before .wrong-type .ensures)),
+          sym (first-of (λ p. mistyped (attributeKind d (wordOf s (nextWord s p))) (comparedAt s p)) (c .before .before .before .before .before .before .before .before .before .before .before .args .ops .now) (c .before .before .before .before .before .before .before .before .before .before .before .args .count) (c .before .before .before .before .before .before .before .before .loop .j) (writtenOf s (c .before .w .given .0 .0)) many (c .before .before .before .before .before .before .before .loop-test .taken) (c .before .before .before .before .before .before .before .before .loop .inv .1 d h)
+          (sym (found (c .before .before .before) d h) ∙ ap (offendingValue s) (c .before .w .given .1)))),
+      (λ near. mistyped-near s (kindOf (c .before .before .before .before .kind-named .result)) op (c .before .w .given .0 .0) (near (c .before .before .before .before .before .before .before .before .loop .j) (c .before .before .before .before .before .before .before .loop-test .taken)) (sym (ap (offendingValue s) (c .before .w .given .1)) ∙ c .before .before .before .wrong-type .ensures)),
     )
 
 enum-told : tie.Need-enum-told Inv-loop μ-loop
@@ -77,7 +77,7 @@ loop-less c = omega (arith, c .before .before .before .before .before .before .l
 loop-again : tie.Need-loop-again Inv-loop μ-loop
 loop-again c = (
   omega (arith, c .before .before .before .before .before .before .loop-test .taken),
-  (λ d h. below-more _ (c .before .before .before .before .before .before .before .loop .j) (c .before .before .before .before .before .before .before .loop .inv .1 d h) (sym (found (c .before .before) d h) ∙ ap (offendingOf (c .before .before .before .before .before .before .before .before .before .before .args .line .now)) (c .enum-told .given .1))),
+  (λ d h. below-more _ (c .before .before .before .before .before .before .before .loop .j) (c .before .before .before .before .before .before .before .loop .inv .1 d h) (sym (found (c .before .before) d h) ∙ ap (offendingValue (c .before .before .before .before .before .before .before .before .before .before .args .line .now)) (c .enum-told .given .1))),
 )
 
 returns-2 : tie.Need-returns-2 Inv-loop μ-loop

@@ -1,12 +1,14 @@
 -- `belonging::held::words_meet` meets its contract: the clock has the first three attributes, and the user the others. Assumes nothing.
-use mathlib.Core.Path.{_∙_, ap}
+use mathlib.Core.Path.{_∙_, ap, sym}
 use native.Mathlib.Omega.{arith}
 use Rattle.belonging.proofs.HeldLaws.{attribute-there, clock-there, meets-clock, meets-user}
 use Rattle.condition.specs.Answers.{opOf}
 use Rattle.condition.specs.Comparison.{ranksMeet}
+use Rattle.lists.specs.Lists.{orZero}
 use Rattle.query.specs.HostClock.{clockOf}
+use Rattle.text.proofs.Enclosed.{written-rank}
 use Rattle.text.specs.Numbers.{rankOf}
-use Rattle.text.specs.Words.{wordAt, wordOf}
+use Rattle.text.specs.Words.{wordOf, writtenAt}
 use borrow.Author.Needs.{needs}
 use Rattle.belonging.proofs.held.words_meet.Statement.{statement}
 use Rattle.belonging.proofs.held.words_meet.Tie as tie
@@ -34,8 +36,8 @@ returns c d u t k = let a = c .before .before .before .before .before .before .b
     let ranked = c .before .before .clock-rank .ensures (omega (arith, number, got .2)) in
     c .ranks-meet .ensures
     ∙ ap (λ m. ranksMeet (opOf (a .op)) m (c .before .known-rank .result)) (ranked ∙ ap rankOf number)
-    ∙ ap (ranksMeet (opOf (a .op)) (rankOf (got .0))) (c .before .known-rank .ensures)
-    ∙ meets-clock d (clockOf (a .clock)) u (opOf (a .op)) (wordOf (a .line .now) (a .name)) (wordAt (a .line .now) (a .v)) n (c .before .before .before .before .before .attribute-number .ensures d (t .attributed)) (got .0) (got .1)
+    ∙ ap (ranksMeet (opOf (a .op)) (rankOf (got .0))) (c .before .known-rank .ensures ∙ ap orZero (sym (written-rank (a .line .now) (a .v))))
+    ∙ meets-clock d (clockOf (a .clock)) u (opOf (a .op)) (wordOf (a .line .now) (a .name)) (writtenAt (a .line .now) (a .v)) n (c .before .before .before .before .before .attribute-number .ensures d (t .attributed)) (got .0) (got .1)
 
 value-meets-requires : tie.Need-value-meets-requires
 value-meets-requires c κs = search needs
@@ -45,7 +47,7 @@ returns-2 c d u t k = let a = c .before .before .before .before .before .before 
     let n = c .before .before .attribute-number .result in
     let e = c .before .before .attribute-number .ensures d (t .attributed) in
     let w = wordOf (a .line .now) (a .name) in
-    let v = wordAt (a .line .now) (a .v) in
+    let v = writtenAt (a .line .now) (a .v) in
     let got = attribute-there d (clockOf (a .clock)) u (opOf (a .op)) w v n e k in
     c .value-meets .ensures (a .text .now) d u (got .0) (t .attributed) (t .valued) (got .1)
     ∙ meets-user d (clockOf (a .clock)) u (opOf (a .op)) w v n e (got .0 .kind) (c .before .if1 .left) (got .2)

@@ -2,7 +2,7 @@
 -- Assumes nothing.
 use borrow.Author.Needs.{needs}
 use mathlib.Core.Path.{refl}
-use Rattle.form.specs.FormReader.{columnBody, kinds}
+use Rattle.form.specs.FormReader.{columnBody, columnKinds}
 use Rattle.text.proofs.EndLaws.{pair-off, pair-on}
 use Rattle.text.proofs.Forward.{forward-wordThat}
 use Rattle.text.specs.Brackets.{keyword, next}
@@ -25,19 +25,19 @@ unfolding columnBody
 returns c =
     let s = c .before .before .before .before .args .s .now in
     let at = c .before .before .before .before .args .at in
-    pair-off name (next (keyword kinds)) (λ c k. record { name = c; kind = k }) s at (c .before .before .name-end .ensures) (c .enum-told .given .1)
+    pair-off name (next (keyword columnKinds)) (λ c k. record { name = c; kind = k }) s at (c .before .before .name-end .ensures) (c .enum-told .given .1)
 
-kind-end-requires : tie.Need-kind-end-requires
-kind-end-requires c κs = search needs
+column-kind-end-requires : tie.Need-column-kind-end-requires
+column-kind-end-requires c κs = search needs
 
 returns-2 : tie.Need-returns-2
 unfolding columnBody
 returns-2 c =
     let s = c .before .before .before .before .before .before .args .s .now in
     let at = c .before .before .before .before .before .before .args .at in
-    pair-on name (next (keyword kinds)) (λ c k. record { name = c; kind = k }) s at (c .before .before .before .before .name-end .ensures) (forward-wordThat isName) (c .before .before .n .given .1) (c .kind-end .ensures) refl
+    pair-on name (next (keyword columnKinds)) (λ c k. record { name = c; kind = k }) s at (c .before .before .before .before .name-end .ensures) (forward-wordThat isName) (c .before .before .n .given .1) (c .column-kind-end .ensures) refl
 
 pub column-body-end-spec : {M : Type 1} → statement M
 column-body-end-spec =
     tie.close
-    (tie.spec name-end-requires enum-known-n enum-told returns kind-end-requires returns-2)
+    (tie.spec name-end-requires enum-known-n enum-told returns column-kind-end-requires returns-2)

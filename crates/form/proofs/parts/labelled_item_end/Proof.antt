@@ -3,10 +3,10 @@
 use borrow.Author.Needs.{needs}
 use Rattle.form.specs.Form.{labelled}
 use Rattle.form.specs.FormReader.{labelledItem}
-use Rattle.text.proofs.CellValues.{forward-cellValue}
+use Rattle.calendar.proofs.CellValues.{forward-cellValue}
 use Rattle.text.proofs.EndLaws.{bracket-none, held-end, held-first, held-second, pair}
 use Rattle.text.proofs.Forward.{forward-next, forward-wordThat}
-use Rattle.text.specs.Amounts.{cellValue}
+use Rattle.calendar.specs.CellValues.{cellValue}
 use Rattle.text.specs.Brackets.{next}
 use Rattle.text.specs.Names.{isName}
 use Rattle.text.specs.Words.{name}

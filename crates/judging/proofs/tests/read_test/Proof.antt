@@ -2,7 +2,8 @@
 use Rattle.condition.specs.Answers.{modeBy}
 use Rattle.condition.specs.Kinds.{hasKind}
 use Rattle.text.specs.Walking.{nextWord}
-use Rattle.text.specs.Words.{wordAt}
+use Rattle.judging.proofs.ConstantLaws.{name-written}
+use Rattle.text.specs.Words.{writtenAt}
 use borrow.Author.Needs.{needs}
 use mathlib.Core.Path.{_∙_, ap, refl, sym}
 use native.Mathlib.Omega.{arith}
@@ -40,6 +41,7 @@ flag-number-requires : tie.Need-flag-number-requires
 flag-number-requires c κs = search needs
 
 returns : tie.Need-returns
+unfolding hasKind
 returns c =
     let s = c .before .before .before .before .before .before .before .before .before .before .args .query .now in
     let typed = c .before .before .before .before .kind-cell .ensures in
@@ -49,8 +51,13 @@ returns c =
       operator = c .before .before .op-code .ensures ∙ c .before .before .before .op-at .ensures;
       sign = refl;
       place = c .before .before .before .before .before .before .before .next-word2 .ensures ∙ ap (nextWord s) (c .before .before .before .before .before .before .before .before .next-word .ensures);
-      fits = c .before .read-constant .ensures .fits ∙ ap (λ k. hasKind k (wordAt s (c .before .before .before .before .before .before .before .next-word2 .result))) (sym typed);
-      sized = record { size = omega (arith, c .before .before .before .before .before .before .word-end .ensures); ranked = λ e. c .before .read-constant .ensures .ranked (sym typed ∙ e) };
+      fits = c .before .read-constant .ensures .fits ∙ ap (λ k. hasKind k (writtenAt s (c .before .before .before .before .before .before .before .next-word2 .result))) (sym typed);
+      sized = λ fits. record {
+        size = omega (arith, c .before .before .before .before .before .before .word-end .ensures);
+        ranked = λ e. c .before .read-constant .ensures .ranked (sym typed ∙ e);
+        plain = λ e. name-written s (c .before .before .before .before .before .before .before .next-word2 .result) (ap (λ k. hasKind k (writtenAt s (c .before .before .before .before .before .before .before .next-word2 .result))) (sym (sym typed ∙ e)) ∙ sym (c .before .read-constant .ensures .fits) ∙ fits);
+        dated = λ e. c .before .read-constant .ensures .dated (sym typed ∙ e);
+      };
       hit = refl;
       miss = refl;
       asked = ap modeBy (c .flag-number .ensures);

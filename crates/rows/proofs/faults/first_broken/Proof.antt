@@ -6,11 +6,13 @@ use borrow.Author.Tests.{not-false, not-true}
 use lib.ListN.{length}
 use mathlib.Core.Path.{_∙_, _≡_, ap, refl, subst, sym}
 use native.Mathlib.Omega.{arith}
+use Rattle.document.specs.AmountFaults.{inOrder}
 use Rattle.form.proofs.WalkLaws.{place-within}
 use Rattle.form.proofs.WalkSteps.{item-after, item-inside}
-use Rattle.rows.proofs.RowChecks.{firstBroken, order-done, order-here, order-on}
+use Rattle.rows.proofs.RowChecks.{firstBroken, test-done, test-here, test-on}
 use Rattle.rows.specs.RowWords.{valuesAt}
 use Rattle.text.proofs.Spaces.{space-here}
+use Rattle.text.specs.Amounts.{rangeOf}
 use Rattle.rows.proofs.faults.first_broken.Statement.{statement}
 use Rattle.rows.proofs.faults.first_broken.Tie as tie
 
@@ -40,7 +42,7 @@ returns c =
     let s = c .before .before .before .before .before .before .before .args .line .now in
     let i = c .before .before .before .before .before .loop .i in
     let e = space-here s i _ (c .before .before .before .before .byte-at .ensures) (c .before .before .before .if1 .taken) in (
-      sym (c .before .before .before .before .before .loop .inv ∙ order-here s i (e .0) (c .before .before .value-place .result) (c .before .before .value-place .ensures) (c .before .in-order .result) (c .before .in-order .ensures) (not-true (c .before .in-order .result) (c .if2 .taken))),
+      sym (c .before .before .before .before .before .loop .inv ∙ test-here (λ v. inOrder (rangeOf v)) s i (e .0) (c .before .before .value-place .result) (c .before .before .value-place .ensures) (c .before .in-order .result) (c .before .in-order .ensures) (not-true (c .before .in-order .result) (c .if2 .taken))),
       subst (λ (v : ℕ). v ≤ length s) (sym (c .before .before .value-place .ensures)) (place-within s (i + 1) (omega (arith, e .1))),
     )
 
@@ -62,11 +64,11 @@ loop-again c =
     let i = c .before .before .before .before .before .before .loop .i in
     let e = space-here s i _ (c .before .before .before .before .before .byte-at .ensures) (c .before .before .before .before .if1 .taken) in
     c .before .before .before .before .before .before .loop .inv
-    ∙ order-on s i (e .0) (c .before .before .before .value-place .result) (c .before .before .before .value-place .ensures) (c .before .before .in-order .result) (c .before .before .in-order .ensures) (not-false (c .before .before .in-order .result) (c .before .if2 .left))
+    ∙ test-on (λ v. inOrder (rangeOf v)) s i (e .0) (c .before .before .before .value-place .result) (c .before .before .before .value-place .ensures) (c .before .before .in-order .result) (c .before .before .in-order .ensures) (not-false (c .before .before .in-order .result) (c .before .if2 .left))
     ∙ ap (λ j. firstBroken (valuesAt s j)) (sym (c .item-end-at .ensures))
 
 returns-2 : tie.Need-returns-2 Inv-loop μ-loop
-returns-2 c = (sym (c .before .before .loop .inv ∙ order-done (c .before .before .before .before .args .line .now) (c .before .before .loop .i) (λ z. c .if1 .left (c .before .byte-at .ensures ∙ z))), tt)
+returns-2 c = (sym (c .before .before .loop .inv ∙ test-done (λ v. inOrder (rangeOf v)) (c .before .before .before .before .args .line .now) (c .before .before .loop .i) (λ z. c .if1 .left (c .before .byte-at .ensures ∙ z))), tt)
 
 pub first-broken-spec : {M : Type 1} → statement M
 first-broken-spec =

@@ -1,6 +1,6 @@
 -- `rows::faults::row_fault` meets its contract: each answer is a law of RowJudging. In the answers, f is the place where the table and
 -- the labels were looked up, w the one where the values were counted, m the search for one of the wrong type, and o the
--- search for a range that is not in order. Assumes nothing.
+-- search for a range that is not in order; the dates are judged last. Assumes nothing.
 use borrow.Author.Tests.{not-false, not-true}
 use mathlib.Core.Path.{_∙_, ap, sym}
 use Rattle.document.specs.Lookup.{tableOf}
@@ -8,7 +8,7 @@ use Rattle.form.specs.Walks.{itemsAt}
 use Rattle.workspace.specs.Found.{foundAs}
 use Rattle.stepping.proofs.NearLaws.{place-near}
 use Rattle.text.specs.Words.{wordOf}
-use Rattle.rows.proofs.RowJudging.{found-broken, found-fine, found-misfit, found-mistyped, found-unknown, row-no-table, row-over}
+use Rattle.rows.proofs.RowJudging.{dated-reaches, dated-roomy, found-broken, found-dated, found-misfit, found-mistyped, found-unknown, row-no-table, row-over}
 use borrow.Author.Needs.{needs}
 use Rattle.rows.proofs.faults.row_fault.Statement.{statement}
 use Rattle.rows.proofs.faults.row_fault.Tie as tie
@@ -140,6 +140,9 @@ enum-known-broken c = search needs
 enum-told-4 : tie.Need-enum-told-4
 enum-told-4 c = search needs
 
+date-fault-requires : tie.Need-date-fault-requires
+date-fault-requires c κs = search needs
+
 returns-6 : tie.Need-returns-6
 unfolding tableOf
 returns-6 c =
@@ -168,26 +171,26 @@ returns-6 c =
 returns-7 : tie.Need-returns-7
 unfolding tableOf
 returns-7 c =
-    let a = c .before .before .before .before .before .before .before .before .before .before .before .before .before .before .before .before .before .before .before .before .before .args in
+    let a = c .before .before .before .before .before .before .before .before .before .before .before .before .before .before .before .before .before .before .before .before .before .before .args in
     let s = a .line .now in
-    let q = c .before .before .before .before .before .before .before .before .before .before .before .before .before .before .before .before .before .find-table in
-    let m = c .before .before .before .before .before .first-mistyped in
-    let o = c .before .before .first-broken in
+    let q = c .before .before .before .before .before .before .before .before .before .before .before .before .before .before .before .before .before .before .find-table in
+    let m = c .before .before .before .before .before .before .first-mistyped in
+    let o = c .before .before .before .first-broken in
     record {
       is = λ d h.
-          found-fine
-          (a .text .now) (a .tables .now) s (a .tables-count) (a .k) (a .t) (itemsAt s (a .is)) d (h .1) (h .2) (c .before .before .before .before .before .before .before .before .before .before .before .before .before .before .before .before .before .before .if1 .left)
-          (q .result) (q .ensures .0 (d .policy .tables) (h .1)) (q .ensures .1) (c .before .before .before .before .before .before .before .before .before .before .before .before .before .before .before .found .given .0 .0) (c .before .before .before .before .before .before .before .before .before .before .before .before .before .before .before .found .given .1)
-          (c .before .before .before .before .before .before .before .before .before .before .before .before .before .table-scheme .result) (c .before .before .before .before .before .before .before .before .before .before .before .before .before .table-scheme .ensures)
-          (c .before .before .before .before .before .before .before .before .before .before .before .before .unknown-label .result) (λ l ls. c .before .before .before .before .before .before .before .before .before .before .before .before .unknown-label .ensures .0 (h .0 .0) (d .policy) l ls (h .0 .1))
-          (c .before .before .before .before .before .before .before .before .before .before .enum-told2 .given .1) (c .before .before .before .before .before .before .before .before .before .table-width .result) (c .before .before .before .before .before .before .before .before .before .table-width .ensures) (c .before .before .before .before .before .before .before .before .row-fits .result) (c .before .before .before .before .before .before .before .before .row-fits .ensures)
-          (not-false (c .before .before .before .before .before .before .before .before .row-fits .result) (c .before .before .before .before .before .before .before .if2 .left))
-          (c .before .before .before .before .before .before .values-start .result) (c .before .before .before .before .before .before .values-start .ensures)
+          found-dated
+          (a .text .now) (a .tables .now) s (a .tables-count) (a .k) (a .t) (itemsAt s (a .is)) d (h .1) (h .2) (c .before .before .before .before .before .before .before .before .before .before .before .before .before .before .before .before .before .before .before .if1 .left)
+          (q .result) (q .ensures .0 (d .policy .tables) (h .1)) (q .ensures .1) (c .before .before .before .before .before .before .before .before .before .before .before .before .before .before .before .before .found .given .0 .0) (c .before .before .before .before .before .before .before .before .before .before .before .before .before .before .before .before .found .given .1)
+          (c .before .before .before .before .before .before .before .before .before .before .before .before .before .before .table-scheme .result) (c .before .before .before .before .before .before .before .before .before .before .before .before .before .before .table-scheme .ensures)
+          (c .before .before .before .before .before .before .before .before .before .before .before .before .before .unknown-label .result) (λ l ls. c .before .before .before .before .before .before .before .before .before .before .before .before .before .unknown-label .ensures .0 (h .0 .0) (d .policy) l ls (h .0 .1))
+          (c .before .before .before .before .before .before .before .before .before .before .before .enum-told2 .given .1) (c .before .before .before .before .before .before .before .before .before .before .table-width .result) (c .before .before .before .before .before .before .before .before .before .before .table-width .ensures) (c .before .before .before .before .before .before .before .before .before .row-fits .result) (c .before .before .before .before .before .before .before .before .before .row-fits .ensures)
+          (not-false (c .before .before .before .before .before .before .before .before .before .row-fits .result) (c .before .before .before .before .before .before .before .before .if2 .left))
+          (c .before .before .before .before .before .before .before .values-start .result) (c .before .before .before .before .before .before .before .values-start .ensures)
           (m .result) (λ l. m .ensures .0 (a .text .now) (a .tables-count) (d .policy) (h .1) l)
-          (c .before .before .before .enum-told3 .given .1) (o .result) (o .ensures .0)
-          (c .enum-told4 .given .1);
-      roomy = c .before .before .before .before .before .before .before .before .before .before .before .before .before .before .before .before .before .before .if1 .left;
-      reaches = λ p. tt;
+          (c .before .before .before .before .enum-told3 .given .1) (o .result) (o .ensures .0)
+          (c .before .enum-told4 .given .1) (c .date-fault .result) (c .date-fault .ensures);
+      roomy = dated-roomy s (c .before .before .before .before .before .before .before .values-start .result) (c .date-fault .result) (a .k) 1024 (c .date-fault .ensures) (c .before .before .before .before .before .before .before .before .before .before .before .before .before .before .before .before .before .before .before .if1 .left);
+      reaches = λ p. dated-reaches s (c .before .before .before .before .before .before .before .values-start .result) (c .date-fault .result) (c .date-fault .ensures);
     }
 
 pub row-fault-spec : {M : Type 1} → statement M
@@ -215,5 +218,6 @@ row-fault-spec =
     first-broken-requires
     enum-known-broken
     enum-told-4
+    date-fault-requires
     returns-6
     returns-7)
