@@ -1,6 +1,7 @@
 //! 01, "Queries": the rows and the bytes of an answer.
 
 use crate::condition::{Certainty, Condition};
+use crate::date::Date;
 use crate::forms::Value;
 use crate::policy::{Labelling, Policy, Row, Table};
 use crate::purpose::open;
@@ -149,6 +150,8 @@ fn write_row(text: &mut Vec<u8>, row: &Row, selected: &[usize], blank: &dyn Fn(u
             Value::Name(name) => text.extend_from_slice(name.written()),
             Value::Number(number) => text.extend_from_slice(number.to_string().as_bytes()),
             Value::Range(low, high) => text.extend_from_slice(format!("({low} {high})").as_bytes()),
+            // 02, Q-14: "the answer prints the same form".
+            Value::Date(Date { year, month, day }) => text.extend_from_slice(format!("({year} {month} {day})").as_bytes()),
         }
     }
     text.extend_from_slice(b")\n");

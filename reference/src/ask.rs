@@ -1,4 +1,4 @@
-//! 01, "Asking": the numbers 1 to 18 in their order, 27 of 02, Q-12 among them, then the answer.
+//! 01, "Asking": the numbers 1 to 18 in their order, 27 of 02, Q-12 and 31 of Q-14 among them, then the answer.
 
 use crate::answer::{label_open, write, Answer, Request, Written};
 use crate::check::read_document;
@@ -81,6 +81,11 @@ fn answered(doc: &[u8], query: &[u8], clock: Clock) -> Result<(Written, usize), 
         if let Some(part) = leftmost(&ranged_columns(&policy, table, &named)) {
             return Err(of_query(27, part));
         }
+    }
+
+    // 02, Q-14: "31 no such date .. after 27 in a query, at the date's own bracket".
+    if let Some(part) = parsed.condition.as_ref().and_then(|condition| leftmost(&condition.no_such_dates())) {
+        return Err(of_query(31, part));
     }
 
     // "17 table or column closed".

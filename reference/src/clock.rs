@@ -11,7 +11,7 @@ pub struct Clock {
 }
 
 /// 01: "divisible by 4, not by 100 unless by 400".
-fn is_leap(year: u64) -> bool {
+pub fn is_leap(year: u64) -> bool {
     year % 4 == 0 && (year % 100 != 0 || year % 400 == 0)
 }
 

@@ -1,6 +1,6 @@
 //! 01: "A condition is a comparison, `(not c)`, or `and` or `or` over one or more conditions."
 
-use crate::forms::{given, word, Given, Type, Value, Word};
+use crate::forms::{constant, word, Given, Type, Value, Word};
 use crate::text::{Item, Kind, Name, Span};
 
 /// 01: "64 comparisons a condition".
@@ -62,7 +62,7 @@ pub fn read_condition<'a>(item: &Item<'a>) -> Option<Condition<'a>> {
             operator: operator(&keyword)?,
             operator_span: head.span,
             subject: word(subject)?,
-            value: given(value)?,
+            value: constant(value)?,
         })),
         _ => None,
     }
@@ -105,6 +105,12 @@ impl<'a> Condition<'a> {
             }
         }
         wrong
+    }
+
+    /// 02, Q-14, 31: the constants that are no such date, "at the date's own bracket".
+    pub fn no_such_dates(&self) -> Vec<Span> {
+        let wrong = |comparison: &&Comparison| matches!(comparison.value.value, Value::Date(date) if !date.exists());
+        self.comparisons().into_iter().filter(wrong).map(|comparison| comparison.value.span).collect()
     }
 
     /// Whether the condition holds for the values that `value_of` gives to its names.
@@ -174,14 +180,9 @@ fn compare_range(certainty: Certainty, operator: Operator, left: Value, right: V
 /// The meaning of the six operators; mixed types never come here (8 and 16), nor do ranges (27).
 fn compare(operator: Operator, left: Value, right: Value) -> bool {
     match (left, right) {
-        (Value::Number(l), Value::Number(r)) => match operator {
-            Operator::Eq => l == r,
-            Operator::Ne => l != r,
-            Operator::Lt => l < r,
-            Operator::Le => l <= r,
-            Operator::Gt => l > r,
-            Operator::Ge => l >= r,
-        },
+        (Value::Number(l), Value::Number(r)) => in_order(operator, l, r),
+        // 02, Q-14: "Order of dates is order of the pair of year and day number."
+        (Value::Date(l), Value::Date(r)) => in_order(operator, l.year_day(), r.year_day()),
         // 02, Q-8: without case, "in .. `eq`, `ne` .., cell values included".
         (Value::Name(l), Value::Name(r)) => match operator {
             Operator::Eq => l == r,
@@ -189,6 +190,18 @@ fn compare(operator: Operator, left: Value, right: Value) -> bool {
             _ => false,
         },
         _ => false,
+    }
+}
+
+/// The six operators over what has an order.
+fn in_order<T: Ord>(operator: Operator, l: T, r: T) -> bool {
+    match operator {
+        Operator::Eq => l == r,
+        Operator::Ne => l != r,
+        Operator::Lt => l < r,
+        Operator::Le => l <= r,
+        Operator::Gt => l > r,
+        Operator::Ge => l >= r,
     }
 }
 

@@ -1,6 +1,7 @@
 //! 01, "Document forms": items to one of the nine forms, or the `public` line of 02, Q-2, by shape alone.
 
 use crate::condition::{read_condition, Condition};
+use crate::date::Date;
 use crate::text::{read_form, Item, Kind, Name, Span};
 
 /// A name where it stands.
@@ -10,12 +11,13 @@ pub struct Word<'a> {
     pub span: Span,
 }
 
-/// 01: "`v` for a name or a number"; 02, Q-12: "A `num` cell's value may be `(LOW HIGH)`".
+/// 01: "`v` for a name or a number"; 02, Q-12: "A `num` cell's value may be `(LOW HIGH)`"; 02, Q-14: "`(YEAR MONTH DAY)`".
 #[derive(Clone, Copy, Debug, PartialEq, Eq)]
 pub enum Value<'a> {
     Name(Name<'a>),
     Number(i64),
     Range(i64, i64),
+    Date(Date),
 }
 
 /// A value where it stands.
@@ -25,11 +27,12 @@ pub struct Given<'a> {
     pub span: Span,
 }
 
-/// 01: `num` or `name`.
+/// 01: `num` or `name`; 02, Q-14: of a column also `date`.
 #[derive(Clone, Copy, Debug, PartialEq, Eq)]
 pub enum Type {
     Num,
     Name,
+    Date,
 }
 
 impl Value<'_> {
@@ -38,6 +41,7 @@ impl Value<'_> {
         match self {
             Value::Name(_) => Type::Name,
             Value::Number(_) | Value::Range(..) => Type::Num,
+            Value::Date(_) => Type::Date,
         }
     }
 }
@@ -60,7 +64,8 @@ pub struct ColumnForm<'a> {
     pub label: Option<Word<'a>>,
 }
 
-/// 01: "a row's items after T are names, numbers and brackets `(v L)`, in any mix and count"; v may be a range (02, Q-12).
+/// 01: "a row's items after T are names, numbers and brackets `(v L)`, in any mix and count"; v may be a range (02, Q-12) or a date
+/// (02, Q-14), and these stand bare too.
 #[derive(Clone, Debug)]
 pub enum RowItem<'a> {
     Plain(Given<'a>),
@@ -224,12 +229,21 @@ fn table<'a>(items: &[Item<'a>]) -> Option<Form<'a>> {
     Some(Form::Table { name: word(name)?, scheme, columns })
 }
 
+/// 02, Q-14: "A `date` column", beside those of 01; no attribute is one.
+fn column_type(item: &Item) -> Option<Type> {
+    if is_keyword(item, "date") {
+        Some(Type::Date)
+    } else {
+        type_word(item)
+    }
+}
+
 /// `(COL num)`, and under scheme column `(COL num L)`.
 fn column<'a>(item: &Item<'a>, labelled: bool) -> Option<ColumnForm<'a>> {
     match (bracket(item)?, labelled) {
-        ([name, kind], false) => Some(ColumnForm { name: word(name)?, kind: type_word(kind)?, label: None }),
+        ([name, kind], false) => Some(ColumnForm { name: word(name)?, kind: column_type(kind)?, label: None }),
         ([name, kind, label], true) => {
-            Some(ColumnForm { name: word(name)?, kind: type_word(kind)?, label: Some(word(label)?) })
+            Some(ColumnForm { name: word(name)?, kind: column_type(kind)?, label: Some(word(label)?) })
         }
         _ => None,
     }
@@ -248,7 +262,7 @@ fn public<'a>(items: &[Item<'a>]) -> Option<Form<'a>> {
     Some(Form::Public { table: word(table)? })
 }
 
-/// A value, or `(v L)`. Two numbers in a bracket are a value, and a number and a name are not, so no item is both.
+/// A value, or `(v L)`. Two or three numbers in a bracket are a value, and a number and a name are not, so no item is both.
 fn row_item<'a>(item: &Item<'a>) -> Option<RowItem<'a>> {
     if let Some(value) = cell_value(item) {
         return Some(RowItem::Plain(value));
@@ -257,12 +271,25 @@ fn row_item<'a>(item: &Item<'a>) -> Option<RowItem<'a>> {
     Some(RowItem::Labelled(cell_value(value)?, word(label)?))
 }
 
-/// What a cell may hold: a name, a number, or a range (02, Q-12), which users and comparisons don't take.
+/// What a cell may hold: a name, a number, a date, or a range (02, Q-12), which users and comparisons don't take.
 fn cell_value<'a>(item: &Item<'a>) -> Option<Given<'a>> {
     match bracket(item) {
-        None => given(item),
         Some([low, high]) => match (&low.kind, &high.kind) {
             (Kind::Number(low), Kind::Number(high)) => Some(Given { value: Value::Range(*low, *high), span: item.span }),
+            _ => None,
+        },
+        _ => constant(item),
+    }
+}
+
+/// What a comparison takes: a name, a number, or a date (02, Q-14: "comparisons take such constants"), which users don't take.
+pub fn constant<'a>(item: &Item<'a>) -> Option<Given<'a>> {
+    match bracket(item) {
+        None => given(item),
+        Some([year, month, day]) => match (&year.kind, &month.kind, &day.kind) {
+            (&Kind::Number(year), &Kind::Number(month), &Kind::Number(day)) => {
+                Some(Given { value: Value::Date(Date { year, month, day }), span: item.span })
+            }
             _ => None,
         },
         Some(_) => None,

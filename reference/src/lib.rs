@@ -5,6 +5,7 @@ mod ask;
 mod check;
 mod clock;
 mod condition;
+mod date;
 mod forms;
 mod import;
 mod policy;

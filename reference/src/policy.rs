@@ -255,7 +255,7 @@ pub fn row_label<'a>(first: &RowItem<'a>) -> Option<Name<'a>> {
     match first {
         RowItem::Plain(given) => match given.value {
             Value::Name(name) => Some(name),
-            Value::Number(_) | Value::Range(..) => None,
+            Value::Number(_) | Value::Range(..) | Value::Date(_) => None,
         },
         RowItem::Labelled(..) => None,
     }

@@ -20,12 +20,12 @@ pub struct Refusal {
     pub len: usize,
 }
 
-/// A refusal whose part stands in the document (01, numbers 1 to 9; 02, 28).
+/// A refusal whose part stands in the document (01, numbers 1 to 9; 02, 28 and 31).
 pub fn of_document(number: u32, part: Span) -> Refusal {
     Refusal { number, source: Source::Document, start: part.start, len: part.len }
 }
 
-/// A refusal whose part stands in the query (01, numbers 10 to 18; 02, 27).
+/// A refusal whose part stands in the query (01, numbers 10 to 18; 02, 27 and 31).
 pub fn of_query(number: u32, part: Span) -> Refusal {
     Refusal { number, source: Source::Query, start: part.start, len: part.len }
 }

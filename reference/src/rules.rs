@@ -1,4 +1,4 @@
-//! 01, "Checking a document": the numbers 3 to 9, and 28 of 02, Q-12, one function each, for a line whose form is right.
+//! 01, "Checking a document": the numbers 3 to 9, 28 of 02, Q-12 and 31 of Q-14, one function each, for a line whose form is right.
 
 use crate::forms::{Form, Given, RowItem, Scheme, Type, Value, Word};
 use crate::policy::{row_label, Labelling, Policy, CLOCK_NAMES};
@@ -261,11 +261,20 @@ pub fn wrong_types(policy: &Policy, form: &Form) -> Vec<Span> {
 
 /// 02, Q-12, 28: "LOW above HIGH .. at the range's own bracket".
 pub fn ranges_reversed(policy: &Policy, form: &Form) -> Vec<Span> {
+    row_faults(policy, form, &|value| matches!(value, Value::Range(low, high) if low > high))
+}
+
+/// 02, Q-14, 31: "no such date .. at the date's own bracket". A conditional role's dates are 8, there being no attribute of that type.
+pub fn no_such_dates(policy: &Policy, form: &Form) -> Vec<Span> {
+    row_faults(policy, form, &|value| matches!(value, Value::Date(date) if !date.exists()))
+}
+
+/// Where the values of a row stand that have a fault of their own.
+fn row_faults(policy: &Policy, form: &Form, fault: &dyn Fn(Value) -> bool) -> Vec<Span> {
     let Form::Row { table, items } = form else { return Vec::new() };
     let Some(place) = policy.table(table.text) else { return Vec::new() };
     let values = row_values(policy.tables[place].labelling, items).unwrap_or_default();
-    let reversed = |given: &&Given| matches!(given.value, Value::Range(low, high) if low > high);
-    values.iter().filter(reversed).map(|given| given.span).collect()
+    values.iter().filter(|given| fault(given.value)).map(|given| given.span).collect()
 }
 
 /// The value's place if it isn't of the type wanted.

@@ -21,12 +21,13 @@ impl Dice {
 }
 
 /// Pieces that texts are made of, so that many random texts come close to forms.
-const PIECES: [&str; 56] = [
+const PIECES: [&str; 63] = [
     "(", ")", " ", "\n", "(purpose a)\n", "(purpose b a)\n", "(role r)\n", "(role s r)\n", "(attr r k num)\n", "(attr s w name)\n",
     "(user u r (k 5))\n", "(user u s (k 5) (w x))\n", "(cond-role c r (gt k 1))\n", "(grant a c)\n", "(grant b c)\n",
     "(label l (allow a) (deny))\n", "(label m (allow a) (deny b))\n", "(table t cell (p num) (q name))\n", "(table v row (p num))\n", "(table n none (p num))\n", "(public n)\n", "(public t)\n", "(count u r a n)",
     "(table y column (p num l) (q num m))\n", "(row t (1 l) (x m))\n", "(row v m 4)\n", "(row y 1 2)\n", "(select u r a t (p q))",
-    "(select u r b t (p) (eq q x))", "(count u s b v (gt p 3))", "(count u r a y)", "(blank u r b t (q p))", "(blank u r b t (q) (gt p 0))", "blank", "(row t ((1 5) l) (x m))\n", "(row v m (-2 4))\n", "(sure u r a t (p q) (gt p 0))", "(possible u r b v (p) (eq p 3))", "(9 1)", "purpose", "role", "row", "table", "(eq p 1)",
+    "(select u r b t (p) (eq q x))", "(count u s b v (gt p 3))", "(count u r a y)", "(blank u r b t (q p))", "(blank u r b t (q) (gt p 0))", "blank", "(row t ((1 5) l) (x m))\n", "(row v m (-2 4))\n", "(sure u r a t (p q) (gt p 0))", "(possible u r b v (p) (eq p 3))", "(9 1)", "(table d cell (p date) (q num))\n",
+    "(row d ((2028 2 29) l) (1 m))\n", "(row d ((2027 2 29) l) (1 m))\n", "(select u r a d (p) (lt p (2028 3 1)))", "(count u r a d (eq p (1900 2 29)))", "(2000 2 29)", "date", "purpose", "role", "row", "table", "(eq p 1)",
     "(not ", "(and ", "a", "b", "t", "-1", "0", "01", "9223372036854775808", "\u{0}", "\u{e9}", "year",
 ];
 

@@ -46,7 +46,7 @@ fn number_2_wrong_form() {
         "(grant p)", "(grant p c c)",
         "(label l)", "(label l (allow))", "(label l (deny) (allow))", "(label l (allow 1) (deny))", "(label l () (deny))", "(label l (allow) (deny) (deny))",
         "(table t)", "(table t none)", "(table t table)", "(table t table l)", "(table t some (a num))", "(table t none (a))", "(table t none (a num l))", "(table t column (a num))", "(table t none (a number))", "(table t none (1 num))", "(table t none a)",
-        "(row)", "(row 1 2)", "(row t ())", "(row t (1))", "(row t (1 2 3))", "(row t (a 2))", "(row t (1 a b))", "(row t ((1) a))",
+        "(row)", "(row 1 2)", "(row t ())", "(row t (1))", "(row t (1 2 3 4))", "(row t (a 2))", "(row t (1 a b))", "(row t ((1) a))",
         "(row t ((1 2) 3))", "(row t ((1 2) (3 4)))", "(row t ((1 a) b))", "(row t (1 02))", "(row t (1  2))", "(row t ((1 2)))", "(row (1 2))",
         "(user u r (a (1 2)))", "(user u r ((1 2) a))", "(cond-role c r (eq a (1 2)))",
         "(public)", "(public 1)", "(public t t)", "(public (t))", "(publics t)", "(public t (k))", "(publi t)",

@@ -141,8 +141,8 @@ fn forms_of_rows() {
     // In each scheme.
     let all = format!("{BASE}(table t table open (a num))\n(row t (1 5))\n(table c column (a num open))\n(row c (1 5))\n(table r row (a num))\n(row r open (1 5))\n(table e cell (a num))\n(row e ((1 5) open))\n");
     assert_eq!(lines(&all), 19);
-    // 2: no number, a number out of range, three of them, a range in a range.
-    for row in ["(row n (1 -0) x)", "(row n (1 9223372036854775808) x)", "(row n (1 2 3) x)", "(row n ((1 2) 3) x)", "(row n (x 1) x)", "(row n (1) x)", "(row n (1 2)x)"] {
+    // 2: no number, a number out of range, four of them (three are a date), a range in a range.
+    for row in ["(row n (1 -0) x)", "(row n (1 9223372036854775808) x)", "(row n (1 2 3 4) x)", "(row n ((1 2) 3) x)", "(row n (x 1) x)", "(row n (1) x)", "(row n (1 2)x)"] {
         assert_eq!(refused(&format!("{none}{row}\n")), (2, none.len(), row.len()), "{row}");
     }
     // 7: bare in a cell table, with a label elsewhere, in place of a row's label, one too many. 5 comes first: a label unknown.
