@@ -1,8 +1,10 @@
-//! A copy of the reference's `answer`, with blunders 1, 3, 6, 7, 8, 30, 31, 36, 41 to 43, 45 to 48, 52 to 54, 59 and 60.
+//! A copy of the reference's `answer`, with blunders 1, 3, 6, 7, 8, 30, 31, 36, 41 to 43, 45 to 48, 52 to 54, 59, 60, 66, 67, 77 and 78.
 
 use std::cell::RefCell;
 
 use crate::condition::{Certainty, Condition, Operator};
+use crate::date::Date;
+use crate::dates;
 use crate::forms::Value;
 use crate::policy::{Labelling, Policy, Row, Table};
 use crate::on;
@@ -77,6 +79,7 @@ fn fate<'p>(policy: &Policy<'p>, request: &Request<'_, 'p>, row: &Row<'p>) -> Fa
     let holds = match (request.condition, request.certainty) {
         (None, _) => true,
         (Some(condition), None) if on(31) => holds_by_bytes(condition, &|name| value_in(table, row, name)),
+        (Some(condition), None) if on(66) || on(67) => holds_out_of_order(condition, &|name| value_in(table, row, name)),
         (Some(condition), None) => condition.holds(&|name| value_in(table, row, name)),
         (Some(condition), Some(certainty)) => certain(condition, certainty, &|name| value_in(table, row, name)),
     };
@@ -133,6 +136,29 @@ fn holds_by_bytes<'p>(condition: &Condition<'p>, value_of: &dyn Fn(Name) -> Opti
         Condition::Not(inner) => !holds_by_bytes(inner, value_of),
         Condition::And(list) => list.iter().all(|inner| holds_by_bytes(inner, value_of)),
         Condition::Or(list) => list.iter().any(|inner| holds_by_bytes(inner, value_of)),
+    }
+}
+
+/// Blunders 66 and 67: dates in another order.
+fn holds_out_of_order<'p>(condition: &Condition<'p>, value_of: &dyn Fn(Name) -> Option<Value<'p>>) -> bool {
+    match condition {
+        Condition::Compare(comparison) => match (value_of(comparison.subject.text), comparison.value.value) {
+            (Some(Value::Date(left)), Value::Date(right)) => {
+                let order = dates::key(left).cmp(&dates::key(right));
+                match comparison.operator {
+                    Operator::Eq => order.is_eq(),
+                    Operator::Ne => order.is_ne(),
+                    Operator::Lt => order.is_lt(),
+                    Operator::Le => order.is_le(),
+                    Operator::Gt => order.is_gt(),
+                    Operator::Ge => order.is_ge(),
+                }
+            }
+            _ => condition.holds(value_of),
+        },
+        Condition::Not(inner) => !holds_out_of_order(inner, value_of),
+        Condition::And(list) => list.iter().all(|inner| holds_out_of_order(inner, value_of)),
+        Condition::Or(list) => list.iter().any(|inner| holds_out_of_order(inner, value_of)),
     }
 }
 
@@ -196,6 +222,10 @@ fn whole(policy: &Policy, table: usize) -> Vec<u8> {
             let ranges = row.cells.iter().filter(|cell| matches!(cell.value, Value::Range(..))).count();
             text.truncate(text.len() - 3 * ranges);
         }
+        if on(78) {
+            let dates = row.cells.iter().filter(|cell| matches!(cell.value, Value::Date(_))).count();
+            text.truncate(text.len() - 4 * dates);
+        }
         if let (true, Some(label)) = (on(43), row.label) {
             text.push(b' ');
             text.extend_from_slice(policy.label_names[label].written());
@@ -229,6 +259,9 @@ fn write_row(text: &mut Vec<u8>, row: &Row, selected: &[usize], blank: &dyn Fn(u
             Value::Number(number) => text.extend_from_slice(number.to_string().as_bytes()),
             Value::Range(low, high) if on(59) && low == high => text.extend_from_slice(low.to_string().as_bytes()),
             Value::Range(low, high) => text.extend_from_slice(format!("({low} {high})").as_bytes()),
+            Value::Date(Date { year, month, day }) if on(77) => text.extend_from_slice(format!("({year} {month:02} {day:02})").as_bytes()),
+            // 02, Q-14: "the answer prints the same form".
+            Value::Date(Date { year, month, day }) => text.extend_from_slice(format!("({year} {month} {day})").as_bytes()),
         }
     }
     text.extend_from_slice(b")\n");
@@ -240,5 +273,6 @@ fn written_length(row: &Row, column: usize) -> usize {
         Value::Name(name) => name.written().len(),
         Value::Number(number) => number.to_string().len(),
         Value::Range(low, high) => format!("({low} {high})").len(),
+        Value::Date(Date { year, month, day }) => format!("({year} {month} {day})").len(),
     }
 }

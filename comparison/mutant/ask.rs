@@ -1,10 +1,11 @@
-//! A copy of the reference's `ask`, with blunders 2, 4, 5, 8, 9, 10, 16, 29, 33 to 36, 40, 44, 49 to 51 and 55 to 57.
+//! A copy of the reference's `ask`, with blunders 2, 4, 5, 8, 9, 10, 16, 29, 33 to 36, 40, 44, 49 to 51, 55 to 57 and 71 to 76.
 
 use crate::answer::{label_open, write, Answer, Request};
 use crate::check::read_document;
 use crate::clock::Clock;
-use crate::condition::Certainty;
-use crate::forms::{Value, Word};
+use crate::condition::{Certainty, Operator};
+use crate::dates;
+use crate::forms::{Type, Value, Word};
 use crate::on;
 use crate::policy::{Grant, Labelling, Policy, Row, User};
 use crate::query::{read_query, Query, Verb};
@@ -61,11 +62,19 @@ pub fn ask(doc: &[u8], query: &[u8], clock: Clock, out: &mut [u8]) -> Result<Ans
         return Err(of_query(15, part));
     }
 
+    let no_date = parsed.condition.as_ref().and_then(|condition| leftmost(&dates::of_condition(condition)));
+    if let (Some(part), true) = (no_date, on(71)) {
+        return Err(of_query(31, part));
+    }
+
     // "16 wrong type in the condition".
     if let Some(condition) = &parsed.condition {
-        let wrong = condition.wrong_types(&|name| {
-            column_place(&policy, table, name).map(|place| policy.tables[table].columns[place].kind)
-        });
+        let kind_of = |name: Name| column_place(&policy, table, name).map(|place| policy.tables[table].columns[place].kind);
+        let mut wrong = condition.wrong_types(&kind_of);
+        if on(76) {
+            let ordered = condition.comparisons().into_iter().filter(|comparison| !matches!(comparison.operator, Operator::Eq | Operator::Ne));
+            wrong.extend(ordered.filter(|comparison| kind_of(comparison.subject.text) == Some(Type::Date)).map(|comparison| comparison.operator_span));
+        }
         if let Some(part) = leftmost(&wrong) {
             return Err(of_query(16, part));
         }
@@ -75,8 +84,16 @@ pub fn ask(doc: &[u8], query: &[u8], clock: Clock, out: &mut [u8]) -> Result<Ans
     let looked_at = if on(57) { parsed.columns.clone().unwrap_or_default() } else { named.clone() };
     let in_27 = |row: &Row| !on(55) || row.label.is_none_or(|label| label_open(&policy, label, purpose));
     let ranged = if parsed.verb.takes_ranges() { None } else { leftmost(&ranged_columns(&policy, table, &looked_at, &in_27)) };
+    if let (Some(part), true) = (no_date, on(72)) {
+        return Err(of_query(31, part));
+    }
     if let (Some(part), false) = (ranged, on(56)) {
         return Err(of_query(27, part));
+    }
+
+    // 02, Q-14: "31 no such date .. after 27 in a query, at the date's own bracket".
+    if let (Some(part), false) = (no_date, on(73) || on(74)) {
+        return Err(of_query(31, part));
     }
 
     let blanks = parsed.verb == Verb::Blank;
@@ -101,6 +118,9 @@ pub fn ask(doc: &[u8], query: &[u8], clock: Clock, out: &mut [u8]) -> Result<Ans
 
     if let Some(part) = ranged {
         return Err(of_query(27, part));
+    }
+    if let (Some(part), true) = (no_date, on(73)) {
+        return Err(of_query(31, part));
     }
 
     // "18 answer longer than the lent buffer".
@@ -180,8 +200,9 @@ fn unknown_columns(policy: &Policy, table: usize, named: &[Word]) -> Vec<Span> {
 
 /// 02, Q-12: the named columns in which some row of the table has a range; `counts` says which rows are looked at.
 fn ranged_columns(policy: &Policy, table: usize, named: &[Word], counts: &dyn Fn(&Row) -> bool) -> Vec<Span> {
+    let is_range = |value: Value| matches!(value, Value::Range(..)) || on(75) && matches!(value, Value::Date(_));
     let has_range = |place: usize| {
-        policy.rows.iter().any(|row| row.table == table && counts(row) && matches!(row.cells[place].value, Value::Range(..)))
+        policy.rows.iter().any(|row| row.table == table && counts(row) && is_range(row.cells[place].value))
     };
     named.iter().filter(|word| column_place(policy, table, word.text).is_some_and(has_range)).map(|word| word.span).collect()
 }

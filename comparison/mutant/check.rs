@@ -1,6 +1,7 @@
-//! A copy of the reference's `check`, with blunders 11 to 15, 32, 37 to 39, 58 and 61.
+//! A copy of the reference's `check`, with blunders 11 to 15, 32, 37 to 39, 58, 61, 68 and 69.
 
 use crate::answer::reserve;
+use crate::dates;
 use crate::forms::{read_line, Form, RowItem, Value};
 use crate::on;
 use crate::policy::{Labelling, Policy};
@@ -23,7 +24,7 @@ pub fn check(doc: &[u8]) -> Result<Accepted, Refusal> {
     read_document(doc).map(|(policy, lines)| Accepted { lines, reserve: reserve(&policy) })
 }
 
-/// The policy of an accepted document and its number of lines, or the refusal: 1 to 9, or 28.
+/// The policy of an accepted document and its number of lines, or the refusal: 1 to 9, 28 or 31.
 pub fn read_document(doc: &[u8]) -> Result<(Policy<'_>, usize), Refusal> {
     // 01: "A text over 60,000 bytes is 1", its part "empty at the start".
     if doc.len() > LONGEST_DOCUMENT {
@@ -61,7 +62,8 @@ pub fn read_document(doc: &[u8]) -> Result<(Policy<'_>, usize), Refusal> {
     Ok((policy, lines))
 }
 
-/// 01: "the lowest number"; "the whole line .. for 2, 3, 6, 7, 9; the leftmost offending item for 4, 5, 8". 02, Q-12: 28 "after 8".
+/// 01: "the lowest number"; "the whole line .. for 2, 3, 6, 7, 9; the leftmost offending item for 4, 5, 8". 02, Q-12: 28 "after 8";
+/// 31 "after 28 in a document".
 fn fault(policy: &Policy, form: &Form, whole: Span) -> Option<(u32, Span)> {
     if on(14) {
         if let Some(part) = leftmost(&rules::names_taken(policy, form)) {
@@ -100,6 +102,10 @@ fn fault(policy: &Policy, form: &Form, whole: Span) -> Option<(u32, Span)> {
     if let (Some(part), true) = (reversed, on(58)) {
         return Some((28, part));
     }
+    let no_date = leftmost(&dates::of_row(form));
+    if let (Some(part), true) = (no_date, on(69)) {
+        return Some((31, part));
+    }
     if on(12) {
         if let Some(part) = rules::wrong_types(policy, form).into_iter().max_by_key(|part| part.start) {
             return Some((8, part));
@@ -108,8 +114,14 @@ fn fault(policy: &Policy, form: &Form, whole: Span) -> Option<(u32, Span)> {
     if let Some(part) = leftmost(&rules::wrong_types(policy, form)) {
         return Some((8, part));
     }
+    if let (Some(part), true) = (no_date, on(68)) {
+        return Some((31, part));
+    }
     if let Some(part) = reversed {
         return Some((28, part));
+    }
+    if let Some(part) = no_date {
+        return Some((31, part));
     }
     if rules::late_attribute(policy, form) {
         return Some((9, whole));

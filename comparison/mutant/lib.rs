@@ -1,5 +1,5 @@
 //! The reference with one blunder switched on, for `comparison --mutant K`: most modules are the
-//! reference's own files; `answer`, `ask`, `check` and `import` are copies with the blunders in them.
+//! reference's own files; `answer`, `ask`, `check` and `import` are copies with the blunders in them, and `dates` has those of dates.
 
 use std::ops::RangeInclusive;
 use std::sync::atomic::{AtomicU32, Ordering};
@@ -11,6 +11,9 @@ mod check;
 pub mod clock;
 #[path = "../../reference/src/condition.rs"]
 pub mod condition;
+#[path = "../../reference/src/date.rs"]
+pub mod date;
+mod dates;
 #[path = "../../reference/src/forms.rs"]
 pub mod forms;
 mod import;
@@ -35,7 +38,7 @@ pub use import::{import, measure_import};
 pub use refusal::{Refusal, Source};
 
 /// What each mutant does wrong, counted from 1.
-pub const BLUNDERS: [&str; 61] = [
+pub const BLUNDERS: [&str; 78] = [
     "a denied purpose closes downwards only",
     "labels tested for selected columns only",
     "withheld counted only where the condition holds",
@@ -97,6 +100,23 @@ pub const BLUNDERS: [&str; 61] = [
     "a range of two equal ends printed as a number",
     "the reserve without a range's bracket and space",
     "28 for the first range of a row only",
+    "a year divisible by 400 is no leap year",
+    "a year divisible by 100 is a leap year",
+    "the years 0 and 10000 have dates",
+    "a day 31 in every month",
+    "dates ordered by day number before year",
+    "dates ordered by day before month",
+    "31 tested before 28",
+    "31 tested before 8",
+    "31 for the first date of a row only",
+    "31 tested before 16",
+    "31 tested before 27",
+    "31 tested after 17",
+    "no 31 in a query",
+    "a date taken as a range by 27",
+    "dates take `eq` and `ne` only",
+    "month and day printed with two digits",
+    "the reserve without a date's bracket and spaces",
 ];
 
 /// These blunders are of importing.

@@ -8,7 +8,7 @@ use crate::random::Random;
 use crate::recase::{self, listed, same};
 
 /// What a cell may be to a query. A run has to see each of them, most as the one reason for which the cell may differ.
-const SITUATIONS: [&str; 35] = [
+const SITUATIONS: [&str; 37] = [
     "no query",
     "unknown purpose, public table",
     "unknown purpose, undeclared table",
@@ -42,6 +42,8 @@ const SITUATIONS: [&str; 35] = [
     "bound, beside a blank",
     "bound, a range",
     "closed or withheld, a range",
+    "bound, a date",
+    "closed or withheld, a date",
     "bound, asked by sure or possible",
     "closed or withheld, asked by sure or possible",
 ];
@@ -239,17 +241,17 @@ fn recased(situation: &str) -> Option<&'static str> {
     }
 }
 
-/// The situations of a cell that is a range, or that sure or possible is asked of (02, Q-12).
-fn of_ranges(situation: &str, range: bool, query: Option<&Query>) -> Vec<&'static str> {
+/// The situations of a cell that is a range, or that sure or possible is asked of (02, Q-12), and of a date (02, Q-14).
+fn of_values(situation: &str, value: &Value, query: Option<&Query>) -> Vec<&'static str> {
     let of = query.is_some_and(|query| query.columns.is_some() && matches!(query.verb, Verb::Sure | Verb::Possible));
     let words = if situation.starts_with("bound") {
-        ["bound, a range", "bound, asked by sure or possible"]
+        ["bound, a range", "bound, a date", "bound, asked by sure or possible"]
     } else if situation.starts_with("closed") || situation.starts_with("open, in a row withheld") {
-        ["closed or withheld, a range", "closed or withheld, asked by sure or possible"]
+        ["closed or withheld, a range", "closed or withheld, a date", "closed or withheld, asked by sure or possible"]
     } else {
         return Vec::new();
     };
-    words.into_iter().zip([range, of]).filter(|(_, seen)| *seen).map(|(word, _)| word).collect()
+    words.into_iter().zip([value.is_range(), value.is_date(), of]).filter(|(_, seen)| *seen).map(|(word, _)| word).collect()
 }
 
 /// Prints the cases: the document and the query on a line each, then a word of 0 and 1 for each row, 1 where the value may differ;
@@ -272,7 +274,7 @@ pub fn print(seed: u64, cases: u64) -> bool {
                 if one != other {
                     seen.extend(recased(found[0]));
                 }
-                seen.extend(of_ranges(found[0], row.cells[column].0.is_range(), query.as_ref()));
+                seen.extend(of_values(found[0], &row.cells[column].0, query.as_ref()));
                 seen.extend(found);
                 print!("{}", u8::from(may_differ(&model, query.as_ref(), row, column)));
             }

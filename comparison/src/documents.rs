@@ -6,14 +6,14 @@ use crate::recase::{self, listed, same};
 
 /// Names for every kind: few, so that kinds share them; keywords, some in several cases, and names that differ in length or last
 /// byte alone.
-const NAMES: [&str; 37] = [
+const NAMES: [&str; 38] = [
     "all", "bill", "ads", "post", "care", "desk", "boss", "a", "b", "C", "x-1", "y_2", "row", "table", "cell", "none", "num",
-    "name", "allow", "deny", "select", "count", "eq", "and", "not", "purpose", "public", "blank", "sure", "possible", "Ads", "aDs", "abcdefgh", "abcdefghi",
+    "name", "date", "allow", "deny", "select", "count", "eq", "and", "not", "purpose", "public", "blank", "sure", "possible", "Ads", "aDs", "abcdefgh", "abcdefghi",
     "abcdefghijklmnop", "abcdefghijklmnopqrstuvwx", "abcdefghijklmnopqrstuvwy",
 ];
 const USERS: [&str; 8] = ["ana", "bob", "eve", "row", "user", "A", "an", "abcdefghijklmnopqrstuvwx"];
-const COLUMNS: [&str; 16] =
-    ["who", "due", "age", "town", "year", "hour", "num", "name", "c1", "c2", "or", "Who", "ne", "wh", "a-very-long-column-name",
+const COLUMNS: [&str; 17] =
+    ["who", "date", "due", "age", "town", "year", "hour", "num", "name", "c1", "c2", "or", "Who", "ne", "wh", "a-very-long-column-name",
      "a-very-long-column-namf"];
 const WORDS: [&str; 10] = ["Ida", "Bo", "Cy", "red", "ida", "end", "x", "Id", "a23456789-123456789_1234", "a23456789-123456789_1235"];
 pub const OPERATORS: [&str; 6] = ["eq", "ne", "lt", "le", "gt", "ge"];
@@ -74,6 +74,67 @@ pub fn range(random: &mut Random) -> Value {
     Value::Range(low.min(high), low.max(high))
 }
 
+/// 02, Q-14: whether there is such a day.
+pub fn exists(year: i64, month: i64, day: i64) -> bool {
+    let leap = year % 4 == 0 && year % 100 != 0 || year % 400 == 0;
+    let lengths = [31, if leap { 29 } else { 28 }, 31, 30, 31, 30, 31, 31, 30, 31, 30, 31];
+    let length = usize::try_from(month).ok().and_then(|month| lengths.get(month.wrapping_sub(1)));
+    (1..=9999).contains(&year) && length.is_some_and(|length| (1..=*length).contains(&day))
+}
+
+/// Year, month and day of a date that there is (02, Q-14): one of a few, about the ends of February or of a year, or any.
+fn day(random: &mut Random) -> (i64, i64, i64) {
+    const FEW: [(i64, i64, i64); 12] = [
+        (2000, 2, 29), (2000, 2, 28), (2000, 3, 1), (1999, 12, 31), (2000, 1, 1), (2024, 2, 29), (2028, 2, 9), (1900, 2, 28), (1900, 3, 1), (1, 1, 1),
+        (9999, 12, 31), (2028, 10, 30),
+    ];
+    loop {
+        let (year, month, day) = match random.below(8) {
+            0..=3 => *random.pick(&FEW),
+            4 => (*random.pick(&[1, 4, 100, 400, 1900, 2000, 2024, 2027, 2028, 2100, 9996, 9999]), 2, random.between(27, 29) as i64),
+            5 => (1998 + random.below(4) as i64, *random.pick(&[1, 2, 3, 12]), *random.pick(&[1, 2, 28, 30, 31])),
+            _ => (random.between(1, 9999) as i64, random.between(1, 12) as i64, random.between(1, 31) as i64),
+        };
+        if exists(year, month, day) {
+            return (year, month, day);
+        }
+    }
+}
+
+pub fn date(random: &mut Random) -> Value {
+    let (year, month, day) = day(random);
+    Value::Date(year, month, day)
+}
+
+/// A date that there mostly isn't: a part beside its bounds, of an odd size or below 0.
+pub fn no_date(random: &mut Random) -> Value {
+    const NONE: [(i64, i64, i64); 14] = [
+        (1900, 2, 29), (2100, 2, 29), (2027, 2, 29), (2000, 2, 30), (2028, 4, 31), (2028, 12, 32), (2028, 0, 1), (2028, 13, 1), (2028, 1, 0), (0, 1, 1),
+        (10_000, 1, 1), (-4, 2, 29), (2028, -1, 1), (2028, 1, -1),
+    ];
+    let (year, month, day) = match random.below(4) {
+        0 | 1 => *random.pick(&NONE),
+        2 => (random.between(0, 10_000) as i64, random.below(14) as i64, random.below(33) as i64),
+        _ => {
+            let (mut year, mut month, mut day) = day(random);
+            let any = number(random);
+            let odd = *random.pick(&[any, 256 + 1, 65_536 + 2, (1 << 32) + 1, -1, 0]);
+            match random.below(3) {
+                0 => year = odd,
+                1 => month = odd,
+                _ => day = odd,
+            }
+            (year, month, day)
+        }
+    };
+    Value::Date(year, month, day)
+}
+
+/// One of the types; dates less often.
+fn any_type(random: &mut Random) -> Type {
+    *random.pick(&[Type::Num, Type::Num, Type::Name, Type::Name, Type::Date])
+}
+
 /// What a cell of this column may hold.
 pub fn cell(random: &mut Random, column: &Column) -> Value {
     if column.ranged && random.chance(1, 2) {
@@ -86,6 +147,7 @@ pub fn cell(random: &mut Random, column: &Column) -> Value {
 pub fn value(random: &mut Random, kind: Type) -> Value {
     match kind {
         Type::Num => Value::Num(number(random)),
+        Type::Date => date(random),
         Type::Name => Value::Name(match random.below(10) {
             0 => {
                 let length = random.between(1, 24);
@@ -102,20 +164,17 @@ pub fn condition(random: &mut Random, subjects: &[(String, Type)], comparisons: 
     if depth <= 1 || comparisons <= 1 && random.chance(2, 3) || random.chance(2, 5) {
         let (subject, kind) = random.pick(subjects).clone();
         let operator = match kind {
-            Type::Num => *random.pick(&OPERATORS),
+            Type::Num | Type::Date => *random.pick(&OPERATORS),
             Type::Name => OPERATORS[random.below(2)],
         };
         // The clock's values want numbers near them.
-        let given = match (subject.as_str(), random.chance(3, 4)) {
-            ("year", true) => Value::Num(2020 + random.below(12) as i64),
-            ("day", true) => Value::Num(random.below(400) as i64),
-            ("hour", true) => Value::Num(random.below(26) as i64),
+        let given = match (subject.as_str(), kind, random.chance(3, 4)) {
+            ("year", Type::Num, true) => Value::Num(2020 + random.below(12) as i64),
+            ("day", Type::Num, true) => Value::Num(random.below(400) as i64),
+            ("hour", Type::Num, true) => Value::Num(random.below(26) as i64),
             _ => value(random, kind),
         };
-        return match kind {
-            Type::Name => Condition::Compare(operator, subject, if matches!(given, Value::Name(_)) { given } else { value(random, kind) }),
-            Type::Num => Condition::Compare(operator, subject, given),
-        };
+        return Condition::Compare(operator, subject, given);
     }
     if random.chance(1, 3) {
         return Condition::Not(Box::new(condition(random, subjects, comparisons, depth - 1)));
@@ -139,10 +198,10 @@ pub fn wide_condition(random: &mut Random, subjects: &[(String, Type)], comparis
     Condition::Or(groups)
 }
 
-/// A condition of exactly so many brackets in depth.
+/// A condition of exactly so many brackets in depth (at least 3), a date's own included.
 pub fn deep_condition(random: &mut Random, subjects: &[(String, Type)], depth: usize) -> Condition {
     let mut inner = condition(random, subjects, 1, 1);
-    for _ in 1..depth {
+    while inner.depth() < depth {
         inner = match random.below(4) {
             0 => Condition::And(vec![inner]),
             1 => Condition::Or(vec![condition(random, subjects, 1, 1), inner]),
@@ -353,7 +412,7 @@ impl<'r> Builder<'r> {
                 Some(length) => long_name(self.random, length),
                 None => fresh(self.random, &COLUMNS, |name| list.iter().any(|column| same(&column.name, name))),
             };
-            let kind = if self.random.chance(1, 2) { Type::Num } else { Type::Name };
+            let kind = any_type(self.random);
             let ranged = kind == Type::Num && self.random.chance(2, 5);
             let label = self.random.below(self.model.labels.len());
             list.push(Column { name, kind, ranged, label });
@@ -396,14 +455,15 @@ impl<'r> Builder<'r> {
         self.model.lines.push(Line::Row(self.model.rows.len() - 1));
     }
 
-    /// A user, conditional role or row with values and operators of either type: 8, the leftmost of several; among a row's also ranges,
-    /// some of them reversed: 8, 28 or neither (02, Q-12). In a user line they are 2.
+    /// A user, conditional role or row with values and operators of any type: 8, the leftmost of several; among a row's also ranges and
+    /// dates, some reversed and some of no day: 8, 28, 31 or none (02, Q-12 and Q-14). In a user line they are 2.
     fn retyped(&mut self) {
         let any = |random: &mut Random, given: &mut Value| {
             match random.below(12) {
                 0 => *given = Value::Range(number(random), number(random)),
-                1..=6 => {
-                    let kind = if random.chance(1, 2) { Type::Num } else { Type::Name };
+                1 => *given = no_date(random),
+                2..=6 => {
+                    let kind = any_type(random);
                     *given = value(random, kind);
                 }
                 _ => {}
@@ -424,7 +484,7 @@ impl<'r> Builder<'r> {
                 let mut subjects = self.subjects(role);
                 for (_, kind) in &mut subjects {
                     if self.random.chance(1, 3) {
-                        *kind = if self.random.chance(1, 2) { Type::Num } else { Type::Name };
+                        *kind = any_type(self.random);
                     }
                 }
                 let condition = condition(self.random, &subjects, 6, 5);
@@ -434,11 +494,13 @@ impl<'r> Builder<'r> {
                 self.row();
                 if let Some(row) = self.model.rows.last_mut() {
                     row.cells.iter_mut().for_each(|(given, _)| any(self.random, given));
-                    // Ranges reversed, and nothing else wrong, half of the time.
+                    // Ranges reversed and dates of no day, and nothing else wrong, half of the time.
                     if self.random.chance(1, 2) {
                         for (column, (given, _)) in self.model.tables[row.table].columns.iter().zip(&mut row.cells) {
                             if column.kind == Type::Num && self.random.chance(1, 2) {
                                 *given = Value::Range(number(self.random), number(self.random));
+                            } else if column.kind == Type::Date && self.random.chance(1, 2) {
+                                *given = no_date(self.random);
                             } else if column.kind != given.kind() {
                                 *given = value(self.random, column.kind);
                             }
@@ -610,7 +672,7 @@ pub fn faulty_line(random: &mut Random, model: &Model) -> Vec<u8> {
                 Some(role) if builder.random.chance(4, 5) => role.name.clone(),
                 _ => "nowhere".to_string(),
             };
-            let kind = builder.random.pick(&["num", "name"]);
+            let kind = builder.random.pick(&["num", "name", "num", "name", "date"]);
             return format!("(attr {role} {name} {kind})\n").into_bytes();
         }
         3 => builder.purpose(),

@@ -73,10 +73,10 @@ struct Style {
 }
 
 /// Values that no bracket text has, of bytes that may stand outside quotes.
-const UNFIT: [&[u8]; 32] = [
+const UNFIT: [&[u8]; 36] = [
     b"a23456789-123456789_12345", b"9223372036854775808", b"-9223372036854775809", b"18446744073709551616", b"-0", b"00", b"01", b"-01", b"-", b"--1",
     b"+1", b"1.5", b"1e3", b"_a", b"-a", b"9a", b"1a", b"a b", b" a", b"a ", b" ", b"a.b", b"(a)", b"a;b", b"\t", b"a\tb", b"\0", b"a\0", b"\x7f", b"\xc3\xa9",
-    b"\xef\xbb\xbfa", b"99999999999999999999999999999999999999999999",
+    b"\xef\xbb\xbfa", b"99999999999999999999999999999999999999999999", b"(2028 2 9)", b"2028-02-09", b"(1 5)", b"2028 2 9",
 ];
 /// Values that stand in quotes only.
 const UNFIT_QUOTED: [&[u8]; 14] =

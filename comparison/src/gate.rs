@@ -119,13 +119,15 @@ impl Figures {
 
 fn refused(number: u64, figures: [u64; 5]) -> Result<Refused, String> {
     let [source, start, length, d, e] = figures;
-    let expected = match number {
-        1..=9 | 28 => 1,
-        10..=18 | 27 => 2,
-        19..=21 => 3,
-        _ => 0,
+    // A date of no day may stand in the document or in the query (02, Q-14).
+    let fits = match number {
+        1..=9 | 28 => source == 1,
+        10..=18 | 27 => source == 2,
+        31 => source == 1 || source == 2,
+        19..=21 => source == 3,
+        _ => false,
     };
-    if d != 0 || e != 0 || source != expected {
+    if d != 0 || e != 0 || !fits {
         return Err(format!("refusal {number} with figures {figures:?}"));
     }
     Ok(Refused { number, source, start, length })

@@ -245,7 +245,7 @@ fn lines(import: &Import, records: &[Vec<Vec<u8>>]) -> Vec<u8> {
     lines
 }
 
-/// A document with a table of scheme row, and its place.
+/// A document with a table of scheme row, mostly without dates, and its place.
 fn with_row_table(random: &mut Random) -> (Model, usize) {
     let mut builder = Builder::new(random);
     builder.base();
@@ -254,6 +254,9 @@ fn with_row_table(random: &mut Random) -> (Model, usize) {
     let columns = builder.random.between(1, 5);
     builder.table_of(Scheme::Row, columns);
     let table = builder.model.tables.len() - 1;
+    if builder.random.chance(4, 5) {
+        builder.model.tables[table].columns.iter_mut().filter(|column| column.kind == Type::Date).for_each(|column| column.kind = Type::Name);
+    }
     (builder.model, table)
 }
 
@@ -264,8 +267,10 @@ pub fn desk(random: &mut Random, buffers: &mut Buffers, second: Second, tally: &
     let table = &model.tables[table];
     let kinds: Vec<Type> = table.columns.iter().map(|column| column.kind).collect();
     let count = if random.chance(1, 50) { random.between(900, 1_100) } else { random.between(0, 12) };
+    // A list has no dates (02, Q-14), so that its lines fit no table with a column of them.
+    let listed = |kind: Type| if kind == Type::Date { Type::Num } else { kind };
     let mut records: Vec<Vec<Vec<u8>>> = (0..count)
-        .map(|_| kinds.iter().map(|&kind| documents::value(random, kind).to_string().into_bytes()).collect())
+        .map(|_| kinds.iter().map(|&kind| documents::value(random, listed(kind)).to_string().into_bytes()).collect())
         .collect();
     let label = random.pick(&model.labels).name.clone();
     // Table and label in whichever case: the lines have them as given (02, Q-8).
@@ -291,7 +296,7 @@ pub fn desk(random: &mut Random, buffers: &mut Buffers, second: Second, tally: &
             *(if random.chance(1, 2) { &mut import.table } else { &mut import.label }) = name;
             false
         }
-        _ => true,
+        _ => count == 0 || !kinds.contains(&Type::Date),
     };
     import.file = files::of_records(random, &records);
     let (mut doc, _) = recase::any(random, model.text());

@@ -127,7 +127,7 @@ fn compare_all(options: &Options) -> ExitCode {
         println!("FAILED: of importing never seen: {unseen:?}");
         return ExitCode::FAILURE;
     }
-    let missing: Vec<usize> = (1..=18).chain([27, 28]).filter(|&number| tally.refusals[number] == 0).collect();
+    let missing: Vec<usize> = (1..=18).chain([27, 28, 31]).filter(|&number| tally.refusals[number] == 0).collect();
     if !missing.is_empty() {
         println!("FAILED: refusals never seen: {missing:?}");
         return ExitCode::FAILURE;
@@ -154,13 +154,19 @@ fn compare_all(options: &Options) -> ExitCode {
         println!("FAILED: too few ranges");
         return ExitCode::FAILURE;
     }
+    let answered_dates = tally.dates.iter().copied().min().unwrap_or(0);
+    let of_dates = [answered_dates, tally.no_date_in_document, tally.no_date_in_query, pairs.dates, pairs.told_apart_dates];
+    if options.texts > 0 && options.pairs > 0 && of_dates.contains(&0) {
+        println!("FAILED: too few dates");
+        return ExitCode::FAILURE;
+    }
     println!("no difference");
     ExitCode::SUCCESS
 }
 
 fn summary(options: &Options, tally: &Tally, pairs: &PairTally) {
-    let histogram = |refusals: &[u64; 29]| -> String {
-        (1..=28).filter(|&n| refusals[n] > 0).map(|n| format!(" {n}:{}", refusals[n])).collect()
+    let histogram = |refusals: &[u64; 32]| -> String {
+        (1..=31).filter(|&n| refusals[n] > 0).map(|n| format!(" {n}:{}", refusals[n])).collect()
     };
     println!("seed:              {}", options.seed);
     println!("texts:             {}, accepted {}, the longest {} bytes", tally.texts, tally.accepted, tally.longest);
@@ -174,6 +180,8 @@ fn summary(options: &Options, tally: &Tally, pairs: &PairTally) {
     println!("blanks:            {} answered, {} with a blanked value; {} pairs alike that differ in one; {} pairs not alike told apart", tally.blanks, tally.dashes, pairs.blanked, pairs.told_apart_blank);
     println!("ranges:            {} answers to sure, {} to possible, {} with a range; {} pairs alike that differ in one; {} pairs not alike told apart", tally.sure, tally.possible, tally.ranges, pairs.ends, pairs.told_apart_ends);
     println!("range or number:   {} values made the other, which are no pairs alike, told apart {}", pairs.turned, pairs.told_apart_turned);
+    let [select, blank, sure, possible] = tally.dates;
+    println!("dates:             {select} answers to select with one, {blank} to blank, {sure} to sure, {possible} to possible; refused in {} documents and {} askings; {} pairs alike that differ in one; {} pairs not alike told apart", tally.no_date_in_document, tally.no_date_in_query, pairs.dates, pairs.told_apart_dates);
     println!("without labels:    {} pairs alike that differ in an undeclared table; {} told apart in a public one", pairs.undeclared, pairs.told_apart_public);
 }
 

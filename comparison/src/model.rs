@@ -2,12 +2,15 @@
 //! It is built with the text and never read from it.
 
 use crate::recase::{listed, same};
+use std::cmp::Ordering;
 use std::fmt;
 
 #[derive(Clone, Copy, Debug, PartialEq, Eq)]
 pub enum Type {
     Num,
     Name,
+    /// Of columns alone (02, Q-14).
+    Date,
 }
 
 impl fmt::Display for Type {
@@ -15,6 +18,7 @@ impl fmt::Display for Type {
         f.write_str(match self {
             Type::Num => "num",
             Type::Name => "name",
+            Type::Date => "date",
         })
     }
 }
@@ -25,6 +29,8 @@ pub enum Value {
     Name(String),
     /// In cells of num columns alone (02, Q-12).
     Range(i64, i64),
+    /// Year, month and day (02, Q-14); whether there is such a day is not said.
+    Date(i64, i64, i64),
 }
 
 impl Value {
@@ -32,11 +38,16 @@ impl Value {
         match self {
             Value::Num(_) | Value::Range(..) => Type::Num,
             Value::Name(_) => Type::Name,
+            Value::Date(..) => Type::Date,
         }
     }
 
     pub fn is_range(&self) -> bool {
         matches!(self, Value::Range(..))
+    }
+
+    pub fn is_date(&self) -> bool {
+        matches!(self, Value::Date(..))
     }
 }
 
@@ -46,6 +57,7 @@ impl fmt::Display for Value {
             Value::Num(number) => write!(f, "{number}"),
             Value::Name(name) => f.write_str(name),
             Value::Range(low, high) => write!(f, "({low} {high})"),
+            Value::Date(year, month, day) => write!(f, "({year} {month} {day})"),
         }
     }
 }
@@ -86,9 +98,10 @@ impl Condition {
         }
     }
 
-    /// How many brackets deep it is.
+    /// How many brackets deep it is, a date's own included.
     pub fn depth(&self) -> usize {
         match self {
+            Condition::Compare(_, _, Value::Range(..) | Value::Date(..)) => 2,
             Condition::Compare(..) => 1,
             Condition::Not(inner) => 1 + inner.depth(),
             Condition::And(list) | Condition::Or(list) => 1 + list.iter().map(|c| c.depth()).max().unwrap_or(0),
@@ -99,14 +112,9 @@ impl Condition {
     pub fn holds(&self, value_of: &dyn Fn(&str) -> Option<Value>) -> bool {
         match self {
             Condition::Compare(operator, subject, right) => match (value_of(subject), right) {
-                (Some(Value::Num(l)), Value::Num(r)) => match *operator {
-                    "eq" => l == *r,
-                    "ne" => l != *r,
-                    "lt" => l < *r,
-                    "le" => l <= *r,
-                    "gt" => l > *r,
-                    _ => l >= *r,
-                },
+                (Some(Value::Num(l)), Value::Num(r)) => ordered(operator, l.cmp(r)),
+                // Of two dates that there are, the later has the later year, month or day.
+                (Some(Value::Date(y, m, d)), Value::Date(year, month, day)) => ordered(operator, (y, m, d).cmp(&(*year, *month, *day))),
                 (Some(Value::Name(l)), Value::Name(r)) => (*operator == "eq") == same(&l, r),
                 _ => false,
             },
@@ -114,6 +122,18 @@ impl Condition {
             Condition::And(list) => list.iter().all(|c| c.holds(value_of)),
             Condition::Or(list) => list.iter().any(|c| c.holds(value_of)),
         }
+    }
+}
+
+/// The six operators, by how left stands to right.
+fn ordered(operator: &str, order: Ordering) -> bool {
+    match operator {
+        "eq" => order.is_eq(),
+        "ne" => order.is_ne(),
+        "lt" => order.is_lt(),
+        "le" => order.is_le(),
+        "gt" => order.is_gt(),
+        _ => order.is_ge(),
     }
 }
 

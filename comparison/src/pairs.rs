@@ -13,8 +13,8 @@ use crate::texts::keep;
 pub struct PairTally {
     pub pairs: u64,
     pub answered: u64,
-    /// By refusal number: 10 to 18, and 27.
-    pub refusals: [u64; 29],
+    /// By refusal number: 10 to 18, 27 and 31.
+    pub refusals: [u64; 32],
     pub unlike: u64,
     pub told_apart: u64,
     /// Pairs alike whose documents or query are in another case than the generator wrote them.
@@ -32,6 +32,9 @@ pub struct PairTally {
     /// Pairs alike that differ in an end of a range of the query's table; pairs not alike told apart in one (02, Q-12).
     pub ends: u64,
     pub told_apart_ends: u64,
+    /// Pairs alike that differ in a date of the query's table; pairs not alike told apart in one (02, Q-14).
+    pub dates: u64,
+    pub told_apart_dates: u64,
     /// A value that may differ made a range or a number: no pair alike, since 27 may tell; how often it does.
     pub turned: u64,
     pub told_apart_turned: u64,
@@ -148,10 +151,10 @@ fn turned(random: &mut Random, model: &Model, cells: &Cells) -> Option<Model> {
     (other.text().len() <= 60_000).then_some(other)
 }
 
-/// Whether two models differ in a range of the query's table.
-fn in_ranges(model: &Model, other: &Model, query: Option<&Query>) -> bool {
+/// Whether two models differ in such a value of the query's table.
+fn differ_in(model: &Model, other: &Model, query: Option<&Query>, such: fn(&Value) -> bool) -> bool {
     let Some(query) = query else { return false };
-    let differ = |(one, other): (&Row, &Row)| one.cells.iter().zip(&other.cells).any(|(one, other)| one.0.is_range() && one.0 != other.0);
+    let differ = |(one, other): (&Row, &Row)| one.cells.iter().zip(&other.cells).any(|(one, other)| such(&one.0) && one.0 != other.0);
     let here = |row: &Row| same(&model.tables[row.table].name, &query.table);
     model.rows.iter().zip(&other.rows).filter(|(one, _)| here(one)).any(differ)
 }
@@ -192,7 +195,8 @@ pub fn run(random: &mut Random, subject: Subject, buffers: &mut Buffers, tally: 
         model.rows.iter().zip(&alike.rows).any(|(one, other)| one.table == place && one.cells != other.cells)
     };
     let undeclared = unlabelled.is_some_and(|place| !model.tables[place].public && differs(place));
-    let in_ends = in_ranges(&model, &alike, query.as_ref());
+    let in_ends = differ_in(&model, &alike, query.as_ref(), Value::is_range);
+    let in_dates = differ_in(&model, &alike, query.as_ref(), Value::is_date);
     let in_blanks = model.rows.iter().zip(&alike.rows).any(|(one, other)| {
         let changed = |column: usize| one.cells[column].0 != other.cells[column].0 && blanked(&model, query.as_ref(), one, column);
         matched(&model, query.as_ref(), one) && (0..one.cells.len()).any(changed)
@@ -209,6 +213,7 @@ pub fn run(random: &mut Random, subject: Subject, buffers: &mut Buffers, tally: 
     tally.case_alone += u64::from(change == Change::Case);
     tally.undeclared += u64::from(undeclared);
     tally.ends += u64::from(in_ends);
+    tally.dates += u64::from(in_dates);
     if let (Some(turned), true) = (turned(random, &model, &free_cells(&model, query.as_ref())), random.chance(1, 4)) {
         let question = Question { query: text.clone(), clock, buffer: LONGEST_RESERVE };
         let (_, equal) = buffers.ask_pair(subject, &model.text(), &turned.text(), &question)?;
@@ -251,7 +256,8 @@ pub fn run(random: &mut Random, subject: Subject, buffers: &mut Buffers, tally: 
         tally.unlike += 1;
         tally.told_apart += u64::from(!equal);
         tally.told_apart_public += u64::from(!equal && unlabelled.is_some());
-        tally.told_apart_ends += u64::from(!equal && in_ranges(&model, &unlike, query.as_ref()));
+        tally.told_apart_ends += u64::from(!equal && differ_in(&model, &unlike, query.as_ref(), Value::is_range));
+        tally.told_apart_dates += u64::from(!equal && differ_in(&model, &unlike, query.as_ref(), Value::is_date));
         tally.told_apart_blank += u64::from(!equal && query.as_ref().is_some_and(|query| query.is_blank()));
     }
     if let Some(unlike) = changed(random, &model, &bound, true, Change::Case) {

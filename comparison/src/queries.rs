@@ -1,6 +1,6 @@
 //! Random queries to a model: good ones, ones with a fault of each kind, and texts that are no query.
 
-use crate::documents::{condition, deep_condition, long_name, value, wide_condition, OPERATORS};
+use crate::documents::{condition, deep_condition, exists, long_name, no_date, value, wide_condition, OPERATORS};
 use crate::model::*;
 use crate::random::Random;
 use crate::recase::same;
@@ -221,7 +221,7 @@ pub fn good(random: &mut Random, model: &Model, clock: Clock) -> Query {
     query
 }
 
-/// Some comparisons get a value that stands in the table: of a range an end, or a number beside it.
+/// Some comparisons get a value that stands in the table: of a range an end, or a number beside it; of a date also one near it.
 fn take_values(random: &mut Random, condition: &mut Condition, table: &Table, rows: &[&Row]) {
     match condition {
         Condition::Compare(_, subject, value) => {
@@ -229,6 +229,13 @@ fn take_values(random: &mut Random, condition: &mut Condition, table: &Table, ro
             if let (Some(place), true) = (place, random.chance(2, 3)) {
                 *value = match &random.pick(rows).cells[place].0 {
                     Value::Range(low, high) => Value::Num(*random.pick(&[*low, *high, low.saturating_sub(1), high.saturating_add(1)])),
+                    Value::Date(year, month, day) => {
+                        let near = [(0, 0, 0), (0, 0, 0), (1, 0, 0), (-1, 0, 0), (0, 1, -1), (0, 0, 1), (0, 0, -1)];
+                        let moved = near.map(|(y, m, d)| (year + y, month + m, day + d));
+                        let there: Vec<(i64, i64, i64)> = moved.into_iter().filter(|&(year, month, day)| exists(year, month, day)).collect();
+                        let (year, month, day) = *random.pick(&there);
+                        Value::Date(year, month, day)
+                    }
                     given => given.clone(),
                 };
             }
@@ -256,14 +263,14 @@ pub fn widest(random: &mut Random, model: &Model, clock: Clock) -> Query {
     query
 }
 
-/// One fault of the kinds 12 to 17 and 27 (a kind that this document can't have leaves the query as it is).
+/// One fault of the kinds 12 to 17, 27 and 31 (a kind that this document can't have leaves the query as it is).
 pub fn fault(random: &mut Random, model: &Model, query: &mut Query) {
     let unknown = |random: &mut Random| match random.below(3) {
         0 => long_name(random, 24),
         1 => "nobody".to_string(),
         _ => long_name(random, 2),
     };
-    match random.below(13) {
+    match random.below(14) {
         0 => query.user = unknown(random),
         1 => query.role = unknown(random),
         2 => query.purpose = unknown(random),
@@ -300,7 +307,7 @@ pub fn fault(random: &mut Random, model: &Model, query: &mut Query) {
             // 16: an operator or a value of the wrong type, somewhere in the condition.
             if let Some(table) = model.tables.iter().find(|table| same(&table.name, &query.table)) {
                 let column = random.pick(&table.columns);
-                let kind = if random.chance(1, 2) { Type::Num } else { Type::Name };
+                let kind = *random.pick(&[Type::Num, Type::Name, Type::Date]);
                 let operator = *random.pick(&OPERATORS);
                 let extra = Condition::Compare(operator, column.name.clone(), value(random, kind));
                 query.condition = Some(match query.condition.take() {
@@ -323,6 +330,25 @@ pub fn fault(random: &mut Random, model: &Model, query: &mut Query) {
                 query.condition = if random.chance(2, 3) { Some(compare) } else { None };
             }
         }
+        12 => {
+            // 31: a date of no day, mostly compared with a column of dates, of this or another table.
+            let dated = |table: &&Table| table.columns.iter().any(|column| column.kind == Type::Date);
+            let tables: Vec<&Table> = model.tables.iter().filter(dated).collect();
+            let here = tables.iter().find(|table| same(&table.name, &query.table)).copied();
+            let Some(table) = here.or_else(|| if tables.is_empty() { None } else { Some(*random.pick(&tables)) }) else { return };
+            if here.is_none() {
+                query.table = table.name.clone();
+                query.columns = if random.chance(2, 3) { Some(vec![random.pick(&table.columns).name.clone()]) } else { None };
+                query.condition = None;
+            }
+            let dates: Vec<&Column> = table.columns.iter().filter(|column| column.kind == Type::Date || random.chance(1, 12)).collect();
+            let extra = Condition::Compare(*random.pick(&OPERATORS), random.pick(&dates).name.clone(), no_date(random));
+            query.condition = Some(match query.condition.take() {
+                Some(condition) if random.chance(1, 2) => Condition::Or(vec![condition, extra]),
+                Some(condition) => Condition::And(vec![Condition::Not(Box::new(extra)), condition]),
+                None => extra,
+            });
+        }
         _ => {
             // 17: any table, any column, in the condition alone at times.
             if !model.tables.is_empty() {
@@ -341,9 +367,14 @@ pub fn fault(random: &mut Random, model: &Model, query: &mut Query) {
 /// A query of exactly so many bytes (about 4,096), its condition holding 64 comparisons.
 pub fn of_length(random: &mut Random, model: &Model, mut query: Query, length: usize) -> Option<Query> {
     let table = model.tables.iter().find(|table| same(&table.name, &query.table))?;
-    let column = random.pick(&table.columns);
+    // Dates have no length that can be chosen.
+    let columns: Vec<&Column> = table.columns.iter().filter(|column| column.kind != Type::Date).collect();
+    if columns.is_empty() {
+        return None;
+    }
+    let column = *random.pick(&columns);
     let word = |random: &mut Random, letters: usize| match column.kind {
-        Type::Name => Value::Name(long_name(random, letters)),
+        Type::Name | Type::Date => Value::Name(long_name(random, letters)),
         Type::Num => Value::Num(10_i64.pow(letters as u32 - 1) + random.below(9) as i64),
     };
     let most = if column.kind == Type::Name { 24 } else { 18 };
@@ -402,7 +433,7 @@ pub fn no_query(random: &mut Random, model: &Model, query: &Query) -> Vec<u8> {
         None => vec![("who".to_string(), Type::Name)],
     };
     let text = query.text();
-    match random.below(15) {
+    match random.below(16) {
         0 => {
             query.columns = Some(vec![columns[0].0.clone(); 17]);
             query.text()
@@ -459,6 +490,17 @@ pub fn no_query(random: &mut Random, model: &Model, query: &Query) -> Vec<u8> {
             // A range where a comparison has its value (02, Q-12).
             let (subject, _) = random.pick(&columns).clone();
             query.condition = Some(Condition::Compare("eq", subject, crate::documents::range(random)));
+            query.text()
+        }
+        14 => {
+            // A bracket that is no date where a comparison has its value, or a date where it has none (02, Q-14).
+            let (subject, _) = random.pick(&columns).clone();
+            let no_value = ["(2028 2 9 1)", "(2028)", "(2028 feb 9)", "(2028 02 9)", "((2028 2 9))", "(9 2 9223372036854775808)", "()", "(2028 2 -0)"];
+            let extra = match random.below(3) {
+                0 => Condition::Compare("eq", "(2028 2 9)".to_string(), Value::Name(subject)),
+                _ => Condition::Compare("eq", subject, Value::Name(random.pick(&no_value).to_string())),
+            };
+            query.condition = Some(if random.chance(1, 2) { extra } else { Condition::Not(Box::new(extra)) });
             query.text()
         }
         _ => random.pick(&["(select)", "(blank)", "(blanks)", "(blank", "(sure)", "(surely)", "(possible", "(possibly)"]).as_bytes().to_vec(),

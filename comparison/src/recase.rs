@@ -32,7 +32,7 @@ pub fn name(random: &mut Random, name: &str) -> String {
 }
 
 /// Which letters of a text are turned: by the place of their word and their place in it alone. So two documents that differ in values
-/// alone, each value being one word, still differ in these alone.
+/// alone, each value being as many words as the other, still differ in these alone.
 #[derive(Clone, Copy)]
 pub struct Recasing {
     key: u64,

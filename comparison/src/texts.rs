@@ -3,7 +3,7 @@
 use crate::compare::{check, repeats_no_column, shrink, Buffers, Difference, Question, LONGEST_RESERVE, ROOMY};
 use crate::damage;
 use crate::documents;
-use crate::gate::{self, Asked, Checked, Second};
+use crate::gate::{self, Asked, Checked, Refused, Second};
 use crate::model::Model;
 use crate::queries;
 use crate::random::Random;
@@ -40,23 +40,33 @@ pub struct Tally {
     pub sure: u64,
     pub possible: u64,
     pub ranges: u64,
+    /// Answers with a date to select, blank, sure and possible; dates of no day in documents and in queries (02, Q-14).
+    pub dates: [u64; 4],
+    pub no_date_in_document: u64,
+    pub no_date_in_query: u64,
     /// By refusal number.
-    pub refusals: [u64; 29],
+    pub refusals: [u64; 32],
 }
 
 impl Tally {
     pub fn saw_check(&mut self, checked: Checked) {
         match checked {
             Checked::Accepted { .. } => self.accepted += 1,
-            Checked::Refused(refused) => self.refusals[refused.number as usize] += 1,
+            Checked::Refused(refused) => self.saw_refusal(refused),
         }
     }
 
     pub fn saw_ask(&mut self, asked: Asked) {
         self.asked += 1;
         if let Asked::Refused(refused) = asked {
-            self.refusals[refused.number as usize] += 1;
+            self.saw_refusal(refused);
         }
+    }
+
+    fn saw_refusal(&mut self, refused: Refused) {
+        self.refusals[refused.number as usize] += 1;
+        self.no_date_in_document += u64::from(refused.number == 31 && refused.source == 1);
+        self.no_date_in_query += u64::from(refused.number == 31 && refused.source == 2);
     }
 }
 
@@ -223,7 +233,11 @@ impl Run {
         }
         self.tally.sure += u64::from(word.starts_with(b"(sure "));
         self.tally.possible += u64::from(word.starts_with(b"(possible "));
-        self.tally.ranges += u64::from(self.buffers.given(length).windows(2).any(|bytes| bytes == b" ("));
+        self.tally.ranges += u64::from(has_bracket(self.buffers.given(length), 2));
+        let verbs: [&[u8]; 4] = [b"(select ", b"(blank ", b"(sure ", b"(possible "];
+        if let (Some(verb), true) = (verbs.iter().position(|verb| word.starts_with(verb)), has_bracket(self.buffers.given(length), 3)) {
+            self.tally.dates[verb] += 1;
+        }
         if repeats_no_column(query) && reserve.is_some_and(|reserve| length > reserve) {
             return Err(self.smaller_reserve(doc, question));
         }
@@ -285,6 +299,12 @@ impl Run {
 /// Whether an answer has a `-` where a value would stand.
 fn has_dash(answer: &[u8]) -> bool {
     answer.windows(3).any(|bytes| bytes == b" - " || bytes == b" -)")
+}
+
+/// Whether an answer has a value of so many numbers: two are a range, three a date.
+fn has_bracket(answer: &[u8], numbers: usize) -> bool {
+    let after = |place: usize| answer[place..].iter().take_while(|&&byte| byte != b')').filter(|&&byte| byte == b' ').count();
+    (2..answer.len()).any(|place| answer[place - 2..place] == *b" (" && after(place) + 1 == numbers)
 }
 
 /// What the gate gave that is wrong by itself.
