@@ -68,6 +68,11 @@ CASES = [
     ("a plus sign", b"+1\n", (20, 0)),
     ("a fraction", b"1.5\n", (20, 0)),
     ("a date", b"2028-02-29\n", (20, 0)),
+    # 02, Q-14: "The comma-separated reader takes no dates."
+    ("a date as a row line has it", b"(2028 2 29)\n", (20, 0)),
+    ("a date in quotes as a row line has it", b'Ida,40\nBo,"(2028 2 29)"\n', (20, 7)),
+    ("a date's three numbers in one field", b"2028 2 29\n", (20, 0)),
+    ("a date's three numbers in three fields", b"2028,2,29\n", [b"2028 2 29"]),
     ("a range", b"(1 5)\n", (20, 0)),
     ("a hyphen alone", b"-\n", (20, 0)),
     ("a name that begins with a hyphen", b"-a\n", (20, 0)),

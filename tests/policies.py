@@ -38,14 +38,34 @@ ROWS = TABLES + [
     "(row e (Ida free) (40 noads))",
 ]
 
+# dates (02, Q-14) in a table of each scheme
+DATES = LABELS + [
+    "(table n none (d date) (a num) (b name))",
+    "(table t table free (d date))",
+    "(table c column (d date free) (b name noads))",
+    "(table r row (d date) (b name))",
+    "(table e cell (d date) (due num))",
+    "(table two none (d date) (f date))",
+]
+
 
 def after(base, *lines):
     return base + list(lines)
 
 
-def nested(depth):
-    """A condition of so many brackets."""
-    return "(not " * (depth - 1) + "(eq level 1)" + ")" * (depth - 1)
+def nested(depth, comparison="(eq level 1)"):
+    """A condition of so many brackets, one within the comparison not counted."""
+    return "(not " * (depth - 1) + comparison + ")" * (depth - 1)
+
+
+def dates(*wanted):
+    """Rows of one date each, behind their tables."""
+    return DATES + [f"(row t {date})" for date in wanted]
+
+
+def no_date(name, date):
+    """A date of no day is 31 at its bracket."""
+    return (f"31, {name}", dates("(2028 2 9)", date), (31, len(DATES) + 1, (date, 0)))
 
 
 KEYWORDS = r"\((?:purpose|role|attr|user|cond-role|grant|label|table|row|public|allow|deny|and|or|not|[engl][eqt])\b| (?:num|name)\b|(?<=table . )\w+"
@@ -103,6 +123,15 @@ CASES = [
     ("a range of one number", after(TABLES, "(row t (5 5))", "(row t (-3 -3))", "(row t (0 0))", "(row t 0)"), len(TABLES) + 4),
     ("the range of all numbers", after(TABLES, "(row t (-9223372036854775808 9223372036854775807))"), len(TABLES) + 1),
     ("a range beside a number", after(TABLES, "(table x none (aa num) (bb num) (cc name))", "(row x (1 5) 3 x)", "(ROW X 1 (-3 5) Y)"), len(TABLES) + 3),
+    # dates (02, Q-14)
+    ("a date in each scheme", after(DATES, "(row n (2028 2 9) 1 x)", "(row t (2028 2 29))", "(row c (1999 12 31) x)", "(row r noads (2000 1 1) y)", "(row e ((2028 2 29) free) (1 noads))"), len(DATES) + 5),
+    ("the first and the last date", dates("(1 1 1)", "(9999 12 31)"), len(DATES) + 2),
+    ("29 February of leap years", dates("(2000 2 29)", "(2024 2 29)", "(2028 2 29)", "(4 2 29)", "(400 2 29)", "(9996 2 29)"), len(DATES) + 6),
+    ("28 February of other years", dates("(1900 2 28)", "(2100 2 28)", "(2027 2 28)", "(1 2 28)", "(9999 2 28)"), len(DATES) + 5),
+    ("the last day of each month", dates(*(f"(2027 {month} {day})" for month, day in enumerate([31, 28, 31, 30, 31, 30, 31, 31, 30, 31, 30, 31], 1))), len(DATES) + 12),
+    ("a date beside a range", after(DATES, "(row n (2028 2 9) (1 5) x)", "(row e ((2028 2 9) free) ((-5 5) noads))"), len(DATES) + 2),
+    ("the type of dates in other cases", after(LABELS, "(table x none (a DATE) (b Date))", "(row x (2028 2 9) (2028 2 9))", "(table y column (a dAte free))", "(row y (1 1 1))"), len(LABELS) + 4),
+    ("date as a name", ["(purpose date)", "(role date)", "(attr date date name)", "(user date date (date date))", "(cond-role date date (eq date date))", "(label date (allow date) (deny))", "(table date cell (date date))", "(row date ((2028 2 9) date))"], 8),
     ("words of queries as names", ["(purpose sure)", "(role possible)", "(label blank (allow sure) (deny))", "(table sure cell (possible num))", "(row sure ((1 2) blank))"], 5),
     # public lines (02, Q-2); a table without one is accepted all the same
     ("no public line", TABLES, len(TABLES)),
@@ -197,7 +226,7 @@ CASES = [
     ("a blank for a name", after(TABLES, "(label - (allow) (deny))"), (2, len(TABLES), None)),
     ("a query for a line", after(TABLES, "(blank ana desk all e (who))"), (2, len(TABLES), None)),
     ("a range with one end", after(TABLES, "(row t (5))"), (2, len(TABLES), None)),
-    ("a range with three ends", after(TABLES, "(row t (1 5 9))"), (2, len(TABLES), None)),
+    ("a range with four ends", after(TABLES, "(row t (1 5 9 13))"), (2, len(TABLES), None)),
     ("a range that begins with a name", after(TABLES, "(row t (x 5))"), (2, len(TABLES), None)),
     ("a range with an end out of range", after(TABLES, "(row t (1 9223372036854775808))"), (2, len(TABLES), None)),
     ("a range that ends with -0", after(TABLES, "(row t (-1 -0))"), (2, len(TABLES), None)),
@@ -210,6 +239,31 @@ CASES = [
     ("a range for a user's value", after(BASE, "(user ana desk (level (1 5)))"), (2, len(BASE), None)),
     ("a range in a condition", after(BASE, "(cond-role c desk (eq level (1 5)))"), (2, len(BASE), None)),
     ("a range for a purpose", after(TABLES, "(label l (allow (1 5)) (deny))"), (2, len(TABLES), None)),
+    ("attribute of type date in capitals", after(BASE, "(attr desk extra DATE)"), (2, len(BASE), None)),
+    ("another word for date", after(LABELS, "(table x none (a dates))"), (2, len(LABELS), None)),
+    ("a date of four numbers", dates("(2028 2 9 1)"), (2, len(DATES), None)),
+    ("a date with a month's name", dates("(2028 feb 9)"), (2, len(DATES), None)),
+    ("a date that begins with a name", dates("(ad 2 9)"), (2, len(DATES), None)),
+    ("a date that ends with a name", dates("(2028 2 ides)"), (2, len(DATES), None)),
+    ("a date with leading zeros", dates("(2028 02 09)"), (2, len(DATES), None)),
+    ("a date with -0", dates("(2028 2 -0)"), (2, len(DATES), None)),
+    ("a date with a number out of range", dates("(2028 2 9223372036854775808)"), (2, len(DATES), None)),
+    ("a date with two spaces", dates("(2028  2 9)"), (2, len(DATES), None)),
+    ("a date with a space before its end", dates("(2028 2 9 )"), (2, len(DATES), None)),
+    ("a date with hyphens", dates("2028-02-09"), (2, len(DATES), None)),
+    ("a date in a bracket of its own", dates("((2028 2 9))"), (2, len(DATES), None)),
+    ("a date in a date", dates("((2028 2 9) 2 9)"), (2, len(DATES), None)),
+    ("a date labelled by a number", after(DATES, "(row e ((2028 2 9) 5) (1 free))"), (2, len(DATES), None)),
+    ("a date labelled by a date", after(DATES, "(row e ((2028 2 9) (2028 2 9)) (1 free))"), (2, len(DATES), None)),
+    ("a date with two labels", after(DATES, "(row e ((2028 2 9) free free) (1 free))"), (2, len(DATES), None)),
+    ("a date for a table", after(DATES, "(row (2028 2 9) (2028 2 9))"), (2, len(DATES), None)),
+    ("a date for a user's value", after(BASE, "(user ana desk (level (2028 2 9)))"), (2, len(BASE), None)),
+    ("a date of no day for a user's value", after(BASE, "(user ana desk (level (0 0 0)))"), (2, len(BASE), None)),
+    ("a date for an attribute", after(BASE, "(cond-role c desk (eq (2028 2 9) level))"), (2, len(BASE), None)),
+    ("a date for a condition", after(BASE, "(cond-role c desk (2028 2 9))"), (2, len(BASE), None)),
+    ("a date of four numbers in a condition", after(BASE, "(cond-role c desk (eq level (2028 2 9 1)))"), (2, len(BASE), None)),
+    ("a date for a purpose", after(TABLES, "(label l (allow (2028 2 9)) (deny))"), (2, len(TABLES), None)),
+    ("a date's bracket 17 deep in a condition", after(BASE, f"(cond-role deep desk {nested(15, '(eq level (2028 2 9))')})"), (2, len(BASE), None)),
     ("007", after(TABLES, "(row t 007)"), (2, len(TABLES), None)),
     ("12ab", after(TABLES, "(row t 12ab)"), (2, len(TABLES), None)),
     ("+5", after(TABLES, "(row t +5)"), (2, len(TABLES), None)),
@@ -286,6 +340,10 @@ CASES = [
     ("cell with an unknown label", after(TABLES, "(row e (Ida free) (40 nix))"), (5, len(TABLES), ("nix", 0))),
     ("a range with an unknown label", after(TABLES, "(row e (Ida free) ((40 75) nix))"), (5, len(TABLES), ("nix", 0))),
     ("an unknown label beside a bare range", after(TABLES, "(row e (Ida nix) (75 40))"), (5, len(TABLES), ("nix", 0))),
+    ("a date with an unknown label", after(DATES, "(row e ((2028 2 9) nix) (1 free))"), (5, len(DATES), ("nix", 0))),
+    ("an unknown label beside a bare date", after(DATES, "(row e (2028 2 9) (1 nix))"), (5, len(DATES), ("nix", 0))),
+    ("a date of no day with an unknown label", after(DATES, "(row e ((2027 2 29) nix) (1 free))"), (5, len(DATES), ("nix", 0))),
+    ("an unknown attribute compared with a date", after(BASE, "(cond-role c desk (eq nix (2028 2 9)))"), (5, len(BASE), ("nix", 0))),
     ("public with an unknown table", after(TABLES, "(public nix)"), (5, len(TABLES), ("nix", 0))),
     ("public with an unknown table twice", after(TABLES, "(public nix)", "(public nix)"), (5, len(TABLES), ("nix", 0))),
     ("public before its table", after(LABELS, "(public x)", "(table x none (a num))"), (5, len(LABELS), ("x", 0))),
@@ -316,6 +374,13 @@ CASES = [
     ("range for the row's label", after(TABLES, "(row r (1 5) 2 x)"), (7, len(TABLES), None)),
     ("a range too many", after(TABLES, "(row t (5 1) (1 5))"), (7, len(TABLES), None)),
     ("a range too few", after(TABLES, "(row r free (5 1))"), (7, len(TABLES), None)),
+    ("bare date in a cell table", after(DATES, "(row e (2028 2 9) (1 free))"), (7, len(DATES), None)),
+    ("bare date of no day in a cell table", after(DATES, "(row e (2027 2 29) (1 free))"), (7, len(DATES), None)),
+    ("labelled date in a plain table", after(DATES, "(row t ((2028 2 9) free))"), (7, len(DATES), None)),
+    ("labelled date in a row table", after(DATES, "(row r free ((2028 2 9) free) x)"), (7, len(DATES), None)),
+    ("date for the row's label", after(DATES, "(row r (2028 2 9) (2028 2 9) x)"), (7, len(DATES), None)),
+    ("a date too many", dates("(2028 2 9) (2027 2 29)"), (7, len(DATES), None)),
+    ("a date too few", after(DATES, "(row two (2027 2 29))"), (7, len(DATES), None)),
     # ---- 8
     ("name for a number attribute", after(BASE, "(user ana desk (level high))"), (8, len(BASE), ("high", 0))),
     ("number for a name attribute", after(BASE, "(user ben clerk (level 7) (team 3))"), (8, len(BASE), ("3", 0))),
@@ -329,6 +394,23 @@ CASES = [
     ("reversed range in a name column", after(TABLES, "(row n 1 (5 1))"), (8, len(TABLES), ("(5 1)", 0))),
     ("range in a name column of cells", after(TABLES, "(row e ((1 5) free) ((75 40) free))"), (8, len(TABLES), ("(1 5)", 0))),
     ("8 right of a reversed range", after(TABLES, "(row n (5 1) 7)"), (8, len(TABLES), ("7", 0))),
+    ("date in a number column", after(TABLES, "(row t (2028 2 9))"), (8, len(TABLES), ("(2028 2 9)", 0))),
+    ("date of no day in a number column", after(TABLES, "(row t (1 5 9))", "(row t 1)"), (8, len(TABLES), ("(1 5 9)", 0))),
+    ("date in a name column", after(TABLES, "(row n 1 (2028 2 9))"), (8, len(TABLES), ("(2028 2 9)", 0))),
+    ("date in a name column of cells", after(TABLES, "(row e ((2028 2 9) free) (40 free))"), (8, len(TABLES), ("(2028 2 9)", 0))),
+    ("number in a date column", dates("2028"), (8, len(DATES), ("2028", 0))),
+    ("name in a date column", dates("today"), (8, len(DATES), ("today", 0))),
+    ("range in a date column", dates("(1 5)"), (8, len(DATES), ("(1 5)", 0))),
+    ("reversed range in a date column", dates("(5 1)"), (8, len(DATES), ("(5 1)", 0))),
+    ("range in a date column of cells", after(DATES, "(row e ((1 5) free) (1 free))"), (8, len(DATES), ("(1 5)", 0))),
+    ("8 right of a date of no day", after(DATES, "(row n (2027 2 29) x x)"), (8, len(DATES), ("x", 0))),
+    ("8 left of a date of no day", after(DATES, "(row two 5 (2027 2 29))"), (8, len(DATES), ("5", 0))),
+    ("date in a condition, no attribute being one", after(BASE, "(cond-role c desk (eq level (2028 2 9)))"), (8, len(BASE), ("(2028 2 9)", 0))),
+    ("date of no day in a condition", after(BASE, "(cond-role c desk (or (eq level 1) (lt level (2027 2 29))))"), (8, len(BASE), ("(2027 2 29)", 0))),
+    ("date for the clock", after(BASE, "(cond-role c desk (ge year (-1 13 0)))"), (8, len(BASE), ("(-1 13 0)", 0))),
+    ("date for a name attribute", after(BASE, "(cond-role c clerk (ne team (2028 2 9)))"), (8, len(BASE), ("(2028 2 9)", 0))),
+    ("operator and date for a name attribute", after(BASE, "(cond-role c clerk (lt team (2028 2 9)))"), (8, len(BASE), ("lt", 0))),
+    ("a date's bracket 16 deep in a condition", after(BASE, f"(cond-role deep desk {nested(14, '(eq level (2028 2 9))')})"), (8, len(BASE), ("(2028 2 9)", 0))),
     # ---- 28
     ("reversed range", after(TABLES, "(row t (5 1))"), (28, len(TABLES), ("(5 1)", 0))),
     ("reversed range below zero", after(TABLES, "(row t (-1 -2))"), (28, len(TABLES), ("(-1 -2)", 0))),
@@ -340,6 +422,42 @@ CASES = [
     ("two reversed ranges", after(TABLES, "(table x none (aa num) (bb num))", "(row x (5 1) (7 2))"), (28, len(TABLES) + 1, ("(5 1)", 0))),
     ("a reversed range behind another", after(TABLES, "(table x none (aa num) (bb num))", "(row x (1 5) (7 2))"), (28, len(TABLES) + 1, ("(7 2)", 0))),
     ("a reversed range, and a line that fails further down", after(TABLES, "(row t (5 1))", "(row t x)"), (28, len(TABLES), ("(5 1)", 0))),
+    ("a reversed range right of a date of no day", after(DATES, "(row n (2027 2 29) (5 1) x)"), (28, len(DATES), ("(5 1)", 0))),
+    ("a reversed range of cells right of a date of no day", after(DATES, "(row e ((0 1 1) free) ((5 1) free))"), (28, len(DATES), ("(5 1)", 0))),
+    # ---- 31
+    no_date("29 February of 1900", "(1900 2 29)"),
+    no_date("29 February of 2100", "(2100 2 29)"),
+    no_date("29 February of 2027", "(2027 2 29)"),
+    no_date("30 February of 2000", "(2000 2 30)"),
+    no_date("month 0", "(2028 0 1)"),
+    no_date("month 13", "(2028 13 1)"),
+    no_date("day 0", "(2028 1 0)"),
+    no_date("32 January", "(2028 1 32)"),
+    no_date("31 April", "(2028 4 31)"),
+    no_date("31 June", "(2028 6 31)"),
+    no_date("31 September", "(2028 9 31)"),
+    no_date("31 November", "(2028 11 31)"),
+    no_date("32 December", "(2028 12 32)"),
+    no_date("year 0", "(0 1 1)"),
+    no_date("year 10000", "(10000 1 1)"),
+    no_date("a negative year", "(-1 1 1)"),
+    no_date("a negative month", "(2028 -1 1)"),
+    no_date("a negative day", "(2028 1 -1)"),
+    no_date("29 February of the year -4", "(-4 2 29)"),
+    no_date("all of it 0", "(0 0 0)"),
+    no_date("the largest number for a year", "(9223372036854775807 1 1)"),
+    no_date("the least number for a month", "(2028 -9223372036854775808 1)"),
+    no_date("the largest number for a day", "(2028 1 9223372036854775807)"),
+    no_date("a year 2^32 too large", "(4294969324 1 1)"),
+    no_date("a month 256 too large", "(2028 257 1)"),
+    no_date("a day 2^16 too large", "(2028 1 65537)"),
+    ("31 in a table without labels", after(DATES, "(row n (2027 2 29) (1 5) x)"), (31, len(DATES), ("(2027 2 29)", 0))),
+    ("31 in a column table", after(DATES, "(row c (2027 2 29) x)"), (31, len(DATES), ("(2027 2 29)", 0))),
+    ("31 in a row table", after(DATES, "(row r noads (2027 2 29) x)"), (31, len(DATES), ("(2027 2 29)", 0))),
+    ("31 in a cell table", after(DATES, "(row e ((2027 2 29) noads) (1 free))"), (31, len(DATES), ("(2027 2 29)", 0))),
+    ("two dates of no day", after(DATES, "(row two (0 1 1) (0 0 0))"), (31, len(DATES), ("(0 1 1)", 0))),
+    ("a date of no day behind another", after(DATES, "(row two (1 1 1) (0 0 0))"), (31, len(DATES), ("(0 0 0)", 0))),
+    ("a date of no day, and a line that fails further down", dates("(0 1 1)", "5"), (31, len(DATES), ("(0 1 1)", 0))),
     # ---- 9
     ("attr line after a user line", after(USERS, "(attr desk extra num)"), (9, len(USERS), None)),
     ("attr line after a user line, with an unknown role", after(USERS, "(attr nix extra num)"), (5, len(USERS), ("nix", 0))),
@@ -365,6 +483,9 @@ RESERVES = [
     ("reserve: a table counts that no line declares public, and as much as one declared", SEVENS + "(table u none (a name))\n(public t)\n(row u ab)\n(row t 7)\n", 5, 21),
     ("reserve: a range as written", SEVENS + "(row t (1 5))\n", 2, 24),
     ("reserve: a labelled range", "(label shut (allow) (deny))\n(table t cell (a num))\n(row t ((-10 -5) shut))\n(ROW T (7 shut))\n", 4, 15 + 8 + 12),
+    ("reserve: a date as written", "(table t none (a date))\n(row t (2028 2 9))\n", 2, 17 + 12),
+    ("reserve: the longest date", "(table t none (a date))\n(row t (1 1 1))\n(row t (9999 12 31))\n", 3, 14 + 19 + 12),
+    ("reserve: a labelled date beside a range", "(label shut (allow) (deny))\n(table t cell (a date) (b num))\n(row t ((2028 10 30) shut) ((1 5) shut))\n", 3, 5 + 12 + 1 + 5 + 2 + 12),
     ("reserve: rows that name their table in two cases", "(table Sub none (a name))\n(row sub Ida)\n(ROW SUB ida)\n", 3, 2 * 10 + 12),
 ]
 
@@ -379,7 +500,7 @@ def reserve_of(text):
             schemes[name], printed[name] = table[2].lower(), []
         elif row := re.match(rb"\(row (\S+) (.*)\)", line, re.IGNORECASE):
             name = row[1].lower()
-            # A range (02, Q-12) counts as written.
+            # A range (02, Q-12) and a date (02, Q-14) count as written.
             items = re.findall(rb"\((\([^()]+\)|[^() ]+) [^() ]+\)", row[2]) if schemes[name] == b"cell" else row[2].split(b" ")
             printed[name].append(b"(row " + b" ".join(items[1:] if schemes[name] == b"row" else items) + b")\n")
     return max((len(b"".join(rows)) + len(b"(end %d 0 0)\n" % len(rows)) for rows in printed.values()), default=0)

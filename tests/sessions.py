@@ -205,6 +205,36 @@ ONE_RANGE = RANGES[: RANGES.index("(row est free Bo (3 8))")] + ["(row est noads
 # closed to post, the same in other ends
 OTHER_ENDS = [line.replace("(6 7)", "(-6 70)").replace("(1 9)", "(9 9)") for line in RANGES]
 
+# dates (02, Q-14), under the same labels
+DATES = BLANKS[: BLANKS.index("(table neg cell (k num) (n num))")] + [
+    "(table sub row (who name) (born date) (due num))",
+    "(row sub free Ida (2000 2 29) 5)",
+    "(row sub free Bo (1999 12 31) 7)",
+    "(row sub free Cy (2000 3 1) 7)",
+    "(row sub free Dot (1 1 1) 0)",
+    "(row sub free Eve (9999 12 31) 1)",
+    "(row sub noads Fay (2000 2 29) 3)",
+    "(table cel cell (who name) (born DATE))",
+    "(row cel (Ida free) ((2028 2 9) free))",
+    "(row cel (Bo free) ((2028 10 1) noads))",
+    "(row cel (Cy noads) ((2027 12 31) free))",
+    "(table open none (born date) (due num))",
+    "(public open)",
+    "(row open (2024 2 29) (1 5))",
+    "(row open (2028 2 29) 3)",
+    "(table bare none (born date))",
+    "(row bare (2028 2 29))",
+    "(table led table noads (born date))",
+    "(row led (2028 2 29))",
+    "(table cols column (born date noads) (who name free))",
+    "(row cols (2028 2 29) Gus)",
+]
+# closed to post, the same with other dates
+OTHER_DATES = [
+    line.replace("Fay (2000 2 29)", "Fay (1 12 31)").replace("(2028 10 1)", "(9999 1 1)").replace("led (2028 2 29)", "led (2028 3 1)").replace("(2028 2 29) Gus", "(1 1 1) Gus")
+    for line in DATES
+]
+
 DAY = "(clock 2026 100 10)"
 NIGHT = "(clock 2026 100 21)"
 LEAP = "(clock 2028 366 10)"
@@ -221,6 +251,11 @@ def end(passed, withheld, unmatched):
 def nested(depth):
     """A condition on due of so many brackets, true of every value where the number of `not` is even."""
     return "(not " * (depth - 1) + "(ge due 0)" + ")" * (depth - 1)
+
+
+def nots(count, comparison):
+    """A comparison below so many `not`."""
+    return "(not " * count + comparison + ")" * count
 
 
 def wide(n):
@@ -248,6 +283,28 @@ def both(name, condition, sure, possible):
         one(f"{word}, {name}", f"({word} ana desk post est (who) {condition})", [f"(row {who})" for who in names] + [end(len(names), 1, 5 - len(names))], DAY, RANGES)
         for word, names in (("sure", sure), ("possible", possible))
     ]
+
+
+def dated(name, condition, names):
+    """Five sessions over `sub`, of whose six rows one is withheld: who is given, by each word that asks, and how many are counted."""
+    ended = end(len(names), 1, 5 - len(names))
+    return [
+        one(f"{word}, {name}", f"({word} ana desk post sub (who) {condition})", [f"(row {who})" for who in names] + [ended], DAY, DATES)
+        for word in ("select", "blank", "sure", "possible")
+    ] + [one(f"count, {name}", f"(count ana desk post sub {condition})", [ended], DAY, DATES)]
+
+
+def no_date(name, date):
+    """A constant that is no date is 31 at its bracket."""
+    return one(f"31, {name}", f"(count ana desk post sub (eq born {date}))", (31, date), DAY, DATES)
+
+
+LONG_DATE = "(2028 12 31)"
+
+
+def long_dates(n):
+    """A policy with n rows of a date of 12 bytes."""
+    return SAMPLE[:11] + ["(table long none (who date))", "(public long)"] + [f"(row long {LONG_DATE})"] * n
 
 
 SIXTEEN = " ".join(["who"] * 16)
@@ -536,6 +593,84 @@ SESSIONS = [
     one("possible in mixed case", "(Possible ana desk post Est (Who) (Gt Due 8))", ["(row Eve)", end(1, 1, 4)], DAY, RANGES),
     one("sure, an answer of 59,653 bytes", "(sure ana desk post long (" + SIXTEEN + "))", ["(row" + (" " + LONG_RANGE) * 16 + ")"] * 84 + [end(84, 0, 0)], DAY, long_ranges(84)),
     one("sure, an answer of 60,363 bytes", "(sure ana desk post long (" + SIXTEEN + "))", (18, None), DAY, long_ranges(85)),
+    # dates (02, Q-14)
+    *dated("dates eq", "(eq born (2000 2 29))", ["Ida"]),
+    *dated("dates ne", "(ne born (2000 2 29))", ["Bo", "Cy", "Dot", "Eve"]),
+    *dated("dates lt", "(lt born (2000 2 29))", ["Bo", "Dot"]),
+    *dated("dates le", "(le born (2000 2 29))", ["Ida", "Bo", "Dot"]),
+    *dated("dates gt", "(gt born (2000 2 29))", ["Cy", "Eve"]),
+    *dated("dates ge", "(ge born (2000 2 29))", ["Ida", "Cy", "Eve"]),
+    *dated("the year before the day", "(lt born (2000 1 1))", ["Bo", "Dot"]),
+    *dated("the month before the day", "(gt born (2000 2 28))", ["Ida", "Cy", "Eve"]),
+    *dated("the first date", "(ge born (1 1 1))", ["Ida", "Bo", "Cy", "Dot", "Eve"]),
+    *dated("before the first date", "(lt born (1 1 1))", []),
+    *dated("the last date", "(eq born (9999 12 31))", ["Eve"]),
+    *dated("a year of dates", "(and (ge born (2000 1 1)) (le born (2000 12 31)))", ["Ida", "Cy"]),
+    *dated("dates and not", "(not (ge born (2000 2 29)))", ["Bo", "Dot"]),
+    *dated("dates and numbers", "(or (eq born (1 1 1)) (gt due 5))", ["Bo", "Cy", "Dot"]),
+    *dated("dates in capitals", "(NOT (OR (EQ Born (1 1 1)) (NOT (GT DUE 5))))", ["Bo", "Cy"]),
+    one("dates as written", "(select ana desk post sub (born who))", ["(row (2000 2 29) Ida)", "(row (1999 12 31) Bo)", "(row (2000 3 1) Cy)", "(row (1 1 1) Dot)", "(row (9999 12 31) Eve)", end(5, 1, 0)], DAY, DATES),
+    one("a date twice", "(select ana desk post cel (born BORN))", ["(row (2028 2 9) (2028 2 9))", "(row (2027 12 31) (2027 12 31))", end(2, 1, 0)], DAY, DATES),
+    one("dates of cells", "(select ana desk post cel (who born))", ["(row Ida (2028 2 9))", end(1, 2, 0)], DAY, DATES),
+    one("dates of cells, another purpose", "(select ana desk bill cel (born) (gt born (2027 12 31)))", ["(row (2028 2 9))", "(row (2028 10 1))", end(2, 0, 1)], DAY, DATES),
+    one("a date for a gap", "(blank ana desk post cel (who born))", ["(row Ida (2028 2 9))", "(row Bo -)", "(row - (2027 12 31))", end(3, 0, 0)], DAY, DATES),
+    one("a closed date in a blank's condition", "(blank ana desk post cel (who) (lt born (2028 1 1)))", ["(row -)", end(1, 1, 1)], DAY, DATES),
+    one("a date beside a range, sure", "(sure ana desk post open (born due) (and (eq born (2024 2 29)) (gt due 0)))", ["(row (2024 2 29) (1 5))", end(1, 0, 1)], DAY, DATES),
+    one("a date beside a range, possible", "(possible ana desk post open (due) (not (lt born (2028 2 29))))", ["(row 3)", end(1, 0, 1)], DAY, DATES),
+    one("a date beside a range, select", "(select ana desk post open (born))", ["(row (2024 2 29))", "(row (2028 2 29))", end(2, 0, 0)], DAY, DATES),
+    one("dates of a table open as a whole", "(select ana desk bill led (born) (le born (2028 2 29)))", ["(row (2028 2 29))", end(1, 0, 0)], DAY, DATES),
+    one("dates of an open column", "(select ana desk bill cols (who born))", ["(row Gus (2028 2 29))", end(1, 0, 0)], DAY, DATES),
+    one("closed dates made others, select", "(select ana desk post sub (who born) (ge born (2000 3 1)))", ["(row Cy (2000 3 1))", "(row Eve (9999 12 31))", end(2, 1, 3)], DAY, OTHER_DATES),
+    one("closed dates made others, blank", "(blank ana desk post cel (born who))", ["(row (2028 2 9) Ida)", "(row - Bo)", "(row (2027 12 31) -)", end(3, 0, 0)], DAY, OTHER_DATES),
+    one("closed dates made others, a closed table", "(count ana desk post led (eq born (2028 2 29)))", (17, "led"), DAY, OTHER_DATES),
+    one("dates, an answer of 59,934 bytes", "(select ana desk post long (" + SIXTEEN + "))", ["(row" + (" " + LONG_DATE) * 16 + ")"] * 280 + [end(280, 0, 0)], DAY, long_dates(280)),
+    one("dates, an answer of 60,148 bytes", "(select ana desk post long (" + SIXTEEN + "))", (18, None), DAY, long_dates(281)),
+    # 31
+    no_date("29 February of 1900", "(1900 2 29)"),
+    no_date("29 February of 2100", "(2100 2 29)"),
+    no_date("30 February of 2000", "(2000 2 30)"),
+    no_date("month 0", "(2028 0 1)"),
+    no_date("month 13", "(2028 13 1)"),
+    no_date("day 0", "(2028 1 0)"),
+    no_date("31 April", "(2028 4 31)"),
+    no_date("year 0", "(0 1 1)"),
+    no_date("year 10000", "(10000 1 1)"),
+    no_date("negative numbers", "(-2028 -2 -9)"),
+    no_date("numbers of all sizes", "(9223372036854775807 -9223372036854775808 0)"),
+    one("29 February of 2000 and 2024", "(count ana desk post sub (or (eq born (2000 2 29)) (eq born (2024 2 29))))", [end(1, 1, 4)], DAY, DATES),
+    one("31, the leftmost", "(count ana desk post sub (or (eq born (1 1 1)) (eq born (0 1 1)) (eq born (0 0 0))))", (31, "(0 1 1)"), DAY, DATES),
+    one("31, a comparison that is not reached", "(select ana desk post sub (who) (or (ge due 0) (eq born (0 1 1))))", (31, "(0 1 1)"), DAY, DATES),
+    one("31 where all rows are withheld", "(count ana desk all cel (eq born (0 1 1)))", (31, "(0 1 1)"), DAY, DATES),
+    one("31 of a blank", "(blank ana desk post cel (born) (lt born (2027 2 29)))", (31, "(2027 2 29)"), DAY, DATES),
+    one("31 of sure", "(sure ana desk post open (due) (lt born (2027 2 29)))", (31, "(2027 2 29)"), DAY, DATES),
+    one("31 of possible", "(possible ana desk post open (due) (not (lt born (2027 2 29))))", (31, "(2027 2 29)"), DAY, DATES),
+    one("15 before 31", "(count ana desk post sub (or (eq born (0 1 1)) (eq what 1)))", (15, "what"), DAY, DATES),
+    one("16 before 31", "(count ana desk post sub (or (eq born (0 1 1)) (eq due x)))", (16, "x"), DAY, DATES),
+    one("27 before 31", "(select ana desk post open (due) (eq born (0 1 1)))", (27, "due"), DAY, DATES),
+    one("31 before 17, a closed table", "(count ana desk post led (eq born (0 1 1)))", (31, "(0 1 1)"), DAY, DATES),
+    one("31 before 17, a closed column", "(select ana desk post cols (who) (eq born (0 1 1)))", (31, "(0 1 1)"), DAY, DATES),
+    one("31 before 17, an undeclared table", "(count ana desk post bare (eq born (0 1 1)))", (31, "(0 1 1)"), DAY, DATES),
+    one("17 behind a date that there is", "(select ana desk post cols (who) (eq born (1 1 1)))", (17, "born"), DAY, DATES),
+    one("31 before 18", "(select ana desk post long (" + SIXTEEN + ") (ne who (0 1 1)))", (31, "(0 1 1)"), DAY, long_dates(281)),
+    # 16 and 11 of dates
+    one("a number for a date", "(count ana desk post sub (eq born 2000))", (16, "2000"), DAY, DATES),
+    one("a name for a date", "(count ana desk post sub (eq born today))", (16, "today"), DAY, DATES),
+    one("a date for a number", "(count ana desk post sub (eq due (2000 2 29)))", (16, "(2000 2 29)"), DAY, DATES),
+    one("a date of no day for a number", "(count ana desk post sub (eq due (0 1 1)))", (16, "(0 1 1)"), DAY, DATES),
+    one("a date for a name", "(count ana desk post sub (ne who (2000 2 29)))", (16, "(2000 2 29)"), DAY, DATES),
+    one("an operator and a date for a name", "(count ana desk post sub (lt who (2000 2 29)))", (16, "lt"), DAY, DATES),
+    one("a range for a date", "(count ana desk post sub (eq born (1 5)))", (11, WHOLE), DAY, DATES),
+    one("a date of four numbers", "(count ana desk post sub (eq born (2000 2 29 1)))", (11, WHOLE), DAY, DATES),
+    one("a date with a month's name", "(count ana desk post sub (eq born (2000 feb 29)))", (11, WHOLE), DAY, DATES),
+    one("a date with leading zeros", "(count ana desk post sub (eq born (2000 02 29)))", (11, WHOLE), DAY, DATES),
+    one("a date with a number out of range", "(count ana desk post sub (eq born (2000 2 9223372036854775808)))", (11, WHOLE), DAY, DATES),
+    one("a date in a bracket of its own", "(count ana desk post sub (eq born ((2000 2 29))))", (11, WHOLE), DAY, DATES),
+    one("a date for a column", "(select ana desk post sub ((2000 2 29)))", (11, WHOLE), DAY, DATES),
+    one("a date for a condition", "(count ana desk post sub (2000 2 29))", (11, WHOLE), DAY, DATES),
+    one("a date left in a comparison", "(count ana desk post sub (eq (2000 2 29) born))", (11, WHOLE), DAY, DATES),
+    one("a date's bracket 16 deep", "(count ana desk post sub " + nots(13, "(eq born (2000 2 29))") + ")", [end(4, 1, 1)], DAY, DATES),
+    one("a date's bracket 16 deep, 31", "(count ana desk post sub " + nots(13, "(eq born (0 1 1))") + ")", (31, "(0 1 1)"), DAY, DATES),
+    one("a date's bracket 17 deep", "(count ana desk post sub " + nots(14, "(eq born (2000 2 29))") + ")", (11, WHOLE), DAY, DATES),
     # names without case (02, Q-8)
     one("user, role, purpose and table in another case", "(count Ana DESK Post SUB)", [end(4, 0, 0)]),
     one("a purpose in another case than its definition, grant and label", "(select ana desk ADS Recs (who))", ["(row Fay)", end(1, 1, 0)], DAY, TWO_CASES),
@@ -648,5 +783,7 @@ def cases():
     yield "a public line for an unknown table", (once + "(public nowhere)\n").encode(), (DAY + "\n").encode(), f"(refused 5 document {len(once) + 8} 7)\n".encode()
     ranges = "".join(line + "\n" for line in RANGES)
     yield "a reversed range", (ranges + "(row est free Gus (7 6))\n").encode(), (DAY + "\n").encode(), f"(refused 28 document {len(ranges) + 18} 5)\n".encode()
+    dates = "".join(line + "\n" for line in DATES)
+    yield "a date of no day", (dates + "(row sub free Gus (1900 2 29) 1)\n").encode(), (DAY + "\n").encode(), f"(refused 31 document {len(dates) + 18} 11)\n".encode()
     yield "a zero byte in a query", sample, LEAP.encode() + b"\n(count ana desk post sub\0)\n", b"(refused 11 query 0 26)\n"
     yield "bytes above 127", sample, LEAP.encode() + b"\n\xff\xfe\xc3\xa9\n", b"(refused 11 query 0 4)\n"
