@@ -59,6 +59,7 @@ enum gate_outcome {
                                       table's scheme; part: the whole line */
     GATE_WRONG_TYPE = 8,           /* a value or operator of the wrong type; part: the operator or the value */
     GATE_RANGE_REVERSED = 28,      /* a range with LOW above HIGH; part: the range, its bracket included */
+    GATE_NO_SUCH_DATE = 31,        /* no such date; part: the date, its bracket included */
     GATE_LATE_ATTRIBUTE = 9,       /* an attr line after any user line; part: the whole line */
 
     /* of the query, by gate_ask and, but for 18, by gate_measure */
@@ -70,6 +71,7 @@ enum gate_outcome {
     GATE_UNKNOWN_COLUMN = 15,      /* table or named column unknown; part: that name */
     GATE_MISTYPED_QUERY = 16,      /* wrong type in the condition; part: the operator or the value */
     GATE_RANGE_NOT_TAKEN = 27,     /* a range in any row of a named column in a select, blank or count; part: that column */
+    /* GATE_NO_SUCH_DATE, 31 as above: no such date; part: the date, its bracket included */
     GATE_CLOSED = 17,              /* table or column closed; part: that table or column */
     GATE_BUFFER_TOO_SHORT = 18,    /* answer longer than the lent buffer; part: empty, at the start */
 
@@ -138,13 +140,13 @@ struct gate_document {
     uint64_t rows[35840];
 };
 
-/* Checks a document. Returns GATE_ACCEPTED, or the number of a refusal, 1 to 9 or 28. */
+/* Checks a document. Returns GATE_ACCEPTED, or the number of a refusal, 1 to 9, 28 or 31. */
 uint64_t gate_check(const uint8_t *doc, size_t doc_len, uint64_t *figures);
 
 /* Asks a document with a query at the time of the clock: year 1 to 9999, day 1 to 365 or in a leap year 366, hour 0 to 23.
  * The document is checked each time, so gate_check need not come first; a host that asks it again loads it once (gate_load).
  * Returns GATE_ACCEPTED, the answer standing in the first bytes of `out` and the bytes behind it being as they were; or the
- * number of a refusal, 1 to 18, 27 or 28, every byte of `out` being as it was. */
+ * number of a refusal, 1 to 18, 27, 28 or 31, every byte of `out` being as it was. */
 uint64_t gate_ask(const uint8_t *doc, size_t doc_len, const uint8_t *query, size_t query_len, uint64_t year, uint64_t day,
                   uint64_t hour, uint8_t *out, size_t out_len, uint64_t *figures);
 
@@ -170,7 +172,7 @@ uint64_t gate_measure_arrays(const uint8_t *doc, size_t doc_len, const uint64_t 
                              const uint8_t *query, size_t query_len, const uint64_t *clock, uint64_t *figures);
 
 /* Checks a document, as gate_check does and with the same figures, and holds it in the struct, whatever that held before.
- * Returns GATE_ACCEPTED, or the number of a refusal, 1 to 9 or 28; the struct then holds none. With a library of another version than
+ * Returns GATE_ACCEPTED, or the number of a refusal, 1 to 9, 28 or 31; the struct then holds none. With a library of another version than
  * this header's it gives GATE_NOT_LOADED. */
 static inline uint64_t gate_load(struct gate_document *loaded, const uint8_t *doc, size_t doc_len, uint64_t *figures)
 {
