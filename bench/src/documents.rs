@@ -184,8 +184,9 @@ impl Case {
         Case { select: sure, blank: possible, ..self }
     }
 
-    pub fn is_ranged(&self) -> bool {
-        RANGED.contains(&self.scheme)
+    /// Whether the peers have no such values.
+    pub fn is_alone(&self) -> bool {
+        ALONE.contains(&self.scheme)
     }
 
     /// How many row lines it has.
@@ -275,6 +276,35 @@ fn with_ranges(line: &str, both: bool) -> String {
     words.join(" ") + ")"
 }
 
+/// Documents full of dates (02, Q-14), three in each row; and the same rows with a number for each, year, month and day in one.
+pub const DATES: &str = "dates";
+pub const DAYS: &str = "days";
+
+pub fn dates() -> Vec<Case> {
+    let most: Vec<usize> = (1..=MOST_ROWS).collect();
+    let rows = |bytes: usize| most.partition_point(|&rows| calendar(DATES, "", rows).text.len() <= bytes);
+    let of = |scheme: &'static str| SIZES.map(|(size, bytes)| calendar(scheme, size, rows(bytes)));
+    of(DATES).into_iter().chain(of(DAYS)).collect()
+}
+
+/// So many rows of a name and three days, and a select by two of them.
+fn calendar(scheme: &'static str, size: &'static str, rows: usize) -> Case {
+    let written = |year: u64, month: u64, day: u64| match scheme {
+        DATES => format!("({year} {month} {day})"),
+        _ => format!("{year}{month:02}{day:02}"),
+    };
+    let kind = if scheme == DATES { "date" } else { "num" };
+    let mut text = format!("{POLICY}(table sub none (who name) (born {kind}) (since {kind}) (paid {kind}))\n(public sub)\n");
+    let mut sequence = Sequence(0x9e37_79b9_7f4a_7c15);
+    for number in 0..rows {
+        let mut day = |first: u64, years: u64| written(first + sequence.below(years), 1 + sequence.below(12), 1 + sequence.below(28));
+        text.push_str(&format!("(row sub Subscriber-{number:04} {} {} {})\n", day(1940, 70), day(1990, 38), day(2027, 2)));
+    }
+    let condition = format!("(and (gt since {}) (ne paid {}))", written(2009, 6, 30), written(2028, 2, 29));
+    let select = format!("(select ana desk post sub (who since) {condition})");
+    Case::new(scheme, size, text.into_bytes(), select, format!("(count ana desk post sub {condition})"))
+}
+
 /// Documents without rows: so many purposes, each below the one before it. The root is granted and the last is asked for.
 pub const CHAIN: &str = "chain";
 
@@ -296,11 +326,11 @@ fn purpose(number: usize) -> String {
 }
 
 /// The cases that are made to be bad, which the goals leave out.
-pub const BAD: [&str; 11] = ["full", "turns", "dear", "front", "mixed", "nots", "cased", "alike", "wide", "gaps", "ends"];
+pub const BAD: [&str; 12] = ["full", "turns", "dear", "front", "mixed", "nots", "cased", "alike", "wide", "gaps", "ends", "dated"];
 
-/// The cases with ranges (02, Q-12): asked by sure in place of select and by possible in place of blank, and not by the peers, which have
-/// no such values.
-pub const RANGED: [&str; 2] = ["ranges", "ends"];
+/// The cases with ranges (02, Q-12), asked by sure in place of select and by possible in place of blank, and those with dates (02, Q-14)
+/// with their numbers: not asked of the peers.
+pub const ALONE: [&str; 5] = ["ranges", "ends", DATES, DAYS, "dated"];
 
 /// Lookups that are dear: 64 labels of 24 bytes that differ in the last two, each of 16 cells in a row with the last of them.
 pub fn dear_lookups() -> Case {
@@ -401,6 +431,11 @@ pub fn both_ends() -> Case {
     let all = " (-9223372036854775808 9223372036854775807)";
     let case = plain("ends", " (c00 num)", all, "c00", &format!("(and{})", format!(" {compared}").repeat(64))).ranged();
     Case { count: "(count ana desk all sub)".into(), ..case }
+}
+
+/// 64 comparisons with the day before the one that stands in every row, in a condition that needs all of them.
+pub fn next_days() -> Case {
+    plain("dated", " (c00 date)", " (2028 12 31)", "c00", &format!("(and{})", " (gt c00 (2028 12 30))".repeat(64)))
 }
 
 /// 64 comparisons of names that are the same to the last byte, every one of which is met in every row.

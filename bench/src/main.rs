@@ -185,7 +185,7 @@ fn agree_sqlite(case: &Case, call: Call, sqlite: &Sqlite, answer: &[u8]) {
 
 /// Loads a document wherever it can be loaded, all answers being the same.
 fn hold(case: &Case) -> Holders {
-    let sqlite = if case.is_ranged() { None } else { Sqlite::open(case) };
+    let sqlite = if case.is_alone() { None } else { Sqlite::open(case) };
     let mut holders = Holders { loaded: Loaded::new(), sqlite };
     assert_eq!(holders.loaded.load(&case.text).0, 0, "{} is loaded", key(case));
     for call in CALLS {
@@ -287,6 +287,7 @@ fn once(what: &str, case: &Case) {
 fn main() -> std::io::Result<()> {
     let mut cases = documents::cases();
     cases.extend(documents::ranges());
+    cases.extend(documents::dates());
     cases.push(documents::chain("64", 64));
     cases.push(documents::chain("256", 256));
     cases.push(documents::full_condition());
@@ -300,6 +301,7 @@ fn main() -> std::io::Result<()> {
     cases.push(documents::wide_answer());
     cases.push(documents::gaps());
     cases.push(documents::both_ends());
+    cases.push(documents::next_days());
     let words: Vec<String> = std::env::args().skip(1).collect();
     let words: Vec<&str> = words.iter().map(String::as_str).collect();
     let named = |wanted: &str| cases.iter().find(|case| key(case) == wanted).expect("a key that `bench keys` prints");

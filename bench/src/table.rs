@@ -1,6 +1,6 @@
 //! The tables: times, ratios of the same run, goals and noise.
 
-use crate::documents::{BAD, CHAIN, Case};
+use crate::documents::{BAD, CHAIN, Case, DATES, DAYS};
 use crate::{peers, Call, Measured, Samples, CALLS};
 
 /// The largest of some ratios, and of which row.
@@ -66,7 +66,19 @@ fn explain(turns: usize, in_a_row: usize) {
     println!("nots: 64 comparisons below five nots each; alike: 64 of names that are the same; cased: the same but for their case; wide: one column selected sixteen times.");
     println!("gaps: sixteen columns selected, every other cell closed, so that a select gives no row and a blank eight gaps in each.");
     println!("ranges: scheme none, a range for every other amount; ends: 64 comparisons below five nots each with the range of all numbers.");
-    println!("Of these two the rows select and blank are of sure and possible.\n");
+    println!("Of these two the rows select and blank are of sure and possible.");
+    println!("dates: scheme none, three dates in each row; days: the same rows with a number for each; dated: 64 comparisons of dates.\n");
+}
+
+/// What dates cost: the largest document of them over that of as many rows with numbers, in time and in bytes.
+fn dates_over_numbers(cases: &[Case], measured: &[Measured]) {
+    let full = |scheme: &str| cases.iter().zip(measured).filter(|(case, _)| case.scheme == scheme).last();
+    let (Some((dates, of_dates)), Some((days, of_days))) = (full(DATES), full(DAYS)) else { return };
+    print!("dates over numbers, {} rows each:", dates.rows());
+    for (at, call) in CALLS.into_iter().enumerate() {
+        print!(" {} {:.2},", call.word(), of_dates.calls[at].gate.time() / of_days.calls[at].gate.time());
+    }
+    println!(" bytes {:.2}", dates.text.len() as f64 / days.text.len() as f64);
 }
 
 /// Asking from the text, and its goals.
@@ -117,6 +129,7 @@ fn from_text(cases: &[Case], measured: &[Measured]) {
     selected.say(4.2, "gate/bytes of selects of full documents");
     grown.say(2.2, "growth where the text doubles");
     chained.say(2.5, "query with 256 purposes over 64");
+    dates_over_numbers(cases, measured);
 }
 
 pub fn print(cases: &[Case], measured: &[Measured], turns: usize, in_a_row: usize) {

@@ -1,5 +1,5 @@
 //! Documents that are dear to check: as many names of one kind as there may be, of 24 bytes each, alike but for a few bytes, of one
-//! hash, or in mixed case. The gate's check beside the reference's.
+//! hash, or in mixed case; and rows full of dates. The gate's check beside the reference's.
 
 use crate::samples::Samples;
 use crate::{gate, plain, taken};
@@ -270,6 +270,13 @@ fn long_line(repeats: bool) -> Vec<u8> {
     text.into_bytes()
 }
 
+/// Rows of 16 equal values, as long as there is room.
+fn wide_rows(kind: &str, value: &str) -> Vec<u8> {
+    let columns: String = (0..16).map(|column| format!(" (c{column} {kind})")).collect();
+    let row = format!("(row sub{})\n", format!(" {value}").repeat(16));
+    filled(format!("(table sub none{columns})\n"), std::iter::repeat_n(row, 1_024))
+}
+
 /// What a row of the table is called, and its document.
 fn documents() -> Vec<(String, Vec<u8>)> {
     type Kind = (&'static str, fn(&[String]) -> Vec<u8>);
@@ -299,6 +306,10 @@ fn documents() -> Vec<(String, Vec<u8>)> {
     }
     documents.push(("a line of 14,990 names; refused with 5".into(), long_line(false)));
     documents.push(("the same, and the first again; refused with 4".into(), long_line(true)));
+    // 02, Q-14: long dates beside numbers as long, and short ones.
+    documents.push(("rows of 16 dates".into(), wide_rows("date", "(9999 12 31)")));
+    documents.push(("rows of 16 numbers, as long as the dates".into(), wide_rows("num", "999912319999")));
+    documents.push(("rows of 16 short dates".into(), wide_rows("date", "(1 1 1)")));
     documents
 }
 
