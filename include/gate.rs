@@ -229,7 +229,7 @@ pub fn measure(doc: &[u8], query: &[u8], clock: Clock) -> Result<usize, Refusal>
 }
 
 /// The version of the struct below, as include/gate.h has it.
-const DOCUMENT_VERSION: u64 = 7_700_002;
+const DOCUMENT_VERSION: u64 = 7_700_003;
 
 /// As `struct gate_document` in include/gate.h.
 #[repr(C)]
@@ -243,8 +243,8 @@ struct Document {
     grants: [u64; 256],
     labels: [u64; 64],
     sets: [u64; 512],
-    tables: [u64; 424],
-    rows: [u64; 35840],
+    tables: [u64; 440],
+    rows: [u64; 36864],
 }
 
 /// A document with its text, checked once and asked often. The two are made together and only read afterwards, so that no text is

@@ -210,7 +210,7 @@ CASES = [
     ("label without deny", after(BASE, "(label l (allow))"), (2, len(BASE), None)),
     ("label turned", after(BASE, "(label l (deny) (allow))"), (2, len(BASE), None)),
     ("table without column", after(LABELS, "(table x none)"), (2, len(LABELS), None)),
-    ("table of another scheme", after(LABELS, "(table x nest (a num))"), (2, len(LABELS), None)),
+    ("table of another scheme", after(LABELS, "(table x nested (a num))"), (2, len(LABELS), None)),
     ("column scheme without label", after(LABELS, "(table x column (a num))"), (2, len(LABELS), None)),
     ("public without a table", after(TABLES, "(public)"), (2, len(TABLES), None)),
     ("public with two tables", after(TABLES, "(public n t)"), (2, len(TABLES), None)),

@@ -18,7 +18,7 @@ use Rattle.condition.specs.Cond.{Cond, comparisonsIn}
 use Rattle.condition.specs.Ranges.{Mode, meetsIn, other, passesIn}
 use Rattle.document.proofs.OpenLaws.{shown-open}
 use Rattle.document.specs.Lookup.{labellingAt}
-use Rattle.document.specs.Open.{cellOpen, labelOpen, rowWithheld}
+use Rattle.document.specs.Open.{Opening, cellOpen, openTo, rowWithheld}
 use Rattle.document.specs.Policy.{Doc, Row}
 use Rattle.form.specs.Form.{Scheme, byCell}
 use Rattle.lists.proofs.KeptLaws.{count-map, count-three, flatten-keep, map-agree}
@@ -34,7 +34,7 @@ use Rattle.text.specs.Numbers.{Value}
 
 -- of three columns the second and third are named, and the third is closed: its value is a gap, and the first's is not seen
 named-alone : (t : ℕ) (a b c : Value)
-    → seenRow (λ l. eqb (orZero l) 0) byCell (1 ∷ []) (1 ∷ 2 ∷ []) (record { table = t; values = a ∷ b ∷ c ∷ []; labels = 0 ∷ 0 ∷ 1 ∷ [] }) ≡ shown ([] ∷ b ∷ gap ∷ [])
+    → seenRow (record { label = λ l. eqb (orZero l) 0; nest = λ s t r c. false }) byCell (1 ∷ []) (1 ∷ 2 ∷ []) (record { table = t; values = a ∷ b ∷ c ∷ []; labels = 0 ∷ 0 ∷ 1 ∷ [] }) ≡ shown ([] ∷ b ∷ gap ∷ [])
 unfolding seenRow rowWithheld seenValues seenValue cellOpen member anyOf orZero
 named-alone t a b c = refl
 
@@ -121,9 +121,9 @@ line-told true x y l m h k = refl
 line-told false x y l m h k = λ i. cond (h refl i) (k refl i) []
 
 module _ (d : Doc) (q : Query) (parts : NamesParts q) (open-parts : PartsOpen (d .policy) q) where
-  -- the test of labels, and the scheme with what later lines say
-  abbrev isOpen : Option ℕ → Bool
-  isOpen = labelOpen (d .policy) (q .purpose)
+  -- what is open, and the scheme with what later lines say
+  abbrev isOpen : Opening
+  isOpen = openTo (d .policy) (q .purpose)
 
   abbrev scheme : Scheme ℕ
   scheme = labellingAt (d .policy) (q .source .table)

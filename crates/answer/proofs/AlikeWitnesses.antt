@@ -1,4 +1,4 @@
--- Pairs of documents that pin which values may differ (01, "The no-difference claim"; 02, Q-2, Q-8, Q-10, Q-12), by computation, both ways: for each
+-- Pairs of documents that pin which values may differ (01, "The no-difference claim"; 02, Q-2, Q-8, Q-10, Q-11, Q-12, Q-14), by computation, both ways: for each
 -- reason that lets a value differ a pair that is alike for that reason alone, and pairs that are not alike. The claim itself
 -- does not pin the reasons: it gets easier where fewer values are free.
 use Prim.Native.Nat.{ℕ}
@@ -59,6 +59,14 @@ cells = labelled ++ ascii "(table t cell (a num) (b num))\n"
 unfoldable pub namedCells : List ℕ
 namedCells = labelled ++ ascii "(table t cell (a name) (b name))\n"
 
+-- a nest table (02, Q-11); `no` denies ads, and `shut` says nothing
+unfoldable pub nest : List ℕ
+nest = labelled ++ ascii "(label no (allow) (deny ads))\n(table t nest (a num) (b num))\n"
+
+-- the same with a column of dates (02, Q-14)
+unfoldable pub nestDates : List ℕ
+nestDates = labelled ++ ascii "(label no (allow) (deny ads))\n(table t nest (a num) (b date))\n"
+
 -- ---- the witnesses: the policy, the query text, and the lines behind the policy in the one document and in the other
 
 unfoldable pub alikeFor : List ℕ → String → String → String → Witness
@@ -118,6 +126,19 @@ freeValues =
     ∷ alikeFor shutTable "(select ana desk ads t (a))" "(row t (1 2))\n" "(row t (-3 4))\n"
     ∷ alikeFor cells "(sure ana desk ads t (a b) (gt b 1))" "(row t ((1 5) open) ((2 3) shut))\n" "(row t ((1 9) open) ((0 3) shut))\n"
     ∷ alikeFor plain "(possible ana desk ads t (a))" "(row t 1 (5 5))\n" "(row t 1 (1 9))\n"
+    -- in a nest table (02, Q-11): closed, since nothing allows it, in a blank that gives its row; denied by its own label, by its row's, by
+    -- the table's weak one, though the table, the row, or the label above allows it; denied by the strong label, though the rest allow it
+    ∷ alikeFor nest "(blank ana desk ads t (a b))" "(row t shut (1 shut) (2 open))\n" "(row t shut (3 shut) (2 open))\n"
+    ∷ alikeFor nest "(blank ana desk ads t (a b))" "(row t open (1 no) (2 open))\n" "(row t open (3 no) (2 open))\n"
+    ∷ alikeFor nest "(blank ana desk ads t (a))" "(weak t open)\n(row t no (1 shut) (2 open))\n" "(weak t open)\n(row t no (3 shut) (2 open))\n"
+    ∷ alikeFor nest "(blank ana desk ads t (a))" "(weak t no)\n(row t shut (1 shut) (2 open))\n" "(weak t no)\n(row t shut (3 shut) (2 open))\n"
+    ∷ alikeFor nest "(select ana desk ads t (a))" "(strong t no)\n(weak t open)\n(row t open (1 open) (2 open))\n" "(strong t no)\n(weak t open)\n(row t open (3 open) (2 open))\n"
+    -- its row is withheld for another cell; its column is not named
+    ∷ alikeFor nest "(select ana desk ads t (a b))" "(row t shut (1 open) (2 shut))\n" "(row t shut (3 open) (2 shut))\n"
+    ∷ alikeFor nest "(select ana desk ads t (a))" "(row t open (1 open) (2 open))\n" "(row t open (1 open) (3 open))\n"
+    -- either end of a closed range, and a closed date
+    ∷ alikeFor nest "(sure ana desk ads t (a b))" "(row t open (1 open) ((2 3) no))\n" "(row t open (1 open) ((0 9) no))\n"
+    ∷ alikeFor nestDates "(blank ana desk ads t (a b))" "(row t open (1 open) ((2028 2 29) no))\n" "(row t open (1 open) ((1 12 31) no))\n"
     ∷ []
 
 -- what may not differ
@@ -173,6 +194,23 @@ fixedValues =
     -- an end of an open range in a named column: selected, in the condition
     ∷ unlikeFor plain "(sure ana desk ads t (b))" "(row t 1 (2 3))\n" "(row t 1 (2 4))\n"
     ∷ unlikeFor plain "(possible ana desk ads t (a) (gt b 3))" "(row t 1 (2 3))\n" "(row t 1 (1 3))\n"
+    -- an open value of a nest table (02, Q-11): allowed by its own label, by its row's, by the table's weak one alone; denied above and
+    -- allowed again; allowed by the strong label, though the rest deny it; in a blank, beside a gap
+    ∷ unlikeFor nest "(select ana desk ads t (a))" "(row t shut (1 open) (2 shut))\n" "(row t shut (3 open) (2 shut))\n"
+    ∷ unlikeFor nest "(select ana desk ads t (a))" "(row t open (1 shut) (2 shut))\n" "(row t open (3 shut) (2 shut))\n"
+    ∷ unlikeFor nest "(select ana desk ads t (a))" "(weak t open)\n(row t shut (1 shut) (2 shut))\n" "(weak t open)\n(row t shut (3 shut) (2 shut))\n"
+    ∷ unlikeFor nest "(select ana desk ads t (a))" "(weak t no)\n(row t open (1 shut) (2 shut))\n" "(weak t no)\n(row t open (3 shut) (2 shut))\n"
+    ∷ unlikeFor nest "(select ana desk ads t (a))" "(weak t no)\n(row t no (1 open) (2 shut))\n" "(weak t no)\n(row t no (3 open) (2 shut))\n"
+    ∷ unlikeFor nest "(select ana desk ads t (a))" "(strong t open)\n(weak t no)\n(row t no (1 no) (2 no))\n" "(strong t open)\n(weak t no)\n(row t no (3 no) (2 no))\n"
+    ∷ unlikeFor nest "(blank ana desk ads t (a b))" "(row t shut (1 open) (2 no))\n" "(row t shut (3 open) (2 no))\n"
+    -- an open date; a closed range that ceases to be one
+    ∷ unlikeFor nestDates "(blank ana desk ads t (a b))" "(row t open (1 open) ((2028 2 29) shut))\n" "(row t open (1 open) ((2028 3 1) shut))\n"
+    ∷ unlikeFor nest "(blank ana desk ads t (a b))" "(row t open (1 open) ((2 3) no))\n" "(row t open (1 open) (2 no))\n"
+    -- a nest row's label; a cell's; a weak line, a strong one
+    ∷ unlikeFor nest "(count ana desk post t)" "(row t open (1 open) (2 open))\n" "(row t shut (1 open) (2 open))\n"
+    ∷ unlikeFor nest "(count ana desk post t)" "(row t open (1 open) (2 open))\n" "(row t open (1 open) (2 shut))\n"
+    ∷ unlikeFor nest "(count ana desk post t)" "(weak t open)\n(row t open (1 open) (2 open))\n" "(weak t shut)\n(row t open (1 open) (2 open))\n"
+    ∷ unlikeFor nest "(count ana desk post t)" "(strong t open)\n(row t open (1 open) (2 open))\n" "(strong t shut)\n(row t open (1 open) (2 open))\n"
     -- a refused document: the second, the first, both
     ∷ unlikeFor plain "" "(row t 1 2)\n" "(row t 1 x)\n"
     ∷ unlikeFor plain "" "(row t 1 x)\n" "(row t 1 2)\n"
@@ -185,7 +223,7 @@ asExpected w = not (sameBytes (w .first) (w .second)) && Bool·beq (alike? (w .t
 
 -- Of every witness the test says what is expected.
 pub witnesses : allOf asExpected (freeValues ++ fixedValues) ≡ true
-unfolding computing asker undeclared plain named labelled shutTable openTable columns rows cells namedCells alikeFor unlikeFor freeValues fixedValues asExpected
+unfolding computing asker undeclared plain named labelled shutTable openTable columns rows cells namedCells nest nestDates alikeFor unlikeFor freeValues fixedValues asExpected
 witnesses = refl
 
 -- ---- so it is with being alike itself

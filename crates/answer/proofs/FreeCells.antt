@@ -9,7 +9,7 @@ use mathlib.Core.Option.{Option, none, some}
 use mathlib.Core.Path.{_∙_, _≡_, ap, refl, sym}
 use Rattle.answer.specs.Alike.{free, sees}
 use Rattle.document.specs.Lookup.{columnOf, columnsOf, purposeOf, labellingAt, tableOf}
-use Rattle.document.specs.Open.{cellOpen, labelOpen, rowWithheld}
+use Rattle.document.specs.Open.{cellOpen, openTo, rowWithheld}
 use Rattle.document.specs.Policy.{Policy, Row}
 use Rattle.lists.specs.Lists.{anyOf, found, holdsOf, member, orZero, there}
 use Rattle.query.proofs.Sources.{named-columns, sources-known, sources-unknown, withholding-columns, withholdingWords}
@@ -50,18 +50,18 @@ module _ (d : Policy) (q : QueryForm) (r : Row) (c : ℕ) where
 
   -- cell c is open to the purpose p, in a table of this number
   abbrev opened : ℕ → ℕ → Bool
-  opened p t = cellOpen (labelOpen d p) (labellingAt d t) (r .labels) c
+  opened p t = cellOpen (openTo d p) (labellingAt d t) (r .labels) c
 
   -- the row is withheld from the purpose p, in a table of this number
   abbrev out : ℕ → ℕ → Bool
-  out p t = rowWithheld (labelOpen d p) (labellingAt d t) withholding (r .labels)
+  out p t = rowWithheld (openTo d p) (labellingAt d t) withholding (r .labels)
 
   -- what is seen through the query's table
   through : (p : ℕ) → sees d p r c (sourceOf d q (q .table)) ≡ (eqb (r .table) (orZero (tableOf d (q .table))) && (not (out p (orZero (tableOf d (q .table)))) && (member c columns && opened p (orZero (tableOf d (q .table))))))
   unfolding sees sourceOf
   through p =
       let t : ℕ = orZero (tableOf d (q .table)) in
-      λ i. eqb (r .table) t && (not (rowWithheld (labelOpen d p) (labellingAt d t) (withholding-columns d q i) (r .labels)) && (member c (named-columns d q i) && opened p t))
+      λ i. eqb (r .table) t && (not (rowWithheld (openTo d p) (labellingAt d t) (withholding-columns d q i) (r .labels)) && (member c (named-columns d q i) && opened p t))
 
   -- A value may differ exactly where its cell is closed, or elsewhere, or not named, or in a withheld row.
   pub free-cells : free d (some q) r c

@@ -7,9 +7,9 @@ use mathlib.Core.Logic.{_⊎_, inl, inr}
 use mathlib.Core.Option.{Option, some}
 use mathlib.Core.Path.{_∙_, _≡_, ap, refl, subst, sym}
 use native.Mathlib.Omega.{arith}
-use Rattle.document.proofs.OpenLaws.{columnOpen-more, rowWithheld-less, shown-open, tableOpen-more}
+use Rattle.document.proofs.OpenLaws.{Wider, columnOpen-more, rowWithheld-less, shown-open, tableOpen-more}
 use Rattle.document.specs.Lookup.{labellingAt, purposeOf}
-use Rattle.document.specs.Open.{cellOpen, columnOpen, labelOpen, rowWithheld, tableOpen}
+use Rattle.document.specs.Open.{Opening, cellOpen, columnOpen, openTo, rowWithheld, tableOpen}
 use Rattle.document.specs.Policy.{Doc, Row, treeOf}
 use Rattle.form.specs.Form.{Scheme}
 use Rattle.answer.proofs.AcceptedOrRefused.{answered, is-answered}
@@ -20,7 +20,7 @@ use Rattle.answer.specs.Seen.{Seen, gap, rowsIn, seenIn, seenRow, seenRo
 use Rattle.lists.proofs.Tests.{true-not-false}
 use Rattle.lists.specs.Lists.{countOf, member, orZero}
 use Rattle.purpose.specs.Compliance.{descends}
-use Rattle.query.proofs.Below.{forPurpose, grant-below, label-down, parts-down, party-down, resolved-down, toPurpose}
+use Rattle.query.proofs.Below.{forPurpose, grant-below, open-down, parts-down, party-down, resolved-down, toPurpose}
 use Rattle.query.proofs.NamedAll.{all-withhold}
 use Rattle.query.proofs.NamedColumns.{columns-known, names-parts, parts-open}
 use Rattle.query.proofs.WantedLaws.{gaps-map}
@@ -101,7 +101,7 @@ seen-open o o′ ns h i (v ∷ vs) = λ j. go (member i ns) refl j ∷ seen-open
 
 -- where more labels are open, each row of an open table with open columns, of which all that are named withhold, is withheld before or
 -- seen as before
-module _ (isOpen isOpen′ : Option ℕ → Bool) (wider : (l : Option ℕ) → isOpen l ≡ true → isOpen′ l ≡ true) (s : Scheme ℕ) (ns : List ℕ)
+module _ (isOpen isOpen′ : Opening) (wider : Wider isOpen isOpen′) (s : Scheme ℕ) (ns : List ℕ)
     (open-table : tableOpen isOpen s ≡ true) (open-columns : (c : ℕ) → member c ns ≡ true → columnOpen isOpen s c ≡ true) where
   both-open : (r : Row) → rowWithheld isOpen s ns (r .labels) ≡ false → rowWithheld isOpen′ s ns (r .labels) ≡ false
       → (c : ℕ) → member c ns ≡ true → (cellOpen isOpen s (r .labels) c ≡ true) × (cellOpen isOpen′ s (r .labels) c ≡ true)
@@ -121,15 +121,15 @@ module _ (isOpen isOpen′ : Option ℕ → Bool) (wider : (l : Option ℕ) → 
       go false true e f = true-not-false (rowWithheld-less isOpen isOpen′ wider s ns (r .labels) f) e
 
 seen-further : (d : Doc) (q : Query) (p : ℕ) → q .source .withholding ≡ q .source .named → PartsOpen (d .policy) q
-    → ((l : Option ℕ) → labelOpen (d .policy) (q .purpose) l ≡ true → labelOpen (d .policy) p l ≡ true)
+    → Wider (openTo (d .policy) (q .purpose)) (openTo (d .policy) p)
     → Further (seenRows d q) (seenRows d (toPurpose p q))
 unfolding seenRows seenIn toPurpose
 seen-further d q p all open-parts wider =
     subst (λ hs. Further (seenBy hs (q .purpose)) (seenBy hs p)) (sym all)
-    (map-further _ _ (row-further (labelOpen (d .policy) (q .purpose)) (labelOpen (d .policy) p) wider (labellingAt (d .policy) (q .source .table)) (q .source .named) (open-parts .table) (open-parts .columns)) (rowsIn (q .source .table) (d .rows)))
+    (map-further _ _ (row-further (openTo (d .policy) (q .purpose)) (openTo (d .policy) p) wider (labellingAt (d .policy) (q .source .table)) (q .source .named) (open-parts .table) (open-parts .columns)) (rowsIn (q .source .table) (d .rows)))
   where
     seenBy : List ℕ → ℕ → List Seen
-    seenBy hs p = map (seenRow (labelOpen (d .policy) p) (labellingAt (d .policy) (q .source .table)) hs (q .source .named)) (rowsIn (q .source .table) (d .rows))
+    seenBy hs p = map (seenRow (openTo (d .policy) p) (labellingAt (d .policy) (q .source .table)) hs (q .source .named)) (rowsIn (q .source .table) (d .rows))
 
 -- ---- the theorem
 
@@ -148,7 +148,7 @@ module _ (d : Doc) (q : QueryForm) (w : Word) (p : ℕ) (is-p : purposeOf (d .po
       let g = grant-below (d .policy) _ p below c (a .user) (a .grant) (a .authorised) in
       let s : Answered = record { answer = answerTo (resolved (d .policy) (forPurpose w q)) (seenRows d (resolved (d .policy) (forPurpose w q))); grant = g .0 } in
       let f : Further (seenRows d (resolved (d .policy) q)) (seenRows d (toPurpose p (resolved (d .policy) q))) =
-      seen-further d (resolved (d .policy) q) p (all-withhold (resolved (d .policy) q) parts (unfold resolved wantedOf in gaps-map _ (q .wanted) ∙ whole)) (parts-open (d .policy) q (a .columns) (a .parts)) (unfold resolved in label-down (d .policy) q w p is-p below) in (
+      seen-further d (resolved (d .policy) q) p (all-withhold (resolved (d .policy) q) parts (unfold resolved wantedOf in gaps-map _ (q .wanted) ∙ whole)) (parts-open (d .policy) q (a .columns) (a .parts)) (unfold resolved in open-down (d .policy) q w p is-p below) in (
         s,
         is-answered d c (forPurpose w q) s (record {
           user = a .user;

@@ -13,7 +13,7 @@ use Rattle.document.proofs.Kept.{table-there}
 use Rattle.document.proofs.RowsFit.{AllFit, Rows, accepted-rows, columns-count, countAt, rowsCost, valuesCost}
 use Rattle.document.specs.Check.{Accepted, check}
 use Rattle.document.specs.Lookup.{columnOf, columnsOf, labellingAt, tableOf}
-use Rattle.document.specs.Open.{cellOpen, labelOpen, rowWithheld}
+use Rattle.document.specs.Open.{Opening, cellOpen, openTo, rowWithheld}
 use Rattle.document.specs.Policy.{Column, Doc, Row, Table}
 use Rattle.form.specs.Form.{Scheme}
 use Rattle.answer.proofs.EndLines.{end-cost, end-short}
@@ -260,7 +260,7 @@ module _ (passes : List Value → Bool) (cs : List ℕ) where
       )
 
   -- what is seen of a row is such a step
-  seen-step : (isOpen : Option ℕ → Bool) (s : Scheme ℕ) (hs ns : List ℕ) → Distinct [] cs → (r : Row) → Wide cs r → Step r (seenRow isOpen s hs ns r)
+  seen-step : (isOpen : Opening) (s : Scheme ℕ) (hs ns : List ℕ) → Distinct [] cs → (r : Row) → Wide cs r → Step r (seenRow isOpen s hs ns r)
   unfolding seenRow
   seen-step isOpen s hs ns u r b = go (rowWithheld isOpen s hs (r .labels))
     where
@@ -273,11 +273,11 @@ answer-cost : (d : Doc) (q : Query) (v : Verb) (cs : List ℕ) → q .wanted ≡
 unfolding answerTo seenRows seenIn reserveOf wholeLengths
 answer-cost d q v cs w inside u b h g =
     let f : List Value → Bool = satisfies q in
-    let see : Row → Seen = seenRow (labelOpen (d .policy) (q .purpose)) (labellingAt (d .policy) (q .source .table)) (q .source .withholding) (q .source .named) in
+    let see : Row → Seen = seenRow (openTo (d .policy) (q .purpose)) (labellingAt (d .policy) (q .source .table)) (q .source .withholding) (q .source .named) in
     let rs : List Row = rowsIn (q .source .table) (d .rows) in
     le-trans
     (subst (λ (x : Wanted ℕ). length (counted (rowLines f x (map see rs)) (countOf (isPassed f) (map see rs)) (countOf isWithheld (map see rs)) (countOf (isUnmatched f) (map see rs)) .bytes) ≤ wholeLength rs) (sym w)
-    (lines-cost f cs v see (seen-step f cs (labelOpen (d .policy) (q .purpose)) (labellingAt (d .policy) (q .source .table)) (q .source .withholding) (q .source .named) u) rs (rows-wide cs (q .source .table) (d .policy .tables) (d .rows) b h g)))
+    (lines-cost f cs v see (seen-step f cs (openTo (d .policy) (q .purpose)) (labellingAt (d .policy) (q .source .table)) (q .source .withholding) (q .source .named) u) rs (rows-wide cs (q .source .table) (d .policy .tables) (d .rows) b h g)))
     (among-tables (λ t. wholeLength (rowsIn t (d .rows))) (length (d .policy .tables)) (q .source .table) inside)
 
 -- a query for rows that repeats no column, over a document whose rows fit

@@ -63,6 +63,8 @@ cases =
     -- labels do not count, of a row or of a cell
     ∷ ascii "(label shut (allow) (deny))\n(table t row (a num))\n(row t shut 7)\n" ⇒ (3, 20)
     ∷ ascii "(label shut (allow) (deny))\n(table t cell (a num) (b name))\n(row t (7 shut) (x shut))\n" ⇒ (3, 22)
+    -- nor a nest table's (02, Q-11): a range and a date count as written
+    ∷ ascii "(label shut (allow) (deny))\n(table t nest (a num) (b date))\n(weak t shut)\n(row t shut ((7 9) shut) ((2028 2 29) shut))\n" ⇒ (4, 36)
     ∷ []
 
 pub reserves : allOf (λ c. handsBack (checked (c .doc)) (c .lines) (c .reserve)) cases ≡ true

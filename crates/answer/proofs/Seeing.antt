@@ -8,7 +8,7 @@ use mathlib.Core.List.{List, [], _∷_, map}
 use mathlib.Core.Option.{Option, none, some}
 use mathlib.Core.Path.{_∙_, _≡_, ap, refl, sym}
 use Rattle.document.specs.Lookup.{columnOf, columnsOf, labellingAt, purposeOf, tableOf, userOf}
-use Rattle.document.specs.Open.{cellOpen, labelOpen, rowWithheld}
+use Rattle.document.specs.Open.{Opening, cellOpen, openTo, rowWithheld}
 use Rattle.document.specs.Policy.{Policy, Row}
 use Rattle.form.specs.Form.{Scheme}
 use Rattle.answer.specs.Alike.{SameOrFree, differs, done, free, same, sees}
@@ -53,7 +53,7 @@ seenValues-same f o ns h (differs {c} v w e k r) = λ i. unseen (member c ns) (o
     unseen true true k = true-not-false refl k
 
 -- two rows are seen alike, if values are free only where no column is named, the cell is closed or the row is withheld
-seenRow-same : (isOpen : Option ℕ → Bool) (s : Scheme ℕ) (hs ns : List ℕ) (f : ℕ → Bool) (x y : Row) → y .labels ≡ x .labels
+seenRow-same : (isOpen : Opening) (s : Scheme ℕ) (hs ns : List ℕ) (f : ℕ → Bool) (x y : Row) → y .labels ≡ x .labels
     → SameOrFree f 0 (x .values) (y .values)
     → (rowWithheld isOpen s hs (x .labels) ≡ false → (c : ℕ) → f c ≡ true → (member c ns && cellOpen isOpen s (x .labels) c) ≡ false)
     → seenRow isOpen s hs ns x ≡ seenRow isOpen s hs ns y
@@ -81,13 +81,13 @@ mapped-same k f same-k same-f (rowAnd {r} {s} {rs} {ss} a as′) = go (k r) refl
 -- in a row that is not withheld, of the one table that the query reads, a value that is free to differ is not named or its cell is
 -- closed: it is not seen
 free-unseen : (d : Policy) (q : QueryForm) (x : Source) (r : Row) (p : ℕ) → purposeOf d (q .purpose) ≡ some p → sources d q ≡ x ∷ []
-    → eqb (r .table) (x .table) ≡ true → rowWithheld (labelOpen d p) (labellingAt d (x .table)) (x .withholding) (r .labels) ≡ false
-    → (c : ℕ) → free d (some q) r c ≡ true → (member c (x .named) && cellOpen (labelOpen d p) (labellingAt d (x .table)) (r .labels) c) ≡ false
+    → eqb (r .table) (x .table) ≡ true → rowWithheld (openTo d p) (labellingAt d (x .table)) (x .withholding) (r .labels) ≡ false
+    → (c : ℕ) → free d (some q) r c ≡ true → (member c (x .named) && cellOpen (openTo d p) (labellingAt d (x .table)) (r .labels) c) ≡ false
 unfolding free holdsOf anyOf sees
 free-unseen d q x r p is-p is-x here w c f = go _ refl
   where
-    go : (b : Bool) → (member c (x .named) && cellOpen (labelOpen d p) (labellingAt d (x .table)) (r .labels) c) ≡ b
-        → (member c (x .named) && cellOpen (labelOpen d p) (labellingAt d (x .table)) (r .labels) c) ≡ false
+    go : (b : Bool) → (member c (x .named) && cellOpen (openTo d p) (labellingAt d (x .table)) (r .labels) c) ≡ b
+        → (member c (x .named) && cellOpen (openTo d p) (labellingAt d (x .table)) (r .labels) c) ≡ false
     go false e = e
     go true e = true-not-false f (simp (is-p, is-x, here, w, e))
 
@@ -98,12 +98,12 @@ module _ (d : Policy) (q : QueryForm) (known-party : unknownParty d q ≡ none) 
 
   -- what is seen of one of its rows
   abbrev seen : Row → Seen
-  seen = seenRow (labelOpen d (resolved d q .purpose)) (labellingAt d (source .table)) (source .withholding) (source .named)
+  seen = seenRow (openTo d (resolved d q .purpose)) (labellingAt d (source .table)) (source .withholding) (source .named)
 
   -- a row of the queried table is seen alike
   row-seen : (x y : Row) → RowAlike d (some q) x y → eqb (x .table) (source .table) ≡ true → seen x ≡ seen y
   row-seen x y a e =
-      seenRow-same (labelOpen d (resolved d q .purpose)) (labellingAt d (source .table)) (source .withholding) (source .named) (free d (some q) x) x y (a .labels) (a .values)
+      seenRow-same (openTo d (resolved d q .purpose)) (labellingAt d (source .table)) (source .withholding) (source .named) (free d (some q) x) x y (a .labels) (a .values)
       (free-unseen d q source x (resolved d q .purpose) (purpose-known d q known-party) (source-known d q known-columns) e)
 
   -- alike rows are seen alike

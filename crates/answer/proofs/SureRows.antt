@@ -23,7 +23,7 @@ use Rattle.condition.specs.CondForm.{Compared}
 use Rattle.condition.specs.Ranges.{Chosen, Mode, passesIn, possible, sure}
 use Rattle.document.specs.Check.{Accepted, check}
 use Rattle.document.specs.Lookup.{columnOf, columnsAt, columnsOf, labellingAt, purposeOf, tableOf}
-use Rattle.document.specs.Open.{labelOpen, rowWithheld}
+use Rattle.document.specs.Open.{openTo, rowWithheld}
 use Rattle.document.specs.Policy.{Column, Doc, Policy, Row}
 use Rattle.lists.proofs.KeptLaws.{all-append}
 use Rattle.lists.proofs.ListLaws.{all-everywhere, all-here, all-map}
@@ -83,7 +83,7 @@ resolved-fits cs vs h (some c) =
 module _ (d : Policy) (q : QueryForm) where
   -- the row with these labels is withheld from the query, however its rows are asked for: no gaps are left
   abbrev held : List ℕ → Bool
-  held ls = rowWithheld (labelOpen d (orZero (purposeOf d (q .purpose)))) (labellingAt d (orZero (tableOf d (q .table)))) (resolved d (asking select q) .source .withholding) ls
+  held ls = rowWithheld (openTo d (orZero (purposeOf d (q .purpose)))) (labellingAt d (orZero (tableOf d (q .table)))) (resolved d (asking select q) .source .withholding) ls
 
   -- the condition is sure, or possible, of the values
   abbrev met : Mode → List Value → Bool
@@ -91,7 +91,7 @@ module _ (d : Policy) (q : QueryForm) where
 
   -- the row is given, the rows being asked for in this way
   abbrev gives : Verb → Row → Bool
-  gives v r = not (rowWithheld (labelOpen d (resolved d (asking v q) .purpose)) (labellingAt d (resolved d (asking v q) .source .table)) (resolved d (asking v q) .source .withholding) (r .labels)) && satisfies (resolved d (asking v q)) (r .values)
+  gives v r = not (rowWithheld (openTo d (resolved d (asking v q) .purpose)) (labellingAt d (resolved d (asking v q) .source .table)) (resolved d (asking v q) .source .withholding) (r .labels)) && satisfies (resolved d (asking v q)) (r .values)
 
   gives-select : (r : Row) → gives select r ≡ (not (held (r .labels)) && met sure (r .values))
   unfolding resolved sourceOf wantedOf mapWanted modeIn modeOf satisfies asking

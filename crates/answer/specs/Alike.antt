@@ -9,7 +9,7 @@ use mathlib.Core.Option.{Option, none, some}
 use mathlib.Core.Path.{_≡_}
 use Rattle.document.specs.Check.{Accepted, check}
 use Rattle.document.specs.Lookup.{labelOf, labellingAt, purposeOf, schemeOf, tableOf}
-use Rattle.document.specs.Open.{cellOpen, labelOpen, rowWithheld}
+use Rattle.document.specs.Open.{cellOpen, openTo, rowWithheld}
 use Rattle.document.specs.Policy.{Policy, Row}
 use Rattle.form.specs.Form.{table}
 use Rattle.form.specs.RowText.{labelCount, rowText}
@@ -30,8 +30,8 @@ use Rattle.text.specs.Words.{plainWord}
 unfoldable pub sees : Policy → ℕ → Row → ℕ → Source → Bool
 sees d p r c x =
     eqb (r .table) (x .table)
-    && (not (rowWithheld (labelOpen d p) (labellingAt d (x .table)) (x .withholding) (r .labels))
-    && (member c (x .named) && cellOpen (labelOpen d p) (labellingAt d (x .table)) (r .labels) c))
+    && (not (rowWithheld (openTo d p) (labellingAt d (x .table)) (x .withholding) (r .labels))
+    && (member c (x .named) && cellOpen (openTo d p) (labellingAt d (x .table)) (r .labels) c))
 
 -- the value of cell c of the row may differ: the query, be it answered or refused, does not see it, since the cell is closed to the
 -- purpose, stands in a table or column that the query does not name, or lies in a row withheld from it, which for a blank is one that its

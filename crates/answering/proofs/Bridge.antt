@@ -1,35 +1,27 @@
 -- The lines of the marked rows and the counts are the answer of the definitions. Assumes nothing.
 use Prim.Native.Nat.{_<_, ℕ}
-use borrow.Author.Tests.{not-true}
-use lib.Dec.{eqb}
-use lib.ListN.{getD, getElem?, take}
-use mathlib.Core.Bool.{Bool, _&&_, cond, false, not, true}
-use mathlib.Core.List.{List, [], _++_, _∷_, flatten, map}
-use mathlib.Core.Option.{Option, some}
-use mathlib.Core.Path.{_∙_, _≡_, ap, refl, subst, sym}
-use native.Mathlib.Omega.{arith}
 use Rattle.answer.proofs.AccountedRows.{gives-exactly, line-agree, open-whole}
 use Rattle.answer.specs.Answer.{Answer, answerTo, counted, endLine, rowLine, satisfies}
 use Rattle.answer.specs.Exactly.{GivesExactly, gappedValues, isGiven, isWithheldRow, withGaps}
 use Rattle.answer.specs.Seen.{rowsIn, seenRows}
-use Rattle.judging.proofs.FateLaws.{judgeable}
-use Rattle.judging.specs.Judging.{Judgeable, openIn}
-use Rattle.judging.specs.Prepared.{Judged, Prepared, firstWithholding, wantedBy}
 use Rattle.answering.proofs.LineLaws.{shown-gaps, shown-whole}
 use Rattle.answering.specs.Lines.{answerMarked, gapsBy, labelsCells, lineMarked, linesMarked, rowShown, valuesIn}
-use Rattle.judging.specs.declared.sought.Sought.{Sought}
-use Rattle.judging.specs.declared.tally.Tally.{Tally}
 use Rattle.document.proofs.OpenLaws.{shown-open}
 use Rattle.document.specs.Lookup.{labellingAt, notesOf, settled}
-use Rattle.document.specs.Open.{cellOpen, labelOpen, rowWithheld}
-use Rattle.document.specs.Policy.{Doc, Row}
-use Rattle.form.specs.Form.{Note, Scheme}
+use Rattle.document.specs.NoteFaults.{isNested}
+use Rattle.document.specs.Open.{Opening, cellOpen, openTo, rowWithheld}
+use Rattle.document.specs.Policy.{Doc, Policy, Row}
+use Rattle.form.specs.Form.{Note, Scheme, hasBrackets}
 use Rattle.form.specs.declared.lines.Scheme as coded
 use Rattle.form.specs.declared.lines.Scheme.the-variants as codes
-use Rattle.workspace.proofs.TabulatedLaws.{tabulated-map, tabulated-same}
-use Rattle.relations.proofs.RowLaws.{row-at}
-use Rattle.relations.specs.Rows.{Rows, labelsIn, rowIn, valueCountIn}
-use Rattle.relations.specs.Tables.{columnLabelsIn, schemeBy, schemeIn, tableLabelIn}
+use Rattle.judging.proofs.FateLaws.{judgeable}
+use Rattle.judging.proofs.OpenCells.{nest-cell, own-cell, under-own}
+use Rattle.judging.specs.Judging.{Judgeable}
+use Rattle.judging.specs.Marking.{Marks, openIn, openUnder}
+use Rattle.judging.specs.Prepared.{Judged, Prepared, firstWithholding, wantedBy}
+use Rattle.judging.specs.declared.marking.Marking.{Marking}
+use Rattle.judging.specs.declared.sought.Sought.{Sought}
+use Rattle.judging.specs.declared.tally.Tally.{Tally}
 use Rattle.lists.proofs.KeptLaws.{flatten-keep}
 use Rattle.lists.proofs.Tests.{and-left, true-not-false}
 use Rattle.lists.specs.Lists.{allOf, keep, member}
@@ -37,7 +29,20 @@ use Rattle.query.proofs.NamedAll.{selected-named}
 use Rattle.query.specs.Query.{Query}
 use Rattle.query.specs.QueryForm.{leavesGaps, selected}
 use Rattle.query.specs.QueryPlaces.{verbOf}
+use Rattle.relations.proofs.RowLaws.{row-at}
+use Rattle.relations.specs.Labels.{Said}
+use Rattle.relations.specs.Rows.{Rows, labelsIn, rowIn, valueCountIn}
+use Rattle.relations.specs.Tables.{columnLabelsIn, schemeBy, schemeIn, tableLabelIn}
 use Rattle.text.specs.Numbers.{Value}
+use Rattle.workspace.proofs.TabulatedLaws.{tabulated-map, tabulated-same}
+use borrow.Author.Tests.{not-true}
+use lib.Dec.{eqb}
+use lib.ListN.{getD, getElem?, take}
+use mathlib.Core.Bool.{Bool, _&&_, cond, false, not, true}
+use mathlib.Core.List.{List, [], _++_, _∷_, flatten, map}
+use mathlib.Core.Option.{some}
+use mathlib.Core.Path.{_∙_, _≡_, ap, refl, subst, sym}
+use native.Mathlib.Omega.{arith}
 
 -- to keep what passes two tests is to keep what passes the one, and of that what passes the other
 keep-both : {A : Type 0} (f g : A → Bool) (xs : List A) → keep (λ x. f x && g x) xs ≡ keep g (keep f xs)
@@ -80,32 +85,35 @@ module _ (cs : List ℕ) (f g : Row → Bool) (values : Row → List Value) wher
 
 -- ---- what the scheme says of gaps
 
-module _ (isOpen : Option ℕ → Bool) (ns : List (Note ℕ)) (l : ℕ) (ls : List ℕ) where
-  -- where cells have labels of their own, a cell is open if its label is
-  cell-own : (code : coded.Scheme) → labelsCells code ≡ true → (labels : List ℕ) (c : ℕ) → cellOpen isOpen (settled ns (schemeBy code l ls)) labels c ≡ isOpen (getElem? labels c)
-  unfolding settled schemeBy cellOpen
-  cell-own codes.Unlabelled e labels c = true-not-false e refl
-  cell-own codes.ByTable e labels c = true-not-false e refl
-  cell-own codes.ByColumn e labels c = true-not-false e refl
-  cell-own codes.ByRow e labels c = true-not-false e refl
-  cell-own codes.ByCell e labels c = refl
+module _ (d : Policy) (p : ℕ) (os : List Bool) (m : Marking) (ns : List (Note ℕ)) (l : ℕ) (ls : List ℕ) where
+  -- where cells have labels of their own, a cell is open as the code finds it
+  cell-own : (code : coded.Scheme) → labelsCells code ≡ true → Said d p os → Marks d p m (schemeBy code l ls) ns → (labels : List ℕ) (c : ℕ) → cellOpen (openTo d p) (settled ns (schemeBy code l ls)) labels c ≡ openIn os m labels c
+  unfolding hasBrackets schemeBy openIn isNested
+  cell-own codes.Unlabelled e said k labels c = true-not-false e refl
+  cell-own codes.ByTable e said k labels c = true-not-false e refl
+  cell-own codes.ByColumn e said k labels c = true-not-false e refl
+  cell-own codes.ByRow e said k labels c = true-not-false e refl
+  cell-own codes.ByCell e said k labels c = sym (own-cell d p os said m ns labels k c) ∙ ap (λ (x : Marking). openUnder os x labels c) (under-own os m labels (k .nested))
+  cell-own codes.Nested e said k labels c = sym (nest-cell d p os said m ns labels k c)
 
+module _ (opening : Opening) (ns : List (Note ℕ)) (l : ℕ) (ls : List ℕ) where
   -- where they have not, no column withholds a row more than another
-  columns-alike : (code : coded.Scheme) → labelsCells code ≡ false → (cs es labels : List ℕ) → rowWithheld isOpen (settled ns (schemeBy code l ls)) cs labels ≡ rowWithheld isOpen (settled ns (schemeBy code l ls)) es labels
-  unfolding settled schemeBy rowWithheld
+  columns-alike : (code : coded.Scheme) → labelsCells code ≡ false → (cs es labels : List ℕ) → rowWithheld opening (settled ns (schemeBy code l ls)) cs labels ≡ rowWithheld opening (settled ns (schemeBy code l ls)) es labels
+  unfolding hasBrackets settled schemeBy rowWithheld
   columns-alike codes.Unlabelled e cs es labels = refl
   columns-alike codes.ByTable e cs es labels = refl
   columns-alike codes.ByColumn e cs es labels = refl
   columns-alike codes.ByRow e cs es labels = refl
   columns-alike codes.ByCell e cs es labels = true-not-false refl e
+  columns-alike codes.Nested e cs es labels = true-not-false refl e
 
 module _ {text ts ws : List ℕ} {count : ℕ} {os : List Bool} {s : List ℕ} {g : Sought} {read cs : List ℕ} {d : Doc} {q : Query} {marks : List Bool} {x : Tally}
     (p : Prepared text ts ws count os s g read cs d q) (j : Judged d q marks x)
     (code : coded.Scheme) (is : g .table < 8 → schemeIn ts (g .table) ≡ schemeBy code (tableLabelIn ts (g .table)) (columnLabelsIn ts (g .table)))
     {gaps : Bool} (has : gaps ≡ gapsBy (g .verb) code) where
-  -- the test of labels, and the scheme with what later lines say
-  abbrev isOpen : Option ℕ → Bool
-  isOpen = labelOpen (d .policy) (q .purpose)
+  -- what is open, and the scheme with what later lines say
+  abbrev opening : Opening
+  opening = openTo (d .policy) (q .purpose)
 
   abbrev scheme : Scheme ℕ
   scheme = labellingAt (d .policy) (q .source .table)
@@ -114,7 +122,7 @@ module _ {text ts ws : List ℕ} {count : ℕ} {os : List Bool} {s : List ℕ} {
   chosen = take (g .chosen) cs
 
   abbrev written : ℕ → List Value
-  written = rowShown (d .policy) (q .purpose) text ws gaps
+  written = rowShown os (g .marking) text ws gaps
 
   ready : Judgeable text ws count os s g (firstWithholding g) code cs read d q
   ready = judgeable text ts ws count os s g read cs d q p refl code is
@@ -123,31 +131,37 @@ module _ {text ts ws : List ℕ} {count : ℕ} {os : List Bool} {s : List ℕ} {
   unfolding labellingAt
   scheme-is = ap (settled (notesOf (d .policy .notes) (q .source .table))) (sym (ready .schemed))
 
-  -- with gaps: each closed cell has one, as its label says
-  written-gapped : labelsCells code ≡ true → (r : ℕ) → withGaps (openIn (d .policy) (q .purpose) ws r) 0 (rowIn text ws r .values) ≡ gappedValues d q (rowIn text ws r)
-  unfolding gappedValues openIn rowIn
+  -- with gaps: each closed cell has one
+  written-gapped : labelsCells code ≡ true → (r : ℕ) → withGaps (openIn os (g .marking) (labelsIn ws r)) 0 (rowIn text ws r .values) ≡ gappedValues d q (rowIn text ws r)
+  unfolding gappedValues rowIn
   written-gapped own r = ap (λ (o : ℕ → Bool). withGaps o 0 (valuesIn text ws r (valueCountIn ws r))) (λ i c. sym (opens c) i)
     where
-      opens : (c : ℕ) → cellOpen isOpen scheme (labelsIn ws r) c ≡ isOpen (getElem? (labelsIn ws r) c)
-      opens c = ap (λ (y : Scheme ℕ). cellOpen isOpen y (labelsIn ws r) c) scheme-is ∙ cell-own isOpen (notesOf (d .policy .notes) (q .source .table)) (ready .label) (ready .labels) code own (labelsIn ws r) c
+      notes : List (Note ℕ)
+      notes = notesOf (d .policy .notes) (q .source .table)
+
+      marked-so : Marks (d .policy) (q .purpose) (g .marking) (schemeBy code (ready .label) (ready .labels)) notes
+      marked-so = subst (λ (z : Scheme ℕ). Marks (d .policy) (q .purpose) (g .marking) z (notesOf (d .policy .notes) (q .source .table))) (sym (ready .schemed)) (p .marking)
+
+      opens : (c : ℕ) → cellOpen opening scheme (labelsIn ws r) c ≡ openIn os (g .marking) (labelsIn ws r) c
+      opens c = ap (λ (y : Scheme ℕ). cellOpen opening y (labelsIn ws r) c) scheme-is ∙ cell-own (d .policy) (q .purpose) os (g .marking) notes (ready .label) (ready .labels) code own (p .said) marked-so (labelsIn ws r) c
 
   -- without labels of its own no cell is closed in a named column of a row that is given
-  named-open : labelsCells code ≡ false → (r : Row) → isGiven d q r ≡ true → (c : ℕ) → member c (q .source .named) ≡ true → cellOpen isOpen scheme (r .labels) c ≡ true
+  named-open : labelsCells code ≡ false → (r : Row) → isGiven d q r ≡ true → (c : ℕ) → member c (q .source .named) ≡ true → cellOpen opening scheme (r .labels) c ≡ true
   unfolding isGiven isWithheldRow
-  named-open own r given c m = shown-open isOpen scheme (q .source .named) (r .labels) (p .parts .table) (p .parts .columns) alike c m
+  named-open own r given c m = shown-open opening scheme (q .source .named) (r .labels) (p .parts .table) (p .parts .columns) alike c m
     where
-      alike : rowWithheld isOpen scheme (q .source .named) (r .labels) ≡ false
+      alike : rowWithheld opening scheme (q .source .named) (r .labels) ≡ false
       alike =
-          ap (λ (y : Scheme ℕ). rowWithheld isOpen y (q .source .named) (r .labels)) scheme-is
-          ∙ columns-alike isOpen (notesOf (d .policy .notes) (q .source .table)) (ready .label) (ready .labels) code own (q .source .named) (q .source .withholding) (r .labels)
-          ∙ ap (λ (y : Scheme ℕ). rowWithheld isOpen y (q .source .withholding) (r .labels)) (sym scheme-is)
+          ap (λ (y : Scheme ℕ). rowWithheld opening y (q .source .named) (r .labels)) scheme-is
+          ∙ columns-alike opening (notesOf (d .policy .notes) (q .source .table)) (ready .label) (ready .labels) code own (q .source .named) (q .source .withholding) (r .labels)
+          ∙ ap (λ (y : Scheme ℕ). rowWithheld opening y (q .source .withholding) (r .labels)) (sym scheme-is)
           ∙ not-true (isWithheldRow d q r) (and-left (not (isWithheldRow d q r)) (satisfies q (r .values)) given)
 
   -- so its line has no gap
   line-ungapped : labelsCells code ≡ false → q .wanted ≡ wantedBy true (g .verb) chosen → (r : Row) → isGiven d q r ≡ true → rowLine chosen (r .values) ≡ rowLine chosen (gappedValues d q r)
   unfolding gappedValues wantedBy selected
   line-ungapped own e r given = line-agree (λ c. member c (q .source .named)) chosen (subst (λ w. allOf (λ c. member c (q .source .named)) (selected w) ≡ true) e (selected-named q (p .named))) (r .values) _
-      (λ c m. sym (open-whole (cellOpen isOpen scheme (r .labels)) 0 (r .values) c c (omega arith) (named-open own r given c m)))
+      (λ c m. sym (open-whole (cellOpen opening scheme (r .labels)) 0 (r .values) c c (omega arith) (named-open own r given c m)))
 
   -- the lines of the marked rows are those of the rows given, with their values as they are given
   lines-given : (values : Row → List Value) → ((r : ℕ) → isGiven d q (rowIn text ws r) ≡ true → rowLine chosen (written r) ≡ rowLine chosen (values (rowIn text ws r)))
@@ -164,13 +178,13 @@ module _ {text ts ws : List ℕ} {count : ℕ} {os : List Bool} {s : List ℕ} {
       gaps-are = has ∙ ap (λ (b : Bool). b && labelsCells code) h
 
       go : (b : Bool) → labelsCells code ≡ b → rowLine chosen (written r) ≡ rowLine chosen (gappedValues d q (rowIn text ws r))
-      go true own = ap (rowLine chosen) (sym (shown-gaps (d .policy) (q .purpose) text ws r (valueCountIn ws r) (gaps-are ∙ own)) ∙ written-gapped own r)
-      go false own = ap (rowLine chosen) (sym (shown-whole (d .policy) (q .purpose) text ws r (valueCountIn ws r) (gaps-are ∙ own))) ∙ line-ungapped own e (rowIn text ws r) given
+      go true own = ap (rowLine chosen) (sym (shown-gaps os (g .marking) text ws r (valueCountIn ws r) (gaps-are ∙ own)) ∙ written-gapped own r)
+      go false own = ap (rowLine chosen) (sym (shown-whole os (g .marking) text ws r (valueCountIn ws r) (gaps-are ∙ own))) ∙ line-ungapped own e (rowIn text ws r) given
 
   -- and where they are not
   select-line : leavesGaps (verbOf (g .verb)) ≡ false → (r : ℕ) → rowLine chosen (written r) ≡ rowLine chosen (rowIn text ws r .values)
   unfolding rowIn gapsBy
-  select-line h r = ap (rowLine chosen) (sym (shown-whole (d .policy) (q .purpose) text ws r (valueCountIn ws r) (has ∙ ap (λ (b : Bool). b && labelsCells code) h)))
+  select-line h r = ap (rowLine chosen) (sym (shown-whole os (g .marking) text ws r (valueCountIn ws r) (has ∙ ap (λ (b : Bool). b && labelsCells code) h)))
 
   -- the answer is the one that was written
   pub answer-is : answerTo q (seenRows d q) ≡ answerMarked written chosen marks count (g .lines) x

@@ -10,7 +10,7 @@ use Rattle.answer.specs.Answer.{Answer, counted, endLine}
 use Rattle.answering.proofs.LineLaws.{lines-short}
 use Rattle.answering.specs.Answering.{Writes, bufferAfter, measuredOf}
 use Rattle.answering.specs.Lines.{answerMarked, linesMarked, rowShown}
-use Rattle.document.specs.Policy.{Policy}
+use Rattle.judging.specs.declared.marking.Marking.{Marking}
 use Rattle.judging.specs.declared.tally.Tally.{Tally}
 use Rattle.text.specs.Bytes.{ascii}
 use Rattle.text.specs.Numbers.{decimal}
@@ -27,13 +27,13 @@ end-short p w u =
     let c : List ℕ = b ++ 32 ∷ decimal u in
     omega (arith, decimal-short p, decimal-short w, decimal-short u, length-append a (32 ∷ decimal w), length-append b (32 ∷ decimal u), length-append c (ascii ")\n"))
 
-module _ (d : Policy) (p : ℕ) (text ws : List ℕ) (gaps : Bool) (cs : List ℕ) (marks : List Bool) (chosen k : ℕ) (x : Tally) (small : length text ≤ 60000) (few : chosen ≤ 16) (rows : k ≤ 1024) where
+module _ (os : List Bool) (m : Marking) (text ws : List ℕ) (gaps : Bool) (cs : List ℕ) (marks : List Bool) (chosen k : ℕ) (x : Tally) (small : length text ≤ 60000) (few : chosen ≤ 16) (rows : k ≤ 1024) where
   -- the answer
   abbrev marked : Bool → Answer
-  marked asked = answerMarked (rowShown d p text ws gaps) (take chosen cs) marks k asked x
+  marked asked = answerMarked (rowShown os m text ws gaps) (take chosen cs) marks k asked x
 
   abbrev lines : List ℕ
-  lines = linesMarked (rowShown d p text ws gaps) (take chosen cs) marks k
+  lines = linesMarked (rowShown os m text ws gaps) (take chosen cs) marks k
 
   abbrev last : List ℕ
   last = endLine (x .passed) (x .withheld) (x .unmatched)
@@ -43,7 +43,7 @@ module _ (d : Policy) (p : ℕ) (text ws : List ℕ) (gaps : Bool) (cs : List �
   unfolding answerMarked counted
   short true =
       let l : length (take chosen cs) ≤ 16 = omega (arith, few, length-take chosen cs) in
-      omega (arith, rows, length-append lines last, lines-short d p text ws gaps (take chosen cs) marks small l k, end-short (x .passed) (x .withheld) (x .unmatched))
+      omega (arith, rows, length-append lines last, lines-short os m text ws gaps (take chosen cs) marks small l k, end-short (x .passed) (x .withheld) (x .unmatched))
   short false = omega (arith, end-short (x .passed) (x .withheld) (x .unmatched))
 
   -- the lines, where they are asked for, then the end line

@@ -1,5 +1,22 @@
 -- The lines of rows, with gaps or without: how long they are, and how they grow. Assumes nothing.
 use Prim.Native.Nat.{_*_, _+_, _<_, _≤_, suc, zero, ℕ}
+use Rattle.answer.proofs.AccountedRows.{open-whole}
+use Rattle.answer.specs.Answer.{rowLine}
+use Rattle.answer.specs.Exactly.{withGaps}
+use Rattle.answer.specs.Seen.{gap}
+use Rattle.answering.specs.Lines.{Sizes, cellShown, lineMarked, linesMarked, rowShown, shownIn, spacedValues, valuesIn}
+use Rattle.judging.proofs.ValueLaws.{no-value}
+use Rattle.judging.specs.Marking.{openIn}
+use Rattle.judging.specs.declared.marking.Marking.{Marking}
+use Rattle.relations.specs.Rows.{labelsIn, valueCountIn, valueIn, valuePlaceIn}
+use Rattle.relations.specs.Tables.{Cut}
+use Rattle.text.proofs.Lefts.{drop-here}
+use Rattle.text.specs.Bytes.{ascii}
+use Rattle.text.specs.Numbers.{Value}
+use Rattle.workspace.proofs.TabulatedLaws.{tabulated-getD, tabulated-more}
+use Rattle.workspace.specs.Tabulated.{tabulated}
+use Rattle.writing.proofs.Writing.{both, written-short, wrote-nothing}
+use Rattle.writing.specs.Write.{Wrote}
 use borrow.Author.Tests.{eqb-false, eqb-true, le-ltb, lt-ltb, ltb-false, ltb-true}
 use lib.Dec.{eqb, ltb}
 use lib.ListN.{drop, drop-of-length-le, getD, length, length-append, replicate, set}
@@ -8,23 +25,6 @@ use mathlib.Core.Bool.{Bool, cond, false, true}
 use mathlib.Core.List.{List, [], _++_, _∷_, append-assoc, append-nil, flatten}
 use mathlib.Core.Path.{_∙_, _≡_, ap, refl, subst, sym}
 use native.Mathlib.Omega.{arith}
-use Rattle.answer.proofs.AccountedRows.{open-whole}
-use Rattle.answer.specs.Answer.{rowLine}
-use Rattle.answer.specs.Exactly.{withGaps}
-use Rattle.answer.specs.Seen.{gap}
-use Rattle.answering.specs.Lines.{Sizes, cellShown, lineMarked, linesMarked, rowShown, shownIn, spacedValues, valuesIn}
-use Rattle.document.specs.Policy.{Policy}
-use Rattle.judging.specs.Judging.{openIn}
-use Rattle.workspace.proofs.TabulatedLaws.{tabulated-getD, tabulated-more}
-use Rattle.relations.specs.Rows.{valueCountIn, valueIn, valuePlaceIn}
-use Rattle.relations.specs.Tables.{Cut}
-use Rattle.workspace.specs.Tabulated.{tabulated}
-use Rattle.judging.proofs.ValueLaws.{no-value}
-use Rattle.text.proofs.Lefts.{drop-here}
-use Rattle.text.specs.Bytes.{ascii}
-use Rattle.text.specs.Numbers.{Value}
-use Rattle.writing.proofs.Writing.{both, written-short, wrote-nothing}
-use Rattle.writing.specs.Write.{Wrote}
 
 -- ---- the values of a row
 
@@ -84,20 +84,20 @@ module _ (vs : List Value) (c : ℕ) {b : Bool} where
     cell-missing l = ap (λ (x : Bool). cond x gap []) (sym (le-ltb c (length vs) (omega (arith, l, many)))) ∙ cell-closed
 
 -- the values as they are written, with gaps or without
-module _ (d : Policy) (p : ℕ) (text ws : List ℕ) (r width : ℕ) where
-  pub shown-gaps : {gaps : Bool} → gaps ≡ true → withGaps (openIn d p ws r) 0 (valuesIn text ws r width) ≡ shownIn d p text ws gaps r width
+module _ (os : List Bool) (m : Marking) (text ws : List ℕ) (r width : ℕ) where
+  pub shown-gaps : {gaps : Bool} → gaps ≡ true → withGaps (openIn os m (labelsIn ws r)) 0 (valuesIn text ws r width) ≡ shownIn os m text ws gaps r width
   unfolding shownIn
-  shown-gaps e = ap (λ (b : Bool). cond b (withGaps (openIn d p ws r) 0 (valuesIn text ws r width)) (valuesIn text ws r width)) (sym e)
+  shown-gaps e = ap (λ (b : Bool). cond b (withGaps (openIn os m (labelsIn ws r)) 0 (valuesIn text ws r width)) (valuesIn text ws r width)) (sym e)
 
-  pub shown-whole : {gaps : Bool} → gaps ≡ false → valuesIn text ws r width ≡ shownIn d p text ws gaps r width
+  pub shown-whole : {gaps : Bool} → gaps ≡ false → valuesIn text ws r width ≡ shownIn os m text ws gaps r width
   unfolding shownIn
-  shown-whole e = ap (λ (b : Bool). cond b (withGaps (openIn d p ws r) 0 (valuesIn text ws r width)) (valuesIn text ws r width)) (sym e)
+  shown-whole e = ap (λ (b : Bool). cond b (withGaps (openIn os m (labelsIn ws r)) 0 (valuesIn text ws r width)) (valuesIn text ws r width)) (sym e)
 
   -- each is no longer than the text, or a gap
-  shown-fit : length text ≤ 60000 → (gaps : Bool) (c : ℕ) → length (getD (shownIn d p text ws gaps r width) c []) ≤ 60000
+  shown-fit : length text ≤ 60000 → (gaps : Bool) (c : ℕ) → length (getD (shownIn os m text ws gaps r width) c []) ≤ 60000
   unfolding shownIn cellShown gap
   shown-fit small false c = omega (arith, small, values-fit text ws r width c)
-  shown-fit small true c = go (openIn d p ws r c) refl
+  shown-fit small true c = go (openIn os m (labelsIn ws r) c) refl
     where
       vs : List Value
       vs = valuesIn text ws r width
@@ -106,9 +106,9 @@ module _ (d : Policy) (p : ℕ) (text ws : List ℕ) (r width : ℕ) where
       missed true = omega arith
       missed false = omega arith
 
-      go : (b : Bool) → b ≡ openIn d p ws r c → length (getD (withGaps (openIn d p ws r) 0 vs) c []) ≤ 60000
-      go true e = omega (arith, small, values-fit text ws r width c, ap length (gapped-at (openIn d p ws r) vs c true e))
-      go false e = omega (arith, missed (ltb c (length vs)), ap length (gapped-at (openIn d p ws r) vs c false e))
+      go : (b : Bool) → b ≡ openIn os m (labelsIn ws r) c → length (getD (withGaps (openIn os m (labelsIn ws r)) 0 vs) c []) ≤ 60000
+      go true e = omega (arith, small, values-fit text ws r width c, ap length (gapped-at (openIn os m (labelsIn ws r)) vs c true e))
+      go false e = omega (arith, missed (ltb c (length vs)), ap length (gapped-at (openIn os m (labelsIn ws r)) vs c false e))
 
 module _ (vs : List Value) where
   -- the values in some columns are the first and the others
@@ -159,18 +159,18 @@ sizes-more vs ns c n h e = record { each = λ k. go k (eqb k c) refl }
 
 -- ---- lines
 
-module _ (d : Policy) (p : ℕ) (text ws : List ℕ) (gaps : Bool) (cs : List ℕ) (r : ℕ) {marked : Bool} where
+module _ (os : List Bool) (m : Marking) (text ws : List ℕ) (gaps : Bool) (cs : List ℕ) (r : ℕ) {marked : Bool} where
   -- the line of a marked row
   pub line-written : {before after : List ℕ} {at next width : ℕ} → r < 1024 → marked ≡ true → Cut 16 r 1024 (valueCountIn ws r) width
-      → Wrote before at (rowLine cs (shownIn d p text ws gaps r width)) after next → valueCountIn ws r ≤ 16 → Wrote before at (lineMarked (rowShown d p text ws gaps) cs r marked) after next
+      → Wrote before at (rowLine cs (shownIn os m text ws gaps r width)) after next → valueCountIn ws r ≤ 16 → Wrote before at (lineMarked (rowShown os m text ws gaps) cs r marked) after next
   unfolding lineMarked
   line-written {before} {after} {at} {next} inside is cut w n =
-      subst (λ b. Wrote before at (lineMarked (rowShown d p text ws gaps) cs r b) after next) (sym is) (subst (λ k. Wrote before at (rowLine cs (shownIn d p text ws gaps r k)) after next) (cut .is inside n) w)
+      subst (λ b. Wrote before at (lineMarked (rowShown os m text ws gaps) cs r b) after next) (sym is) (subst (λ k. Wrote before at (rowLine cs (shownIn os m text ws gaps r k)) after next) (cut .is inside n) w)
 
   -- another row has none
-  pub line-none : (before : List ℕ) (at : ℕ) → marked ≡ false → Wrote before at (lineMarked (rowShown d p text ws gaps) cs r marked) before at
+  pub line-none : (before : List ℕ) (at : ℕ) → marked ≡ false → Wrote before at (lineMarked (rowShown os m text ws gaps) cs r marked) before at
   unfolding lineMarked
-  line-none before at is = subst (λ b. Wrote before at (lineMarked (rowShown d p text ws gaps) cs r b) before at) (sym is) (wrote-nothing before at)
+  line-none before at is = subst (λ b. Wrote before at (lineMarked (rowShown os m text ws gaps) cs r b) before at) (sym is) (wrote-nothing before at)
 
 flatten-last : (ls : List (List ℕ)) (l : List ℕ) → flatten (ls ++ (l ∷ [])) ≡ flatten ls ++ l
 unfolding flatten
@@ -210,5 +210,5 @@ module _ (values : ℕ → List Value) (cs : List ℕ) (marks : List Bool) where
         omega (arith, marked-short k, ap (λ n. length (linesMarked values cs marks n)) e, ap length (marked-more k), length-append (linesMarked values cs marks k) (lineMarked values cs k (getD marks k false)), line-short k (getD marks k false))
 
 -- so long are those of a document's rows
-pub lines-short : (d : Policy) (p : ℕ) (text ws : List ℕ) (gaps : Bool) (cs : List ℕ) (marks : List Bool) → length text ≤ 60000 → length cs ≤ 16 → (k : ℕ) → length (linesMarked (rowShown d p text ws gaps) cs marks k) ≤ k * 960022
-lines-short d p text ws gaps cs marks small few k = marked-short (rowShown d p text ws gaps) cs marks few (λ r c. shown-fit d p text ws r (valueCountIn ws r) small gaps c) k
+pub lines-short : (os : List Bool) (m : Marking) (text ws : List ℕ) (gaps : Bool) (cs : List ℕ) (marks : List Bool) → length text ≤ 60000 → length cs ≤ 16 → (k : ℕ) → length (linesMarked (rowShown os m text ws gaps) cs marks k) ≤ k * 960022
+lines-short os m text ws gaps cs marks small few k = marked-short (rowShown os m text ws gaps) cs marks few (λ r c. shown-fit os m text ws r (valueCountIn ws r) small gaps c) k

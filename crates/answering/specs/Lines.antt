@@ -1,25 +1,26 @@
 -- Contract: the lines that an answer consists of, from the marks of its rows.
 use Prim.Native.Nat.{_<_, ℕ}
-use lib.Dec.{ltb}
-use lib.ListN.{getD, length}
-use mathlib.Core.Bool.{Bool, _&&_, cond, false, true}
-use mathlib.Core.List.{List, [], _∷_, flatten, map}
-use mathlib.Core.Path.{_≡_}
 use Rattle.answer.specs.Answer.{Answer, counted, rowLine}
 use Rattle.answer.specs.Exactly.{withGaps}
 use Rattle.answer.specs.Seen.{gap}
-use Rattle.document.specs.Policy.{Doc, Policy}
-use Rattle.form.specs.declared.lines.Scheme.the-variants as scheme
+use Rattle.document.specs.Policy.{Doc}
+use Rattle.form.specs.Form.{hasBrackets}
 use Rattle.form.specs.declared.lines.Scheme.{Scheme}
-use Rattle.judging.specs.Judging.{openIn}
+use Rattle.judging.specs.Marking.{openIn}
+use Rattle.judging.specs.declared.marking.Marking.{Marking}
 use Rattle.judging.specs.declared.tally.Tally.{Tally}
 use Rattle.query.specs.QueryForm.{leavesGaps}
 use Rattle.query.specs.QueryPlaces.{verbOf}
 use Rattle.query.specs.declared.reading.Verb.{Verb}
-use Rattle.relations.specs.Labels.{Opened}
-use Rattle.relations.specs.Rows.{Rows, valueCountIn, valueIn}
-use Rattle.workspace.specs.Tabulated.{tabulated}
+use Rattle.relations.specs.Rows.{Rows, labelsIn, valueCountIn, valueIn}
+use Rattle.relations.specs.Tables.{schemeBy}
 use Rattle.text.specs.Numbers.{Value}
+use Rattle.workspace.specs.Tabulated.{tabulated}
+use lib.Dec.{ltb}
+use lib.ListN.{getD, length}
+use mathlib.Core.Bool.{Bool, _&&_, cond, false}
+use mathlib.Core.List.{List, [], _∷_, flatten, map}
+use mathlib.Core.Path.{_≡_}
 
 -- ---- the values of a row
 
@@ -35,13 +36,14 @@ pub record Sizes (vs : List Value) (ns : List ℕ) : Type 0 where
 unfoldable pub cellShown : Bool → List Value → ℕ → Value
 cellShown isShown vs c = cond isShown (getD vs c []) (cond (ltb c (length vs)) gap [])
 
--- the values of row r as they are written for the purpose p: where there are gaps, one stands for each closed cell (02, Q-10)
-unfoldable pub shownIn : Policy → ℕ → (text ws : List ℕ) → Bool → (r width : ℕ) → List Value
-shownIn d p text ws gaps r width = cond gaps (withGaps (openIn d p ws r) 0 (valuesIn text ws r width)) (valuesIn text ws r width)
+-- the values of row r of a table that is marked so as they are written, where os says what labels say: where there are gaps, one stands for each
+-- closed cell (02, Q-10)
+unfoldable pub shownIn : List Bool → Marking → (text ws : List ℕ) → Bool → (r width : ℕ) → List Value
+shownIn os m text ws gaps r width = cond gaps (withGaps (openIn os m (labelsIn ws r)) 0 (valuesIn text ws r width)) (valuesIn text ws r width)
 
 -- all that row r has
-abbrev pub rowShown : Policy → ℕ → (text ws : List ℕ) → Bool → ℕ → List Value
-rowShown d p text ws gaps r = shownIn d p text ws gaps r (valueCountIn ws r)
+abbrev pub rowShown : List Bool → Marking → (text ws : List ℕ) → Bool → ℕ → List Value
+rowShown os m text ws gaps r = shownIn os m text ws gaps r (valueCountIn ws r)
 
 -- values in these columns, each after a space
 unfoldable pub spacedValues : List ℕ → List Value → List ℕ
@@ -51,11 +53,7 @@ spacedValues columns vs = flatten (map (λ c. 32 ∷ getD vs c []) columns)
 
 -- the cells of a table of this scheme have labels of their own
 abbrev pub labelsCells : Scheme → Bool
-labelsCells scheme.Unlabelled = false
-labelsCells scheme.ByTable = false
-labelsCells scheme.ByColumn = false
-labelsCells scheme.ByRow = false
-labelsCells scheme.ByCell = true
+labelsCells s = hasBrackets (schemeBy s 0 [])
 
 -- gaps are written: they are left, and cells have labels of their own
 unfoldable pub gapsBy : Verb → Scheme → Bool
@@ -75,7 +73,7 @@ linesMarked shown columns marks k = flatten (tabulated (λ r. lineMarked shown c
 unfoldable pub answerMarked : (ℕ → List Value) → List ℕ → List Bool → ℕ → Bool → Tally → Answer
 answerMarked shown columns marks k asked x = counted (cond asked (linesMarked shown columns marks k) []) (x .passed) (x .withheld) (x .unmatched)
 
--- of that answer something holds, where the arrays hold the rows of a document d, and the truths os say what is open to a purpose p
-abbrev pub OfMarked : (text ws : List ℕ) → List Bool → Bool → List ℕ → List Bool → ℕ → Bool → Tally → (Answer → Type 0) → Type 0
-OfMarked text ws os gaps columns marks k asked x holds =
-    (d : Doc) (p : ℕ) → Opened (d .policy) p os → Rows text ws k (d .rows) → holds (answerMarked (rowShown (d .policy) p text ws gaps) columns marks k asked x)
+-- of that answer something holds, where the arrays hold the rows of a document d
+abbrev pub OfMarked : (text ws : List ℕ) → List Bool → Marking → Bool → List ℕ → List Bool → ℕ → Bool → Tally → (Answer → Type 0) → Type 0
+OfMarked text ws os m gaps columns marks k asked x holds =
+    (d : Doc) → Rows text ws k (d .rows) → holds (answerMarked (rowShown os m text ws gaps) columns marks k asked x)

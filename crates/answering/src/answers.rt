@@ -3,24 +3,26 @@ use crate::lines::put_end;
 use crate::lines::put_lines;
 use form::lines::Scheme;
 use judging::fates::judge_rows;
+use judging::marking::Marking;
 use judging::sought::Sought;
 use judging::tally::Tally;
 use judging::tests::TEST_CELLS;
 use query::reading::Verb;
 use query::reading::leaves_gaps;
+use relations::tables::has_brackets;
 use relations::tables::table_scheme;
 use workspace::layout::COLUMNS;
-use workspace::layout::LABELS;
 use workspace::layout::ROW_CELLS;
 use workspace::layout::ROWS;
 use workspace::layout::TABLE_CELLS;
+use workspace::layout::VERDICTS;
 ghost use Prim.Native.Nat.{_≤_, ℕ};
 ghost use lib.ListN.{length, take};
 ghost use mathlib.Core.Path.{_≡_};
 ghost use Rattle.answer.specs.Answer.{answerTo};
 ghost use Rattle.answer.specs.Seen.{seenRows};
 ghost use Rattle.answering.specs.Answering.{Writes};
-ghost use Rattle.answering.specs.Lines.{OfMarked, gapsBy, labelsCells};
+ghost use Rattle.answering.specs.Lines.{OfMarked, gapsBy};
 ghost use Rattle.judging.specs.Prepared.{Prepared};
 ghost use Rattle.document.specs.Policy.{Doc};
 ghost use Rattle.query.specs.Query.{Query};
@@ -35,26 +37,13 @@ pub struct Measured {
     pub tally: Tally,
 }
 
-// Whether the cells of a table of this scheme have labels of their own.
-fn labels_cells(s: Scheme) -> bool
-    ensures { λ r. ⌜ r ≡ labelsCells s ⌝ }
-{
-    match s {
-        Scheme::Unlabelled => false,
-        Scheme::ByTable => false,
-        Scheme::ByColumn => false,
-        Scheme::ByRow => false,
-        Scheme::ByCell => true,
-    }
-}
-
 // Whether gaps are written: they are left, and cells have labels of their own. In a table of another scheme a row that is given has
 // no closed cell in the selected columns.
 fn writes_gaps(verb: Verb, scheme: Scheme) -> bool
     ensures { λ r. ⌜ r ≡ gapsBy verb scheme ⌝ }
 {
     if leaves_gaps(verb) {
-        return labels_cells(scheme);
+        return has_brackets(scheme);
     }
     false
 }
@@ -64,7 +53,8 @@ fn put_answer(
     out: &mut [u8],
     text: &[u8],
     rows: &[usize; ROW_CELLS],
-    opened: &[bool; LABELS],
+    said: &[bool; VERDICTS],
+    m: Marking,
     gaps: bool,
     count: usize,
     marks: &[bool; ROWS],
@@ -74,13 +64,24 @@ fn put_answer(
     tally: Tally,
 ) -> usize
     requires { ⌜ (length (now text) ≤ 60000) × (chosen ≤ 16) × (count ≤ 1024) ⌝ }
-    ensures { λ x. ⌜ OfMarked (now (text .entry)) (now (rows .entry)) (now (opened .entry)) gaps (take chosen (now (columns .entry))) (now (marks .entry)) count lines tally (λ a. Stored (now (out .entry)) 0 (a .bytes) (now (out .exit)) x) ⌝ }
+    ensures { λ x. ⌜ OfMarked (now (text .entry)) (now (rows .entry)) (now (said .entry)) m gaps (take chosen (now (columns .entry))) (now (marks .entry)) count lines tally (λ a. Stored (now (out .entry)) 0 (a .bytes) (now (out .exit)) x) ⌝ }
 {
     let passed = tally.passed;
     let withheld = tally.withheld;
     let unmatched = tally.unmatched;
     if lines {
-        let at = put_lines(out, text, rows, opened, gaps, count, marks, columns, chosen);
+        let at = put_lines(
+            out,
+            text,
+            rows,
+            said,
+            m,
+            gaps,
+            count,
+            marks,
+            columns,
+            chosen,
+        );
         return put_end(out, at, passed, withheld, unmatched);
     }
     put_end(out, 0, passed, withheld, unmatched)
@@ -90,7 +91,8 @@ fn put_answer(
 fn measure_answer(
     text: &[u8],
     rows: &[usize; ROW_CELLS],
-    opened: &[bool; LABELS],
+    said: &[bool; VERDICTS],
+    m: Marking,
     gaps: bool,
     count: usize,
     marks: &[bool; ROWS],
@@ -100,14 +102,15 @@ fn measure_answer(
     tally: Tally,
 ) -> usize
     requires { ⌜ (length (now text) ≤ 60000) × (chosen ≤ 16) × (count ≤ 1024) ⌝ }
-    ensures { λ n. ⌜ OfMarked (now (text .entry)) (now (rows .entry)) (now (opened .entry)) gaps (take chosen (now (columns .entry))) (now (marks .entry)) count lines tally (λ a. n ≡ length (a .bytes)) ⌝ }
+    ensures { λ n. ⌜ OfMarked (now (text .entry)) (now (rows .entry)) (now (said .entry)) m gaps (take chosen (now (columns .entry))) (now (marks .entry)) count lines tally (λ a. n ≡ length (a .bytes)) ⌝ }
 {
     let mut nothing = [0u8; 1];
     put_answer(
         &mut nothing[..0],
         text,
         rows,
-        opened,
+        said,
+        m,
         gaps,
         count,
         marks,
@@ -123,7 +126,8 @@ fn put_measured(
     out: &mut [u8],
     text: &[u8],
     rows: &[usize; ROW_CELLS],
-    opened: &[bool; LABELS],
+    said: &[bool; VERDICTS],
+    m: Marking,
     gaps: bool,
     count: usize,
     marks: &[bool; ROWS],
@@ -133,12 +137,13 @@ fn put_measured(
     tally: Tally,
 ) -> Measured
     requires { ⌜ (length (now text) ≤ 60000) × (chosen ≤ 16) × (count ≤ 1024) ⌝ }
-    ensures { λ x. ⌜ OfMarked (now (text .entry)) (now (rows .entry)) (now (opened .entry)) gaps (take chosen (now (columns .entry))) (now (marks .entry)) count lines tally (λ a. Writes a (now (out .entry)) (now (out .exit)) x) ⌝ }
+    ensures { λ x. ⌜ OfMarked (now (text .entry)) (now (rows .entry)) (now (said .entry)) m gaps (take chosen (now (columns .entry))) (now (marks .entry)) count lines tally (λ a. Writes a (now (out .entry)) (now (out .exit)) x) ⌝ }
 {
     let len = measure_answer(
         text,
         rows,
-        opened,
+        said,
+        m,
         gaps,
         count,
         marks,
@@ -154,7 +159,8 @@ fn put_measured(
         out,
         text,
         rows,
-        opened,
+        said,
+        m,
         gaps,
         count,
         marks,
@@ -184,14 +190,14 @@ pub fn answer_rows(
     tables: &[usize; TABLE_CELLS],
     rows: &[usize; ROW_CELLS],
     count: usize,
-    opened: &[bool; LABELS],
+    said: &[bool; VERDICTS],
     query: &[u8],
     s: Sought,
     tests: &[usize; TEST_CELLS],
     columns: &[usize; 80],
     out: &mut [u8],
 ) -> Measured
-    ensures { λ x. ⌜ ((d : Doc) (q : Query) → Prepared (now (text .entry)) (now (tables .entry)) (now (rows .entry)) count (now (opened .entry)) (now (query .entry)) s (now (tests .entry)) (now (columns .entry)) d q → Writes (answerTo q (seenRows d q)) (now (out .entry)) (now (out .exit)) x) ⌝ }
+    ensures { λ x. ⌜ ((d : Doc) (q : Query) → Prepared (now (text .entry)) (now (tables .entry)) (now (rows .entry)) count (now (said .entry)) (now (query .entry)) s (now (tests .entry)) (now (columns .entry)) d q → Writes (answerTo q (seenRows d q)) (now (out .entry)) (now (out .exit)) x) ⌝ }
 {
     // A prepared query passes these: they keep lengths from wrapping.
     if TEXT_BYTES < text.len() {
@@ -209,7 +215,7 @@ pub fn answer_rows(
         tables,
         rows,
         count,
-        opened,
+        said,
         query,
         s,
         tests,
@@ -223,7 +229,8 @@ pub fn answer_rows(
         out,
         text,
         rows,
-        opened,
+        said,
+        s.marking,
         gaps,
         count,
         &marks,

@@ -1,28 +1,29 @@
 // The lines of an answer: those of the rows that are given, and the last.
 use judging::cells::value_place;
-use judging::fates::cell_open;
+use judging::marking::Marking;
+use judging::marking::cell_open;
+use judging::marking::under_row;
 use relations::rows::row_values;
 use text::words::written_end;
 use workspace::layout::COLUMNS;
-use workspace::layout::LABELS;
 use workspace::layout::ROW_CELLS;
 use workspace::layout::ROWS;
+use workspace::layout::VERDICTS;
 use writing::bytes::put_byte;
 use writing::bytes::put_bytes;
 use writing::bytes::put_decimal;
 use writing::bytes::put_number;
 use writing::bytes::put_sized;
-ghost use Prim.Native.Nat.{_<_, _≤_, ℕ};
+ghost use Prim.Native.Nat.{_<_, _≤_};
 ghost use lib.ListN.{getD, length, set, take};
 ghost use mathlib.Core.List.{List, []};
 ghost use mathlib.Core.Path.{_≡_};
 ghost use Rattle.answer.specs.Answer.{endLine, rowLine};
 ghost use Rattle.answer.specs.Exactly.{withGaps};
 ghost use Rattle.answering.specs.Lines.{Sizes, cellShown, lineMarked, linesMarked, rowShown, shownIn, spacedValues, valuesIn};
-ghost use Rattle.document.specs.Policy.{Doc, Policy};
-ghost use Rattle.judging.specs.Judging.{openIn};
-ghost use Rattle.relations.specs.Labels.{Opened};
-ghost use Rattle.relations.specs.Rows.{Rows, labelCountIn, labelRoom, valueCountIn};
+ghost use Rattle.document.specs.Policy.{Doc};
+ghost use Rattle.judging.specs.Marking.{openIn};
+ghost use Rattle.relations.specs.Rows.{Rows, labelCountIn, labelRoom, labelsIn, valueCountIn};
 ghost use Rattle.text.specs.Numbers.{Value};
 ghost use Rattle.text.specs.Words.{writtenAt};
 ghost use Rattle.writing.specs.Write.{Wrote};
@@ -126,20 +127,22 @@ fn put_gapped(
     at: usize,
     text: &[u8],
     rows: &[usize; ROW_CELLS],
-    opened: &[bool; LABELS],
+    said: &[bool; VERDICTS],
+    m: Marking,
     r: usize,
     width: usize,
     columns: &[usize],
 ) -> usize
     requires { ⌜ (r < 1024) × (width ≤ 16) ⌝ }
-    ensures { λ x. ⌜ ((d : Policy) (p : ℕ) → Opened d p (now (opened .entry)) → labelCountIn (now (rows .entry)) r ≤ labelRoom → Wrote (now (out .entry)) at (spacedValues (now (columns .entry)) (withGaps (openIn d p (now (rows .entry)) r) 0 (valuesIn (now (text .entry)) (now (rows .entry)) r width))) (now (out .exit)) x) ⌝ }
+    ensures { λ x. ⌜ (labelCountIn (now (rows .entry)) r ≤ labelRoom → Wrote (now (out .entry)) at (spacedValues (now (columns .entry)) (withGaps (openIn (now (said .entry)) m (labelsIn (now (rows .entry)) r)) 0 (valuesIn (now (text .entry)) (now (rows .entry)) r width))) (now (out .exit)) x) ⌝ }
 {
+    let own = under_row(rows, said, m, r);
     let mut sizes = [0usize; COLUMNS];
     let mut to = at;
     let mut i = 0;
     while i < columns.len() {
         let c = columns[i];
-        let shown = cell_open(rows, opened, r, c);
+        let shown = cell_open(rows, said, own, r, c);
         let next = put_byte(out, to, b' ');
         to = put_cell(out, next, text, rows, r, width, c, shown, &mut sizes);
         i += 1;
@@ -153,17 +156,18 @@ fn put_shown(
     at: usize,
     text: &[u8],
     rows: &[usize; ROW_CELLS],
-    opened: &[bool; LABELS],
+    said: &[bool; VERDICTS],
+    m: Marking,
     gaps: bool,
     r: usize,
     width: usize,
     columns: &[usize],
 ) -> usize
     requires { ⌜ (r < 1024) × (width ≤ 16) ⌝ }
-    ensures { λ x. ⌜ ((d : Policy) (p : ℕ) → Opened d p (now (opened .entry)) → labelCountIn (now (rows .entry)) r ≤ labelRoom → Wrote (now (out .entry)) at (spacedValues (now (columns .entry)) (shownIn d p (now (text .entry)) (now (rows .entry)) gaps r width)) (now (out .exit)) x) ⌝ }
+    ensures { λ x. ⌜ (labelCountIn (now (rows .entry)) r ≤ labelRoom → Wrote (now (out .entry)) at (spacedValues (now (columns .entry)) (shownIn (now (said .entry)) m (now (text .entry)) (now (rows .entry)) gaps r width)) (now (out .exit)) x) ⌝ }
 {
     if gaps {
-        return put_gapped(out, at, text, rows, opened, r, width, columns);
+        return put_gapped(out, at, text, rows, said, m, r, width, columns);
     }
     put_values(out, at, text, rows, r, width, columns)
 }
@@ -174,17 +178,18 @@ fn put_row(
     at: usize,
     text: &[u8],
     rows: &[usize; ROW_CELLS],
-    opened: &[bool; LABELS],
+    said: &[bool; VERDICTS],
+    m: Marking,
     gaps: bool,
     r: usize,
     width: usize,
     columns: &[usize],
 ) -> usize
     requires { ⌜ (r < 1024) × (width ≤ 16) ⌝ }
-    ensures { λ x. ⌜ ((d : Policy) (p : ℕ) → Opened d p (now (opened .entry)) → labelCountIn (now (rows .entry)) r ≤ labelRoom → Wrote (now (out .entry)) at (rowLine (now (columns .entry)) (shownIn d p (now (text .entry)) (now (rows .entry)) gaps r width)) (now (out .exit)) x) ⌝ }
+    ensures { λ x. ⌜ (labelCountIn (now (rows .entry)) r ≤ labelRoom → Wrote (now (out .entry)) at (rowLine (now (columns .entry)) (shownIn (now (said .entry)) m (now (text .entry)) (now (rows .entry)) gaps r width)) (now (out .exit)) x) ⌝ }
 {
     let a = put_bytes(out, at, b"(row");
-    let b = put_shown(out, a, text, rows, opened, gaps, r, width, columns);
+    let b = put_shown(out, a, text, rows, said, m, gaps, r, width, columns);
     put_bytes(out, b, b")\n")
 }
 
@@ -194,18 +199,19 @@ fn put_line(
     at: usize,
     text: &[u8],
     rows: &[usize; ROW_CELLS],
-    opened: &[bool; LABELS],
+    said: &[bool; VERDICTS],
+    m: Marking,
     gaps: bool,
     r: usize,
     marked: bool,
     columns: &[usize],
 ) -> usize
     requires { ⌜ r < 1024 ⌝ }
-    ensures { λ x. ⌜ ((d : Policy) (p : ℕ) → Opened d p (now (opened .entry)) → valueCountIn (now (rows .entry)) r ≤ 16 → labelCountIn (now (rows .entry)) r ≤ labelRoom → Wrote (now (out .entry)) at (lineMarked (rowShown d p (now (text .entry)) (now (rows .entry)) gaps) (now (columns .entry)) r marked) (now (out .exit)) x) ⌝ }
+    ensures { λ x. ⌜ (valueCountIn (now (rows .entry)) r ≤ 16 → labelCountIn (now (rows .entry)) r ≤ labelRoom → Wrote (now (out .entry)) at (lineMarked (rowShown (now (said .entry)) m (now (text .entry)) (now (rows .entry)) gaps) (now (columns .entry)) r marked) (now (out .exit)) x) ⌝ }
 {
     if marked {
         let width = row_values(rows, r);
-        return put_row(out, at, text, rows, opened, gaps, r, width, columns);
+        return put_row(out, at, text, rows, said, m, gaps, r, width, columns);
     }
     at
 }
@@ -215,19 +221,20 @@ fn put_marked(
     out: &mut [u8],
     text: &[u8],
     rows: &[usize; ROW_CELLS],
-    opened: &[bool; LABELS],
+    said: &[bool; VERDICTS],
+    m: Marking,
     gaps: bool,
     count: usize,
     marks: &[bool],
     columns: &[usize],
 ) -> usize
     requires { ⌜ (count ≤ 1024) × (length (now marks) ≡ 1024) ⌝ }
-    ensures { λ x. ⌜ ((d : Doc) (p : ℕ) → Opened (d .policy) p (now (opened .entry)) → Rows (now (text .entry)) (now (rows .entry)) count (d .rows) → Wrote (now (out .entry)) 0 (linesMarked (rowShown (d .policy) p (now (text .entry)) (now (rows .entry)) gaps) (now (columns .entry)) (now (marks .entry)) count) (now (out .exit)) x) ⌝ }
+    ensures { λ x. ⌜ ((d : Doc) → Rows (now (text .entry)) (now (rows .entry)) count (d .rows) → Wrote (now (out .entry)) 0 (linesMarked (rowShown (now (said .entry)) m (now (text .entry)) (now (rows .entry)) gaps) (now (columns .entry)) (now (marks .entry)) count) (now (out .exit)) x) ⌝ }
 {
     let mut to = 0;
     let mut r = 0;
     while r < count {
-        to = put_line(out, to, text, rows, opened, gaps, r, marks[r], columns);
+        to = put_line(out, to, text, rows, said, m, gaps, r, marks[r], columns);
         r += 1;
     }
     to
@@ -238,7 +245,8 @@ pub(crate) fn put_lines(
     out: &mut [u8],
     text: &[u8],
     rows: &[usize; ROW_CELLS],
-    opened: &[bool; LABELS],
+    said: &[bool; VERDICTS],
+    m: Marking,
     gaps: bool,
     count: usize,
     marks: &[bool; ROWS],
@@ -246,7 +254,7 @@ pub(crate) fn put_lines(
     chosen: usize,
 ) -> usize
     requires { ⌜ (chosen ≤ 16) × (count ≤ 1024) ⌝ }
-    ensures { λ x. ⌜ ((d : Doc) (p : ℕ) → Opened (d .policy) p (now (opened .entry)) → Rows (now (text .entry)) (now (rows .entry)) count (d .rows) → Wrote (now (out .entry)) 0 (linesMarked (rowShown (d .policy) p (now (text .entry)) (now (rows .entry)) gaps) (take chosen (now (columns .entry))) (now (marks .entry)) count) (now (out .exit)) x) ⌝ }
+    ensures { λ x. ⌜ ((d : Doc) → Rows (now (text .entry)) (now (rows .entry)) count (d .rows) → Wrote (now (out .entry)) 0 (linesMarked (rowShown (now (said .entry)) m (now (text .entry)) (now (rows .entry)) gaps) (take chosen (now (columns .entry))) (now (marks .entry)) count) (now (out .exit)) x) ⌝ }
 {
     let marked: &[bool] = marks;
     let numbers: &[usize] = columns;
@@ -254,7 +262,8 @@ pub(crate) fn put_lines(
         out,
         text,
         rows,
-        opened,
+        said,
+        m,
         gaps,
         count,
         marked,

@@ -18,11 +18,12 @@ use Rattle.document.specs.Check.{checkLine}
 use Rattle.document.specs.Lookup.{columnsOf, labelOf, schemeOf, tableOf}
 use Rattle.document.specs.Meaning.{add, define, rowMeant, rowsGiven}
 use Rattle.document.specs.NameFaults.{rowLabels, taken, unknown}
+use Rattle.document.specs.NoteFaults.{misplaced}
 use Rattle.document.specs.Policy.{Column, Doc, Policy, Row}
 use Rattle.document.specs.TypeFaults.{cellHasKind, mistypedValue, wrongType}
 use Rattle.document.specs.ValueFaults.{misfit, rowValues}
-use Rattle.form.proofs.RowBack.{itemsOf, placelessItem, row-back, row-read, rowParts}
-use Rattle.form.specs.Form.{Form, Item, Scheme, byRow, row}
+use Rattle.form.proofs.RowBack.{itemsOf, placelessItem, row-back, row-read, rowParts, valueItems}
+use Rattle.form.specs.Form.{Form, Item, Scheme, byRow, hasBrackets, leadsLabel, row}
 use Rattle.form.specs.FormReader.{formOf}
 use Rattle.form.specs.RowText.{labelCount, rowText}
 use Rattle.import.specs.Importing.{oneLabel}
@@ -80,7 +81,7 @@ one-word l (w ∷ []) e = (w, refl, head e)
 one-word l (w ∷ v ∷ ws) e = absurd (omega (arith, ap length e))
 
 row-of-parts : (t l : Name) (vs : List Value) → isName l ≡ true → (f : Form) → rowParts f ≡ some (plainWord t, itemsOf oneLabel (l ∷ []) vs) → RowOf t l vs f
-unfolding itemsOf labelCount allOf placeless plainWord
+unfolding itemsOf leadsLabel hasBrackets valueItems labelCount allOf placeless plainWord
 row-of-parts t l vs h f e =
     let named : allOf isName (l ∷ []) ≡ true = and-both (isName l) true h refl in
     let x = row-form f _ _ e in
@@ -219,7 +220,7 @@ module _ (d : Doc) {t l : Name} (e : Entry) {f : Form} (r : RowOf t l (e .fields
   adds-row = ap (λ (x : Row). record { policy = d .policy; rows = d .rows ++ (x ∷ []) }) (meant-is (d .policy) r s)
 
   pub row-accepts : (line : List ℕ) → formOf line ≡ some f → allOf isValue (e .fields) ≡ true → Takes d t l e → checkLine d line ≡ accepted (withRow d t l e)
-  unfolding fitsColumns overBound taken secondRoot lateAttr
+  unfolding fitsColumns overBound taken secondRoot lateAttr misplaced
   row-accepts line is plainly k =
       let cs : List Column = columnsOf (d .policy) (plainWord t) in
       let width : eqb (length (e .fields)) (length cs) ≡ true = and-left _ _ (k .fit) in
@@ -233,6 +234,7 @@ module _ (d : Doc) {t l : Name} (e : Entry) {f : Form} (r : RowOf t l (e .fields
       (there-none _ (typed-is (d .policy) r s ∙ not-true _ types))
       (ordered-is (d .policy) r s plainly)
       (dated-is (d .policy) r s plainly)
+      refl
       refl
       ∙ ap accepted adds-row
 

@@ -12,6 +12,7 @@ use Rattle.document.specs.AmountFaults.{brokenRange, noSuchDate}
 use Rattle.document.specs.Bounds.{lateAttr, overBound, secondRoot}
 use Rattle.document.specs.Lookup.{attributeOf, roleOf}
 use Rattle.document.specs.NameFaults.{taken, unknown}
+use Rattle.document.specs.NoteFaults.{misplaced}
 use Rattle.document.specs.Policy.{Attribute, Doc, Node}
 use Rattle.document.specs.TypeFaults.{wrongType}
 use Rattle.document.specs.ValueFaults.{misfit}
@@ -83,7 +84,8 @@ module _ (text roles : List ℕ) (m : ℕ) (ws : List ℕ) (k users : ℕ) (line
             (λ d h. lt-ltb 0 (length (d .policy .users)) (omega (arith, h .2, u)))
 
         pub attr-fine : users ≤ 0 → Says Fine
-        unfolding lateAttr secondRoot misfit wrongType brokenRange noSuchDate
+        unfolding lateAttr misplaced secondRoot misfit wrongType brokenRange noSuchDate
         attr-fine u =
             says-fine Held Placed′ line (attr (wordOf line r) (wordOf line a) t) k 32 roomy fresh role-known (λ d h. refl) (λ d h. refl) (λ d h. refl) (λ d h. refl) (λ d h. refl) l
             (λ d h. le-ltb 0 (length (d .policy .users)) (omega (arith, h .2, u)))
+            (λ d h. refl)

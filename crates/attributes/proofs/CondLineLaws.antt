@@ -20,6 +20,7 @@ use Rattle.document.specs.AmountFaults.{brokenRange, noSuchDate}
 use Rattle.document.specs.Bounds.{lateAttr, overBound, secondRoot}
 use Rattle.document.specs.Lookup.{attributeKind, attributeNamed, attributeOf, condRoleOf, hasAttribute, isClock, roleOf}
 use Rattle.document.specs.NameFaults.{taken, unknown, usableFor}
+use Rattle.document.specs.NoteFaults.{misplaced}
 use Rattle.document.specs.Policy.{Attribute, Doc, Policy, treeOf}
 use Rattle.document.specs.TypeFaults.{wrongType}
 use Rattle.document.specs.ValueFaults.{misfit}
@@ -237,6 +238,10 @@ module _ (d : Doc) (line : List ℕ) (c r : ℕ) (x : Cond Compared) where
   pub cond-late : lateAttr (d .policy) form ≡ false
   unfolding lateAttr
   cond-late = refl
+
+  pub cond-placed : misplaced d form ≡ false
+  unfolding misplaced
+  cond-placed = refl
 
 -- the same by the places that were stored
 module _ (d : Doc) (line : List ℕ) (c r : ℕ) (x : Cond Compared) (l : Left) (at : ℕ) (k : conditionInForm (from line at) ≡ some (x, l)) (rd : Read) (ops : List ℕ) (p : Placed line at rd ops) (e n : ℕ) (h : rd ≡ read.At e n) (few : n ≤ 64) where

@@ -10,6 +10,7 @@ use nodes::steps::step_purpose_below;
 use nodes::steps::step_purpose_root;
 use nodes::steps::step_role_below;
 use nodes::steps::step_role_root;
+use notes::steps::step_label_note;
 use notes::steps::step_public;
 use rows::steps::step_row;
 use stepping::fault::Fault;
@@ -76,6 +77,8 @@ fn step_form(
         Line::Table(t, k, l, cs) => step_table(text, at, line, labels, tables, c, t, k, l, cs),
         Line::Row(t, items) => step_row(text, at, line, labels, tables, rows, c, t, items),
         Line::Public(t) => step_public(text, line, tables, c, t),
+        Line::Weak(t, l) => step_label_note(text, line, labels, tables, rows, c, t, l, false),
+        Line::Strong(t, l) => step_label_note(text, line, labels, tables, rows, c, t, l, true),
     }
 }
 

@@ -1,82 +1,98 @@
 -- What is open to a purpose, and to those below it. Assumes nothing.
-use Prim.Native.Nat.{_<_, ℕ}
+use Prim.Native.Nat.{_<_, suc, ℕ}
 use borrow.Author.Tests.{lt-ltb}
 use lib.ListN.{getElem?, length, length-map}
-use mathlib.Core.Bool.{Bool, false, not, true}
+use mathlib.Core.Bool.{Bool, false, not, true, true≢false}
 use mathlib.Core.List.{List, map}
 use mathlib.Core.Option.{Option, bind, none, some}
 use mathlib.Core.Path.{_≡_, refl}
 use Rattle.document.specs.Lookup.{settled}
-use Rattle.document.specs.Open.{cellOpen, columnOpen, labelOpen, rowWithheld, tableOpen}
+use Rattle.document.specs.NoteFaults.{isNested}
+use Rattle.document.specs.Open.{Opening, cellOpen, columnOpen, labelOpen, marksAt, nestOpen, openTo, rowWithheld, tableOpen}
 use Rattle.document.specs.Policy.{Label, Node, Policy, treeOf}
-use Rattle.form.specs.Form.{Note, Scheme, byCell, byColumn, byRow, byTable, unlabelled}
+use Rattle.form.specs.Form.{Note, Scheme, byCell, byColumn, byRow, byTable, nested, unlabelled}
 use Rattle.purpose.proofs.Compliance.{opens-below}
+use Rattle.purpose.proofs.Nesting.{nest-below}
 use Rattle.purpose.specs.Compliance.{descends, inTree, opens}
 use Rattle.lists.proofs.ListLaws.{any-at, any-mono}
 use Rattle.lists.proofs.Tests.{not-false, true-not-false}
 use Rattle.lists.specs.Lists.{holdsOf, member}
 
 -- a row that is not withheld, of an open table with open columns, shows open cells only
-pub shown-open : (isOpen : Option ℕ → Bool) (s : Scheme ℕ) (cs labels : List ℕ) → tableOpen isOpen s ≡ true
-    → ((k : ℕ) → member k cs ≡ true → columnOpen isOpen s k ≡ true) → rowWithheld isOpen s cs labels ≡ false
-    → (c : ℕ) → member c cs ≡ true → cellOpen isOpen s labels c ≡ true
+pub shown-open : (opening : Opening) (s : Scheme ℕ) (cs labels : List ℕ) → tableOpen opening s ≡ true
+    → ((k : ℕ) → member k cs ≡ true → columnOpen opening s k ≡ true) → rowWithheld opening s cs labels ≡ false
+    → (c : ℕ) → member c cs ≡ true → cellOpen opening s labels c ≡ true
 unfolding tableOpen columnOpen rowWithheld cellOpen
-shown-open isOpen (unlabelled b) cs labels t k w c m = t
-shown-open isOpen (byTable l) cs labels t k w c m = t
-shown-open isOpen (byColumn ls) cs labels t k w c m = k c m
-shown-open isOpen byRow cs labels t k w c m = not-false _ w
-shown-open isOpen byCell cs labels t k w c m = any-at (λ c. isOpen (getElem? labels c)) cs w c m
+shown-open opening (unlabelled b) cs labels t k w c m = t
+shown-open opening (byTable l) cs labels t k w c m = t
+shown-open opening (byColumn ls) cs labels t k w c m = k c m
+shown-open opening byRow cs labels t k w c m = not-false _ w
+shown-open opening byCell cs labels t k w c m = any-at (λ c. opening .label (getElem? labels c)) cs w c m
+shown-open opening (nested u s) cs labels t k w c m = any-at (λ c. opening .nest s u (getElem? labels 0) (getElem? labels (suc c))) cs w c m
 
--- what notes say of a table moves neither its columns nor its rows
-module _ (isOpen : Option ℕ → Bool) (ns : List (Note ℕ)) where
-  pub settled-column : (s : Scheme ℕ) (c : ℕ) → columnOpen isOpen (settled ns s) c ≡ columnOpen isOpen s c
+-- what notes say of a table moves none of its columns
+module _ (opening : Opening) (ns : List (Note ℕ)) where
+  pub settled-column : (s : Scheme ℕ) (c : ℕ) → columnOpen opening (settled ns s) c ≡ columnOpen opening s c
   unfolding settled columnOpen
   settled-column (unlabelled b) c = refl
   settled-column (byTable l) c = refl
   settled-column (byColumn ls) c = refl
   settled-column byRow c = refl
   settled-column byCell c = refl
+  settled-column (nested w s) c = refl
 
-  pub settled-withheld : (s : Scheme ℕ) (cs labels : List ℕ) → rowWithheld isOpen (settled ns s) cs labels ≡ rowWithheld isOpen s cs labels
-  unfolding settled rowWithheld
-  settled-withheld (unlabelled b) cs labels = refl
-  settled-withheld (byTable l) cs labels = refl
-  settled-withheld (byColumn ls) cs labels = refl
-  settled-withheld byRow cs labels = refl
-  settled-withheld byCell cs labels = refl
+  -- declaring a labelled table public does nothing: its rows are withheld as before (02, Q-2)
+  pub settled-withheld : (s : Scheme ℕ) → isNested s ≡ false → (cs labels : List ℕ) → rowWithheld opening (settled ns s) cs labels ≡ rowWithheld opening s cs labels
+  unfolding settled rowWithheld isNested
+  settled-withheld (unlabelled b) h cs labels = refl
+  settled-withheld (byTable l) h cs labels = refl
+  settled-withheld (byColumn ls) h cs labels = refl
+  settled-withheld byRow h cs labels = refl
+  settled-withheld byCell h cs labels = refl
+  settled-withheld (nested w s) h cs labels = absurd (true≢false h)
+
+-- all that is open by the first is open by the second
+pub record Wider (opening opening′ : Opening) : Type 0 where
+  pub label : (l : Option ℕ) → opening .label l ≡ true → opening′ .label l ≡ true
+  pub nest : (s t r c : Option ℕ) → opening .nest s t r c ≡ true → opening′ .nest s t r c ≡ true
 
 -- where more labels are open, more is open and less is withheld
-module _ (isOpen isOpen′ : Option ℕ → Bool) (wider : (l : Option ℕ) → isOpen l ≡ true → isOpen′ l ≡ true) where
-  pub tableOpen-more : (s : Scheme ℕ) → tableOpen isOpen s ≡ true → tableOpen isOpen′ s ≡ true
+module _ (opening opening′ : Opening) (wider : Wider opening opening′) where
+  pub tableOpen-more : (s : Scheme ℕ) → tableOpen opening s ≡ true → tableOpen opening′ s ≡ true
   unfolding tableOpen
   tableOpen-more (unlabelled b) h = h
-  tableOpen-more (byTable l) h = wider (some l) h
+  tableOpen-more (byTable l) h = wider .label (some l) h
   tableOpen-more (byColumn ls) h = h
   tableOpen-more byRow h = h
   tableOpen-more byCell h = h
+  tableOpen-more (nested w s) h = h
 
-  pub columnOpen-more : (s : Scheme ℕ) (c : ℕ) → columnOpen isOpen s c ≡ true → columnOpen isOpen′ s c ≡ true
+  pub columnOpen-more : (s : Scheme ℕ) (c : ℕ) → columnOpen opening s c ≡ true → columnOpen opening′ s c ≡ true
   unfolding columnOpen
   columnOpen-more (unlabelled b) c h = h
   columnOpen-more (byTable l) c h = h
-  columnOpen-more (byColumn ls) c h = wider (getElem? ls c) h
+  columnOpen-more (byColumn ls) c h = wider .label (getElem? ls c) h
   columnOpen-more byRow c h = h
   columnOpen-more byCell c h = h
+  columnOpen-more (nested w s) c h = h
 
-  closed-less : (l : Option ℕ) → not (isOpen′ l) ≡ true → not (isOpen l) ≡ true
-  closed-less l h = go (isOpen l) refl
-    where
-      go : (b : Bool) → isOpen l ≡ b → not (isOpen l) ≡ true
-      go true e = true-not-false h (rw (wider l e))
-      go false e = rw e
+  closed-less : (a b : Bool) → (a ≡ true → b ≡ true) → not b ≡ true → not a ≡ true
+  closed-less true b f h = true-not-false h (rw (f refl))
+  closed-less false b f h = refl
 
-  pub rowWithheld-less : (s : Scheme ℕ) (cs labels : List ℕ) → rowWithheld isOpen′ s cs labels ≡ true → rowWithheld isOpen s cs labels ≡ true
+  pub rowWithheld-less : (s : Scheme ℕ) (cs labels : List ℕ) → rowWithheld opening′ s cs labels ≡ true → rowWithheld opening s cs labels ≡ true
   unfolding rowWithheld
   rowWithheld-less (unlabelled b) cs labels h = h
   rowWithheld-less (byTable l) cs labels h = h
   rowWithheld-less (byColumn ls) cs labels h = h
-  rowWithheld-less byRow cs labels h = closed-less (getElem? labels 0) h
-  rowWithheld-less byCell cs labels h = any-mono (λ c. not (isOpen′ (getElem? labels c))) (λ c. not (isOpen (getElem? labels c))) (λ c. closed-less (getElem? labels c)) cs h
+  rowWithheld-less byRow cs labels h = closed-less (opening .label (getElem? labels 0)) (opening′ .label (getElem? labels 0)) (wider .label (getElem? labels 0)) h
+  rowWithheld-less byCell cs labels h =
+      any-mono (λ c. not (opening′ .label (getElem? labels c))) (λ c. not (opening .label (getElem? labels c))) (λ c.
+      closed-less (opening .label (getElem? labels c)) (opening′ .label (getElem? labels c)) (wider .label (getElem? labels c))) cs h
+  rowWithheld-less (nested w s) cs labels h =
+      any-mono (λ c. not (opening′ .nest s w (getElem? labels 0) (getElem? labels (suc c)))) (λ c. not (opening .nest s w (getElem? labels 0) (getElem? labels (suc c)))) (λ c.
+      closed-less (opening .nest s w (getElem? labels 0) (getElem? labels (suc c))) (opening′ .nest s w (getElem? labels 0) (getElem? labels (suc c)))
+      (wider .nest s w (getElem? labels 0) (getElem? labels (suc c)))) cs h
 
 -- a label that is open to p is open to every purpose below p
 pub label-below : (d : Policy) (p q : ℕ) → q < length (d .purposes) → descends (treeOf (d .purposes)) q p ≡ true
@@ -90,3 +106,14 @@ label-below d p q isIn below l h = go (bind l (getElem? (d .labels))) h
     go : (o : Option Label) → holdsOf (λ x. opens (treeOf (d .purposes)) (x .marks) p) o ≡ true → holdsOf (λ x. opens (treeOf (d .purposes)) (x .marks) q) o ≡ true
     go none h = unfold holdsOf in h
     go (some x) h = unfold holdsOf in opens-below (treeOf (d .purposes)) (x .marks) p q in-tree below h
+
+-- all that is open to p is open to every purpose below p, cells of nest tables too
+pub open-below : (d : Policy) (p q : ℕ) → q < length (d .purposes) → descends (treeOf (d .purposes)) q p ≡ true → Wider (openTo d p) (openTo d q)
+unfolding nestOpen
+open-below d p q isIn below = record {
+  label = label-below d p q isIn below;
+  nest = λ s t r c. nest-below (treeOf (d .purposes)) (marksAt d s) (marksAt d t) (marksAt d r) (marksAt d c) p q in-tree below;
+}
+  where
+    in-tree : inTree (treeOf (d .purposes)) q ≡ true
+    in-tree = unfold treeOf in lt-ltb q (length (map (λ (n : Node). n .parent) (d .purposes))) (rw (length-map (d .purposes)) isIn)

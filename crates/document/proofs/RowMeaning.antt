@@ -1,7 +1,7 @@
 -- The row that a row line means: places do not matter, and a line written out from its parts means the row of those parts.
 -- Assumes nothing.
-use Prim.Native.Nat.{ℕ}
-use lib.ListN.{length}
+use Prim.Native.Nat.{suc, ℕ}
+use lib.ListN.{drop, length, take}
 use mathlib.Core.Bool.{Bool, cond, false, true}
 use mathlib.Core.List.{List, [], _++_, _∷_, map, zipWith}
 use mathlib.Core.Option.{Option, Option·getD, Option·map, Option·none-ne-some, Option·some-injective, none, some}
@@ -11,11 +11,11 @@ use Rattle.document.specs.Lookup.{labelOf, schemeOf, tableOf}
 use Rattle.document.specs.Meaning.{define, rowMeant, rowsGiven}
 use Rattle.document.specs.NameFaults.{bracketLabels, leadingName, rowLabels, unknown}
 use Rattle.document.specs.Policy.{Policy}
-use Rattle.document.specs.ValueFaults.{bracketValues, plainValues, rowValues, valuesBehindLabel}
-use Rattle.form.proofs.RowBack.{itemsOf, placelessItem, rowParts}
-use Rattle.form.specs.Form.{Form, Item, Scheme, attr, byCell, byColumn, byRow, byTable, condRole, grant, label, labelled, note, plain, purpose, role, row, table, unlabelled, user}
+use Rattle.document.specs.ValueFaults.{bracketValues, plainValues, rowValues, shapedValues, valuesBehindLabel}
+use Rattle.form.proofs.RowBack.{itemsOf, placelessItem, rowParts, valueItems}
+use Rattle.form.specs.Form.{Form, Item, Scheme, attr, condRole, grant, hasBrackets, label, labelled, leadsLabel, note, plain, purpose, role, row, table, user}
 use Rattle.form.specs.RowText.{labelCount}
-use Rattle.lists.proofs.ListLaws.{all-map, map-map}
+use Rattle.lists.proofs.ListLaws.{all-map, map-append, map-map}
 use Rattle.text.proofs.OffendingLaws.{leftmost-head, leftmost-tail, missing-none, unless-none}
 use Rattle.text.proofs.ReadBack.{placeless}
 use Rattle.lists.proofs.Tests.{and-left}
@@ -46,23 +46,29 @@ bracketValues-placeless (labelled v l ∷ is) = rw (bracketValues-placeless is) 
     go none = refl
     go (some ws) = refl
 
-behindLabel-placeless : (is : List Item) → valuesBehindLabel (map placelessItem is) ≡ Option·map (map placeless) (valuesBehindLabel is)
+behindLabel-placeless : (values : List Item → Option (List Word)) → ((js : List Item) → values (map placelessItem js) ≡ Option·map (map placeless) (values js))
+    → (is : List Item) → valuesBehindLabel values (map placelessItem is) ≡ Option·map (map placeless) (valuesBehindLabel values is)
 unfolding valuesBehindLabel placelessItem placeless plainWord
-behindLabel-placeless [] = refl
-behindLabel-placeless (plain w ∷ is) = go (isName (w .bytes))
+behindLabel-placeless values h [] = refl
+behindLabel-placeless values h (plain w ∷ is) = go (isName (w .bytes))
   where
-    go : (b : Bool) → cond b (plainValues (map placelessItem is)) none ≡ Option·map (map placeless) (cond b (plainValues is) none)
-    go true = plainValues-placeless is
+    go : (b : Bool) → cond b (values (map placelessItem is)) none ≡ Option·map (map placeless) (cond b (values is) none)
+    go true = h is
     go false = refl
-behindLabel-placeless (labelled v l ∷ is) = refl
+behindLabel-placeless values h (labelled v l ∷ is) = refl
+
+shaped-placeless : (b : Bool) (is : List Item) → shapedValues b (map placelessItem is) ≡ Option·map (map placeless) (shapedValues b is)
+unfolding shapedValues
+shaped-placeless true is = bracketValues-placeless is
+shaped-placeless false is = plainValues-placeless is
 
 pub rowValues-placeless : (s : Scheme ℕ) (is : List Item) → rowValues s (map placelessItem is) ≡ Option·map (map placeless) (rowValues s is)
 unfolding rowValues
-rowValues-placeless (unlabelled b) is = plainValues-placeless is
-rowValues-placeless (byTable l) is = plainValues-placeless is
-rowValues-placeless (byColumn ls) is = plainValues-placeless is
-rowValues-placeless byRow is = behindLabel-placeless is
-rowValues-placeless byCell is = bracketValues-placeless is
+rowValues-placeless s is = go (leadsLabel s) (hasBrackets s)
+  where
+    go : (a b : Bool) → cond a (valuesBehindLabel (shapedValues b) (map placelessItem is)) (shapedValues b (map placelessItem is)) ≡ Option·map (map placeless) (cond a (valuesBehindLabel (shapedValues b) is) (shapedValues b is))
+    go true b = behindLabel-placeless (shapedValues b) (shaped-placeless b) is
+    go false b = shaped-placeless b is
 
 leadingName-placeless : (is : List Item) → leadingName (map placelessItem is) ≡ map placeless (leadingName is)
 unfolding leadingName placelessItem placeless plainWord
@@ -82,11 +88,15 @@ bracketLabels-placeless (labelled v l ∷ is) = ap (λ ws. placeless l ∷ ws) (
 
 pub rowLabels-placeless : (s : Scheme ℕ) (is : List Item) → rowLabels s (map placelessItem is) ≡ map placeless (rowLabels s is)
 unfolding rowLabels
-rowLabels-placeless (unlabelled b) is = refl
-rowLabels-placeless (byTable l) is = refl
-rowLabels-placeless (byColumn ls) is = refl
-rowLabels-placeless byRow is = leadingName-placeless is
-rowLabels-placeless byCell is = bracketLabels-placeless is
+rowLabels-placeless s is = (λ i. first (leadsLabel s) i ++ others (hasBrackets s) i) ∙ sym (map-append placeless (cond (leadsLabel s) (leadingName is) []) (cond (hasBrackets s) (bracketLabels is) []))
+  where
+    first : (a : Bool) → cond a (leadingName (map placelessItem is)) [] ≡ map placeless (cond a (leadingName is) [])
+    first true = leadingName-placeless is
+    first false = refl
+
+    others : (b : Bool) → cond b (bracketLabels (map placelessItem is)) [] ≡ map placeless (cond b (bracketLabels is) [])
+    others true = bracketLabels-placeless is
+    others false = refl
 
 bytes-placeless : (o : Option (List Word)) → map (λ (w : Word). w .bytes) (Option·getD (Option·map (map placeless) o) []) ≡ map (λ (w : Word). w .bytes) (Option·getD o [])
 unfolding placeless plainWord
@@ -161,37 +171,45 @@ brackets-back [] (l ∷ ls) e = absurd (omega arith)
 brackets-back (v ∷ vs) [] e = absurd (omega arith)
 brackets-back (v ∷ vs) (l ∷ ls) e = ap (λ x. plainWord l ∷ x) (brackets-back vs ls (omega arith))
 
-behind-back : (ls : List Name) (vs : List Value) → length ls ≡ 1 → allOf isName ls ≡ true → valuesBehindLabel (map (λ v. plain (plainWord v)) (ls ++ vs)) ≡ some (map plainWord vs)
-unfolding valuesBehindLabel plainWord allOf
-behind-back [] vs e h = absurd (omega arith)
-behind-back (l ∷ []) vs e h = rw (and-left (isName l) _ h, valuesBehindLabel) (plain-back vs)
-behind-back (l ∷ m ∷ ls) vs e h = absurd (omega arith)
-
-leading-back : (ls : List Name) (vs : List Value) → length ls ≡ 1 → allOf isName ls ≡ true → leadingName (map (λ v. plain (plainWord v)) (ls ++ vs)) ≡ map plainWord ls
-unfolding leadingName plainWord allOf
-leading-back [] vs e h = absurd (omega arith)
-leading-back (l ∷ []) vs e h = rw (and-left (isName l) _ h, leadingName)
-leading-back (l ∷ m ∷ ls) vs e h = absurd (omega arith)
-
 empty-of : (ls : List Name) → length ls ≡ 0 → [] ≡ map plainWord ls
 empty-of [] e = refl
 empty-of (l ∷ ls) e = absurd (omega arith)
 
+-- ---- the values and labels behind the row's own
+
+shaped-back : (b : Bool) (ls : List Name) (vs : List Value) → length ls ≡ cond b (length vs) 0 → shapedValues b (valueItems b ls vs) ≡ some (map plainWord vs)
+unfolding shapedValues valueItems
+shaped-back true ls vs e = bracket-back vs ls e
+shaped-back false ls vs e = plain-back vs
+
+marks-back : (b : Bool) (ls : List Name) (vs : List Value) → length ls ≡ cond b (length vs) 0 → cond b (bracketLabels (valueItems b ls vs)) [] ≡ map plainWord ls
+unfolding valueItems
+marks-back true ls vs e = brackets-back vs ls e
+marks-back false ls vs e = empty-of ls e
+
+-- ---- with it, where the row leads with one
+
+values-by : (a b : Bool) (ls : List Name) (vs : List Value) → length ls ≡ cond a (suc (cond b (length vs) 0)) (cond b (length vs) 0) → allOf isName ls ≡ true
+    → (let is : List Item = map (λ v. plain (plainWord v)) (cond a (take 1 ls) []) ++ valueItems b (cond a (drop 1 ls) ls) vs in cond a (valuesBehindLabel (shapedValues b) is) (shapedValues b is)) ≡ some (map plainWord vs)
+unfolding valuesBehindLabel plainWord allOf
+values-by false b ls vs e h = shaped-back b ls vs e
+values-by true b [] vs e h = absurd (omega arith)
+values-by true b (l ∷ ls) vs e h = rw (and-left (isName l) _ h, valuesBehindLabel) (shaped-back b ls vs (omega arith))
+
+labels-by : (a b : Bool) (ls : List Name) (vs : List Value) → length ls ≡ cond a (suc (cond b (length vs) 0)) (cond b (length vs) 0) → allOf isName ls ≡ true
+    → (let is : List Item = map (λ v. plain (plainWord v)) (cond a (take 1 ls) []) ++ valueItems b (cond a (drop 1 ls) ls) vs in cond a (leadingName is) [] ++ cond b (bracketLabels is) []) ≡ map plainWord ls
+unfolding leadingName bracketLabels plainWord allOf
+labels-by false b ls vs e h = marks-back b ls vs e
+labels-by true b [] vs e h = absurd (omega arith)
+labels-by true b (l ∷ ls) vs e h = rw (and-left (isName l) _ h, leadingName) (ap (λ (ws : List Word). plainWord l ∷ ws) (marks-back b ls vs (omega arith)))
+
 pub values-back : (s : Scheme ℕ) (ls : List Name) (vs : List Value) → length ls ≡ labelCount s (length vs) → allOf isName ls ≡ true → rowValues s (itemsOf s ls vs) ≡ some (map plainWord vs)
 unfolding rowValues itemsOf labelCount
-values-back (unlabelled b) ls vs e h = plain-back vs
-values-back (byTable l) ls vs e h = plain-back vs
-values-back (byColumn cs) ls vs e h = plain-back vs
-values-back byRow ls vs e h = behind-back ls vs e h
-values-back byCell ls vs e h = bracket-back vs ls e
+values-back s ls vs e h = values-by (leadsLabel s) (hasBrackets s) ls vs e h
 
 pub labels-back : (s : Scheme ℕ) (ls : List Name) (vs : List Value) → length ls ≡ labelCount s (length vs) → allOf isName ls ≡ true → rowLabels s (itemsOf s ls vs) ≡ map plainWord ls
 unfolding rowLabels itemsOf labelCount
-labels-back (unlabelled b) ls vs e h = empty-of ls e
-labels-back (byTable l) ls vs e h = empty-of ls e
-labels-back (byColumn cs) ls vs e h = empty-of ls e
-labels-back byRow ls vs e h = leading-back ls vs e h
-labels-back byCell ls vs e h = brackets-back vs ls e
+labels-back s ls vs e h = labels-by (leadsLabel s) (hasBrackets s) ls vs e h
 
 pub bytes-back : (vs : List Value) → map (λ (w : Word). w .bytes) (map plainWord vs) ≡ vs
 unfolding plainWord

@@ -17,9 +17,9 @@ use Rattle.document.specs.Lookup.{columnsAt, columnsOf, schemeOf, tableO
 use Rattle.document.specs.Meaning.{add, define, rowMeant, rowsGiven}
 use Rattle.document.specs.NameFaults.{unknown}
 use Rattle.document.specs.Policy.{Doc, Policy, Row, Table, emptyDoc, emptyPolicy}
-use Rattle.document.specs.ValueFaults.{bracketValues, misfit, plainValues, rowValues, valuesBehindLabel}
+use Rattle.document.specs.ValueFaults.{bracketValues, misfit, plainValues, rowValues, shapedValues, valuesBehindLabel}
 use Rattle.form.proofs.RowLength.{row-line, valueCost}
-use Rattle.form.specs.Form.{Form, Item, Scheme, attr, byCell, byColumn, byRow, byTable, condRole, grant, label, labelled, note, plain, purpose, role, row, table, unlabelled, user}
+use Rattle.form.specs.Form.{Form, Item, Scheme, attr, condRole, grant, hasBrackets, label, labelled, leadsLabel, note, plain, purpose, role, row, table, user}
 use Rattle.form.specs.FormReader.{formOf}
 use Rattle.lists.proofs.ListLaws.{getElem?-inside-append, map-inv}
 use Rattle.text.proofs.OffendingLaws.{leftmost-head, unless-none}
@@ -93,15 +93,16 @@ plain-cost (plain w ∷ is) ws e =
     subst (λ (v : List Word). listCost wordCost v ≤ listCost valueCost (plain w ∷ is)) (sym (i .2)) (omega (arith, plain-cost is (i .0) (i .1)))
 plain-cost (labelled v l ∷ is) ws e = absurd (Option·none-ne-some _ e)
 
-behind-cost : (is : List Item) (ws : List Word) → valuesBehindLabel is ≡ some ws → listCost wordCost ws ≤ listCost valueCost is
+behind-cost : (values : List Item → Option (List Word)) → ((js : List Item) (ws : List Word) → values js ≡ some ws → listCost wordCost ws ≤ listCost valueCost js)
+    → (is : List Item) (ws : List Word) → valuesBehindLabel values is ≡ some ws → listCost wordCost ws ≤ listCost valueCost is
 unfolding valuesBehindLabel listCost
-behind-cost [] ws e = absurd (Option·none-ne-some _ e)
-behind-cost (plain w ∷ is) ws e = go (isName (w .bytes)) e
+behind-cost values h [] ws e = absurd (Option·none-ne-some _ e)
+behind-cost values h (plain w ∷ is) ws e = go (isName (w .bytes)) e
   where
-    go : (b : Bool) → cond b (plainValues is) none ≡ some ws → listCost wordCost ws ≤ listCost valueCost (plain w ∷ is)
-    go true e = omega (arith, plain-cost is ws e)
+    go : (b : Bool) → cond b (values is) none ≡ some ws → listCost wordCost ws ≤ listCost valueCost (plain w ∷ is)
+    go true e = omega (arith, h is ws e)
     go false e = absurd (Option·none-ne-some _ e)
-behind-cost (labelled v l ∷ is) ws e = absurd (Option·none-ne-some _ e)
+behind-cost values h (labelled v l ∷ is) ws e = absurd (Option·none-ne-some _ e)
 
 bracket-cost : (is : List Item) (ws : List Word) → bracketValues is ≡ some ws → listCost wordCost ws ≤ listCost valueCost is
 unfolding bracketValues listCost valueCost
@@ -111,13 +112,18 @@ bracket-cost (labelled v l ∷ is) ws e =
     let i = map-inv _ (bracketValues is) ws e in
     subst (λ (u : List Word). listCost wordCost u ≤ listCost valueCost (labelled v l ∷ is)) (sym (i .2)) (omega (arith, bracket-cost is (i .0) (i .1)))
 
+shaped-cost : (b : Bool) (is : List Item) (ws : List Word) → shapedValues b is ≡ some ws → listCost wordCost ws ≤ listCost valueCost is
+unfolding shapedValues
+shaped-cost true is ws e = bracket-cost is ws e
+shaped-cost false is ws e = plain-cost is ws e
+
 values-cost : (s : Scheme ℕ) (is : List Item) (ws : List Word) → rowValues s is ≡ some ws → listCost wordCost ws ≤ listCost valueCost is
 unfolding rowValues
-values-cost (unlabelled b) is ws e = plain-cost is ws e
-values-cost (byTable l) is ws e = plain-cost is ws e
-values-cost (byColumn ls) is ws e = plain-cost is ws e
-values-cost byRow is ws e = behind-cost is ws e
-values-cost byCell is ws e = bracket-cost is ws e
+values-cost s is ws e = go (leadsLabel s) (hasBrackets s) e
+  where
+    go : (a b : Bool) → cond a (valuesBehindLabel (shapedValues b) is) (shapedValues b is) ≡ some ws → listCost wordCost ws ≤ listCost valueCost is
+    go true b e = behind-cost (shapedValues b) (shaped-cost b) is ws e
+    go false b e = shaped-cost b is ws e
 
 bytes-cost : (ws : List Word) → listCost length (map (λ w. w .bytes) ws) ≡ listCost wordCost ws
 unfolding listCost

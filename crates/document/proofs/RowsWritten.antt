@@ -1,7 +1,7 @@
 -- An accepted row line is written out from its parts, whatever its table's scheme: its keyword, the table, the labels that the row
 -- uses and its values. Assumes nothing.
 use Prim.Native.Nat.{suc, ℕ}
-use lib.ListN.{length}
+use lib.ListN.{drop, length, take}
 use mathlib.Core.Bool.{Bool, cond, false, true}
 use mathlib.Core.List.{List, [], _++_, _∷_, map, zipWith}
 use mathlib.Core.Option.{Option, Option·getD, Option·none-ne-some, Option·some-injective, none, some}
@@ -11,12 +11,12 @@ use Rattle.document.specs.Lookup.{schemeOf}
 use Rattle.document.specs.Meaning.{rowMeant}
 use Rattle.document.specs.NameFaults.{bracketLabels, leadingName, rowLabels}
 use Rattle.document.specs.Policy.{Policy}
-use Rattle.document.specs.ValueFaults.{bracketValues, misfit, plainValues, rowValues, valuesBehindLabel}
+use Rattle.document.specs.ValueFaults.{bracketValues, misfit, plainValues, rowValues, shapedValues, valuesBehindLabel}
 use Rattle.form.proofs.RowBack.{isItem, itemText, rowText-bytes}
 use Rattle.form.proofs.RowWritten.{row-written}
-use Rattle.form.specs.Form.{Item, Scheme, byCell, byColumn, byRow, byTable, labelled, plain, row, unlabelled}
+use Rattle.form.specs.Form.{Item, Scheme, hasBrackets, labelled, leadsLabel, plain, row}
 use Rattle.form.specs.FormReader.{formOf}
-use Rattle.form.specs.RowText.{bracketText, itemTexts, keywordIn, labelCount, rowText, spaced}
+use Rattle.form.specs.RowText.{bracketText, itemTexts, keywordIn, labelCount, rowText, spaced, valueTexts}
 use Rattle.lists.proofs.ListLaws.{map-inv}
 use Rattle.lists.proofs.Tests.{and-both, and-left, and-right}
 use Rattle.lists.specs.Lists.{allOf}
@@ -30,22 +30,22 @@ use Rattle.text.specs.Words.{Word}
 abbrev pub bytesOf : List Word → List (List ℕ)
 bytesOf ws = map (λ (w : Word). w .bytes) ws
 
--- the items are those of a row of this scheme with these labels and values
-pub record Shaped (s : Scheme ℕ) (is : List Item) (ls : List Name) (vs : List Value) : Type 0 where
+-- the items are those of a row with these labels and values, which leads with a label (a) and has brackets (b) or not
+pub record Shaped (a b : Bool) (is : List Item) (ls : List Name) (vs : List Value) : Type 0 where
   pub areLabels : allOf isName ls ≡ true
   pub areValues : allOf isCellValue vs ≡ true
-  pub enoughLabels : length ls ≡ labelCount s (length vs)
-  pub texts : map itemText is ≡ itemTexts s ls vs
+  pub enoughLabels : length ls ≡ cond a (suc (cond b (length vs) 0)) (cond b (length vs) 0)
+  pub texts : map itemText is ≡ cond a (take 1 ls) [] ++ valueTexts b (cond a (drop 1 ls) ls) vs
 
--- ---- the items by scheme
+-- ---- the items by their shape
 
-plain-shaped : (is : List Item) (ws : List Word) → allOf isItem is ≡ true → plainValues is ≡ some ws → Shaped (unlabelled false) is [] (bytesOf ws)
-unfolding plainValues allOf isItem itemText itemTexts labelCount
-plain-shaped [] ws h e = subst (λ (v : List Word). Shaped (unlabelled false) [] [] (bytesOf v)) (Option·some-injective _ _ e) (record { areLabels = refl; areValues = refl; enoughLabels = refl; texts = refl })
+plain-shaped : (is : List Item) (ws : List Word) → allOf isItem is ≡ true → plainValues is ≡ some ws → Shaped false false is [] (bytesOf ws)
+unfolding plainValues allOf isItem itemText valueTexts
+plain-shaped [] ws h e = subst (λ (v : List Word). Shaped false false [] [] (bytesOf v)) (Option·some-injective _ _ e) (record { areLabels = refl; areValues = refl; enoughLabels = refl; texts = refl })
 plain-shaped (plain w ∷ is) ws h e =
     let i = map-inv _ (plainValues is) ws e in
     let x = plain-shaped is (i .0) (and-right (isCellValue (w .bytes)) _ h) (i .1) in
-    subst (λ (v : List Word). Shaped (unlabelled false) (plain w ∷ is) [] (bytesOf v)) (sym (i .2)) (record {
+    subst (λ (v : List Word). Shaped false false (plain w ∷ is) [] (bytesOf v)) (sym (i .2)) (record {
       areLabels = refl;
       areValues = and-both (isCellValue (w .bytes)) _ (and-left (isCellValue (w .bytes)) _ h) (x .areValues);
       enoughLabels = refl;
@@ -53,40 +53,46 @@ plain-shaped (plain w ∷ is) ws h e =
     })
 plain-shaped (labelled v l ∷ is) ws h e = absurd (Option·none-ne-some _ e)
 
-behind-shaped : (is : List Item) (ws : List Word) → allOf isItem is ≡ true → valuesBehindLabel is ≡ some ws → Shaped byRow is (bytesOf (leadingName is)) (bytesOf ws)
-unfolding valuesBehindLabel leadingName allOf isItem itemText itemTexts labelCount
-behind-shaped [] ws h e = absurd (Option·none-ne-some _ e)
-behind-shaped (plain w ∷ is) ws h e = go (isName (w .bytes)) refl e
-  where
-    go : (b : Bool) → isName (w .bytes) ≡ b → cond b (plainValues is) none ≡ some ws → Shaped byRow (plain w ∷ is) (bytesOf (cond b (w ∷ []) [])) (bytesOf ws)
-    go true n e =
-        let x = plain-shaped is ws (and-right (isCellValue (w .bytes)) _ h) e in
-        record { areLabels = and-both (isName (w .bytes)) true n refl; areValues = x .areValues; enoughLabels = refl; texts = ap (λ (ts : List (List ℕ)). w .bytes ∷ ts) (x .texts) }
-    go false n e = absurd (Option·none-ne-some _ e)
-behind-shaped (labelled v l ∷ is) ws h e = absurd (Option·none-ne-some _ e)
-
-bracket-shaped : (is : List Item) (ws : List Word) → allOf isItem is ≡ true → bracketValues is ≡ some ws → Shaped byCell is (bytesOf (bracketLabels is)) (bytesOf ws)
-unfolding bracketValues bracketLabels allOf isItem itemText itemTexts labelCount zipWith
-bracket-shaped [] ws h e = subst (λ (v : List Word). Shaped byCell [] [] (bytesOf v)) (Option·some-injective _ _ e) (record { areLabels = refl; areValues = refl; enoughLabels = refl; texts = refl })
+bracket-shaped : (is : List Item) (ws : List Word) → allOf isItem is ≡ true → bracketValues is ≡ some ws → Shaped false true is (bytesOf (bracketLabels is)) (bytesOf ws)
+unfolding bracketValues bracketLabels allOf isItem itemText valueTexts zipWith
+bracket-shaped [] ws h e = subst (λ (v : List Word). Shaped false true [] [] (bytesOf v)) (Option·some-injective _ _ e) (record { areLabels = refl; areValues = refl; enoughLabels = refl; texts = refl })
 bracket-shaped (plain w ∷ is) ws h e = absurd (Option·none-ne-some _ e)
 bracket-shaped (labelled v l ∷ is) ws h e =
     let i = map-inv _ (bracketValues is) ws e in
     let fit = and-left (isItem (labelled v l)) _ h in
     let x = bracket-shaped is (i .0) (and-right (isItem (labelled v l)) _ h) (i .1) in
-    subst (λ (u : List Word). Shaped byCell (labelled v l ∷ is) (l .bytes ∷ bytesOf (bracketLabels is)) (bytesOf u)) (sym (i .2)) (record {
+    subst (λ (u : List Word). Shaped false true (labelled v l ∷ is) (l .bytes ∷ bytesOf (bracketLabels is)) (bytesOf u)) (sym (i .2)) (record {
       areLabels = and-both (isName (l .bytes)) _ (and-right (isCellValue (v .bytes)) _ fit) (x .areLabels);
       areValues = and-both (isCellValue (v .bytes)) _ (and-left (isCellValue (v .bytes)) _ fit) (x .areValues);
       enoughLabels = ap suc (x .enoughLabels);
       texts = ap (λ (ts : List (List ℕ)). bracketText (v .bytes) (l .bytes) ∷ ts) (x .texts);
     })
 
-items-shaped : (s : Scheme ℕ) (is : List Item) (ws : List Word) → allOf isItem is ≡ true → rowValues s is ≡ some ws → Shaped s is (bytesOf (rowLabels s is)) (bytesOf ws)
-unfolding rowValues rowLabels itemTexts labelCount
-items-shaped (unlabelled b) is ws h e = let x = plain-shaped is ws h e in record { areLabels = x .areLabels; areValues = x .areValues; enoughLabels = x .enoughLabels; texts = x .texts }
-items-shaped (byTable l) is ws h e = let x = plain-shaped is ws h e in record { areLabels = x .areLabels; areValues = x .areValues; enoughLabels = x .enoughLabels; texts = x .texts }
-items-shaped (byColumn ls) is ws h e = let x = plain-shaped is ws h e in record { areLabels = x .areLabels; areValues = x .areValues; enoughLabels = x .enoughLabels; texts = x .texts }
-items-shaped byRow is ws h e = behind-shaped is ws h e
-items-shaped byCell is ws h e = bracket-shaped is ws h e
+values-shaped : (b : Bool) (is : List Item) (ws : List Word) → allOf isItem is ≡ true → shapedValues b is ≡ some ws → Shaped false b is (bytesOf (cond b (bracketLabels is) [])) (bytesOf ws)
+unfolding shapedValues
+values-shaped true is ws h e = bracket-shaped is ws h e
+values-shaped false is ws h e = plain-shaped is ws h e
+
+led-shaped : (b : Bool) (is : List Item) (ws : List Word) → allOf isItem is ≡ true → valuesBehindLabel (shapedValues b) is ≡ some ws
+    → Shaped true b is (bytesOf (leadingName is ++ cond b (bracketLabels is) [])) (bytesOf ws)
+unfolding valuesBehindLabel leadingName bracketLabels allOf isItem itemText
+led-shaped b [] ws h e = absurd (Option·none-ne-some _ e)
+led-shaped b (plain w ∷ is) ws h e = go (isName (w .bytes)) refl e
+  where
+    go : (n : Bool) → isName (w .bytes) ≡ n → cond n (shapedValues b is) none ≡ some ws → Shaped true b (plain w ∷ is) (bytesOf (cond n (w ∷ []) [] ++ cond b (bracketLabels is) [])) (bytesOf ws)
+    go true n e =
+        let x = values-shaped b is ws (and-right (isCellValue (w .bytes)) _ h) e in
+        record { areLabels = and-both (isName (w .bytes)) _ n (x .areLabels); areValues = x .areValues; enoughLabels = ap suc (x .enoughLabels); texts = ap (λ (ts : List (List ℕ)). w .bytes ∷ ts) (x .texts) }
+    go false n e = absurd (Option·none-ne-some _ e)
+led-shaped b (labelled v l ∷ is) ws h e = absurd (Option·none-ne-some _ e)
+
+items-shaped : (s : Scheme ℕ) (is : List Item) (ws : List Word) → allOf isItem is ≡ true → rowValues s is ≡ some ws → Shaped (leadsLabel s) (hasBrackets s) is (bytesOf (rowLabels s is)) (bytesOf ws)
+unfolding rowValues rowLabels
+items-shaped s is ws h e = go (leadsLabel s) (hasBrackets s) e
+  where
+    go : (a b : Bool) → cond a (valuesBehindLabel (shapedValues b) is) (shapedValues b is) ≡ some ws → Shaped a b is (bytesOf (cond a (leadingName is) [] ++ cond b (bracketLabels is) [])) (bytesOf ws)
+    go true b e = led-shaped b is ws h e
+    go false b e = values-shaped b is ws h e
 
 -- ---- row lines
 
@@ -103,6 +109,7 @@ pub record WrittenFrom (s : Scheme ℕ) (line : List ℕ) (t : Name) (ls : List 
 -- it uses and its values.
 pub row-parts : (line : List ℕ) (t : Word) (is : List Item) → formOf line ≡ some (row t is) → (s : Scheme ℕ) (ws : List Word) → rowValues s is ≡ some ws
     → WrittenFrom s line (t .bytes) (bytesOf (rowLabels s is)) (bytesOf ws)
+unfolding itemTexts labelCount
 row-parts line t is f s ws e =
     let w = row-written line t is f in
     let x = items-shaped s is ws (w .areItems) e in

@@ -10,7 +10,7 @@ use Rattle.purpose.specs.Members.{limit}
 use Rattle.lists.specs.Lists.{there}
 
 -- the form would be one more of its kind than the bound, or is itself beyond one; the clock's attributes do not count, and notes
--- have no bound (02, Q-2)
+-- have no bound (02, Q-2, Q-11)
 unfoldable pub overBound : Doc → Form → Bool
 overBound d (purpose n p) = leb limit (length (d .policy .purposes))
 overBound d (role n p) = leb 64 (length (d .policy .roles))

@@ -4,12 +4,12 @@ use lib.Dec.{eqb}
 use lib.ListN.{getElem?}
 use mathlib.Core.Bool.{Bool, _&&_, false, not, true}
 use mathlib.Core.List.{List, [], map}
-use mathlib.Core.Option.{Option, Option·getD, Option·map, bind}
+use mathlib.Core.Option.{Option, Option·getD, Option·map, bind, none, some}
 use Rattle.condition.specs.Kinds.{Kind, numbers}
 use Rattle.document.specs.Policy.{Attribute, Column, Noted, Policy, treeOf}
-use Rattle.form.specs.Form.{Note, Scheme, byCell, byColumn, byRow, byTable, public, unlabelled}
+use Rattle.form.specs.Form.{Note, Scheme, byCell, byColumn, byRow, byTable, nested, public, strong, unlabelled, weak}
 use Rattle.purpose.specs.Compliance.{descends}
-use Rattle.lists.specs.Lists.{anyOf, findIndex, holdsOf, keep, orZero, there}
+use Rattle.lists.specs.Lists.{anyOf, findIndex, found, holdsOf, keep, orZero, there}
 use Rattle.text.specs.Words.{Word, isCalled}
 
 -- the purpose of this name
@@ -67,15 +67,34 @@ notesOf ns t = map (λ n. n .note) (keep (λ n. eqb (n .table) t) ns)
 -- the note declares its table public (02, Q-2)
 unfoldable pub isPublic : Note ℕ → Bool
 isPublic public = true
+isPublic (weak l) = false
+isPublic (strong l) = false
+
+-- the weak label that the note gives its table (02, Q-11)
+unfoldable pub weakIn : Note ℕ → Option ℕ
+weakIn public = none
+weakIn (weak l) = some l
+weakIn (strong l) = none
+
+-- the strong label that the note gives its table (02, Q-11)
+unfoldable pub strongIn : Note ℕ → Option ℕ
+strongIn public = none
+strongIn (weak l) = none
+strongIn (strong l) = some l
+
+-- the first label that the notes give in this way; in an accepted document none gives a second
+unfoldable pub givenBy : (Note ℕ → Option ℕ) → List (Note ℕ) → Option ℕ
+givenBy f ns = getElem? (found (map f ns)) 0
 
 -- the scheme with what the notes say: a table without labels is public if one of them declares it so; on a labelled one that does
--- nothing (02, Q-2)
+-- nothing (02, Q-2); a nest table has the weak and the strong label that they give (02, Q-11)
 unfoldable pub settled : List (Note ℕ) → Scheme ℕ → Scheme ℕ
 settled ns (unlabelled b) = unlabelled (anyOf isPublic ns)
 settled ns (byTable l) = byTable l
 settled ns (byColumn ls) = byColumn ls
 settled ns byRow = byRow
 settled ns byCell = byCell
+settled ns (nested w s) = nested (givenBy weakIn ns) (givenBy strongIn ns)
 
 -- where the labels of the table of this number stand, its notes included: what is open goes by it (02, Q-2)
 unfoldable pub labellingAt : Policy → ℕ → Scheme ℕ

@@ -1,4 +1,4 @@
--- Meaning: 4, name taken; 5, name unknown (01, "Checking a document"; 02, Q-2).
+-- Meaning: 4, name taken; 5, name unknown (01, "Checking a document"; 02, Q-2, Q-11).
 use Prim.Native.Nat.{ℕ}
 use mathlib.Core.Bool.{Bool, _||_, cond}
 use mathlib.Core.List.{List, [], _++_, _∷_, map}
@@ -6,15 +6,17 @@ use mathlib.Core.Option.{Option, none}
 use Rattle.condition.specs.Cond.{comparisons}
 use Rattle.document.specs.Lookup.{attributeNamed, attributeOf, condRoleOf, hasAttribute, isClock, isPublic, labelOf, notesOf, purposeOf, roleOf, schemeOf, tableOf, userOf}
 use Rattle.document.specs.Policy.{Policy}
-use Rattle.form.specs.Form.{Form, Item, Note, Scheme, attr, byCell, byColumn, byRow, byTable, condRole, grant, label, labelled, note, noteLabels, plain, public, purpose, role, row, schemeLabels, table, unlabelled, user}
+use Rattle.form.specs.Form.{Form, Item, Note, Scheme, attr, condRole, grant, hasBrackets, label, labelled, leadsLabel, note, noteLabels, plain, public, purpose, role, row, schemeLabels, strong, table, user, weak}
 use Rattle.lists.specs.Lists.{anyOf, holdsOf, listed, orZero, there}
 use Rattle.text.specs.Names.{isName}
 use Rattle.text.specs.Offending.{leftmost, missing, offendingIf, repeated, unless}
 use Rattle.text.specs.Words.{Word}
 
--- the table's name, where the table is declared public a second time (02, Q-2)
+-- the table's name, where the table is declared public a second time (02, Q-2); a second weak or strong line is 25 (02, Q-11)
 unfoldable pub takenNote : Policy → Word → Note Word → Option Word
 takenNote d t public = offendingIf (holdsOf (λ x. anyOf isPublic (notesOf (d .notes) x)) (tableOf d t)) t
+takenNote d t (weak l) = none
+takenNote d t (strong l) = none
 
 -- the leftmost name that is taken: the later of two equal names; of a user and role given before, the role
 unfoldable pub taken : Policy → Form → Option Word
@@ -45,13 +47,9 @@ bracketLabels [] = []
 bracketLabels (plain w ∷ is) = bracketLabels is
 bracketLabels (labelled v l ∷ is) = l ∷ bracketLabels is
 
--- the labels that a row uses: by row the first item if it is a name, by cell each bracket's
+-- the labels that a row uses: where rows lead with a label, the first item, if it is a name; where they have brackets, each bracket's
 unfoldable pub rowLabels : Scheme ℕ → List Item → List Word
-rowLabels (unlabelled b) is = []
-rowLabels (byTable l) is = []
-rowLabels (byColumn ls) is = []
-rowLabels byRow is = leadingName is
-rowLabels byCell is = bracketLabels is
+rowLabels s is = cond (leadsLabel s) (leadingName is) [] ++ cond (hasBrackets s) (bracketLabels is) []
 
 -- the leftmost name that is used and not known
 unfoldable pub unknown : Policy → Form → Option Word

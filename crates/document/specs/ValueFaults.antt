@@ -1,14 +1,14 @@
 -- Meaning: 7, a row or user without the right count or set of values, or row items not shaped for the table's scheme (01, "Checking
--- a document").
+-- a document"; 02, Q-11).
 use Prim.Native.Nat.{ℕ}
 use lib.Dec.{eqb}
 use lib.ListN.{length}
-use mathlib.Core.Bool.{Bool, _&&_, cond, false, not}
+use mathlib.Core.Bool.{Bool, _&&_, cond, false, not, true}
 use mathlib.Core.List.{List, [], _∷_, map}
 use mathlib.Core.Option.{Option, Option·map, none, some}
 use Rattle.document.specs.Lookup.{attributeNamed, columnsOf, hasAttribute, roleOf, schemeOf}
 use Rattle.document.specs.Policy.{Attribute, Policy}
-use Rattle.form.specs.Form.{Form, Item, Scheme, attr, byCell, byColumn, byRow, byTable, condRole, grant, label, labelled, note, plain, purpose, role, row, table, unlabelled, user}
+use Rattle.form.specs.Form.{Form, Item, Scheme, attr, condRole, grant, hasBrackets, label, labelled, leadsLabel, note, plain, purpose, role, row, table, user}
 use Rattle.lists.specs.Lists.{allOf, countOf, holdsOf, keep, orZero}
 use Rattle.text.specs.Names.{isName}
 use Rattle.text.specs.Words.{Word, isCalled}
@@ -32,25 +32,26 @@ plainValues [] = some []
 plainValues (plain w ∷ is) = Option·map (λ ws. w ∷ ws) (plainValues is)
 plainValues (labelled v l ∷ is) = none
 
--- the items behind a leading label, which is a name
-unfoldable pub valuesBehindLabel : List Item → Option (List Word)
-valuesBehindLabel [] = none
-valuesBehindLabel (plain w ∷ is) = cond (isName (w .bytes)) (plainValues is) none
-valuesBehindLabel (labelled v l ∷ is) = none
-
 -- the items as values, each with its label
 unfoldable pub bracketValues : List Item → Option (List Word)
 bracketValues [] = some []
 bracketValues (plain w ∷ is) = none
 bracketValues (labelled v l ∷ is) = Option·map (λ ws. v ∷ ws) (bracketValues is)
 
--- the values of a row, if its items are shaped for the scheme
+-- the items as values, all in brackets (true) or all without (false)
+unfoldable pub shapedValues : (bracketed : Bool) → List Item → Option (List Word)
+shapedValues true is = bracketValues is
+shapedValues false is = plainValues is
+
+-- the values behind a leading label, which is a name; `values` says how those are shaped
+unfoldable pub valuesBehindLabel : (List Item → Option (List Word)) → List Item → Option (List Word)
+valuesBehindLabel values [] = none
+valuesBehindLabel values (plain w ∷ is) = cond (isName (w .bytes)) (values is) none
+valuesBehindLabel values (labelled v l ∷ is) = none
+
+-- the values of a row, if its items are shaped for the scheme: all in brackets or all without, behind a label where the row leads with one
 unfoldable pub rowValues : Scheme ℕ → List Item → Option (List Word)
-rowValues (unlabelled b) is = plainValues is
-rowValues (byTable l) is = plainValues is
-rowValues (byColumn ls) is = plainValues is
-rowValues byRow is = valuesBehindLabel is
-rowValues byCell is = bracketValues is
+rowValues s is = cond (leadsLabel s) (valuesBehindLabel (shapedValues (hasBrackets s)) is) (shapedValues (hasBrackets s) is)
 
 -- the user form does not give each attribute of its role once and no other, or the row does not fit its table
 unfoldable pub misfit : Policy → Form → Bool

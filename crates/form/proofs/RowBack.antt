@@ -1,24 +1,23 @@
 -- Reading a row line that was written out from its parts gives back the parts. Assumes nothing.
 use Prim.Native.Nat.{_+_, _≤_, suc, zero, ℕ}
 use Prim.Native.String.{String}
-use borrow.Author.Tests.{eqb-true}
-use lib.Dec.{eqb}
-use lib.ListN.{length, length-append}
+use lib.ListN.{drop, length, length-append, take}
 use mathlib.Core.Bool.{Bool, _&&_, cond, false, true}
 use mathlib.Core.List.{List, [], _++_, _∷_, append-assoc, flatten, map, zipWith}
 use mathlib.Core.Option.{Option, none, some}
 use mathlib.Core.Path.{_∙_, _≡_, ap, refl, subst, sym}
 use native.Mathlib.Omega.{arith}
-use Rattle.form.specs.Form.{Form, Item, Scheme, attr, byCell, byColumn, byRow, byTable, condRole, grant, label, labelled, note, plain, purpose, role, row, table, unlabelled, user}
+use Rattle.form.specs.Form.{Form, Item, Scheme, attr, condRole, grant, hasBrackets, label, labelled, leadsLabel, note, plain, purpose, role, row, table, user}
 use Rattle.form.specs.FormReader.{form, formOf, item, labelledItem, lineForms, plainItem, rowForm}
-use Rattle.form.specs.RowText.{bracketText, itemTexts, rowText, spaced}
+use Rattle.form.specs.RowText.{bracketText, itemTexts, rowText, spaced, valueTexts}
 use Rattle.form.proofs.WalkLaws.{item-labelled, item-value}
 use Rattle.calendar.proofs.CellValues.{cellValue-fails, cellValue-reads, name-cell}
-use Rattle.lists.proofs.ListLaws.{map-map}
+use Rattle.lists.proofs.KeptLaws.{all-append}
+use Rattle.lists.proofs.ListLaws.{map-append, map-map}
 use Rattle.text.proofs.ReadBack.{Gives, Reads, bind-reads, bracketed-reads, give-reads, gives, left, gives-there, name-reads, next-reads, placeless, word-reads}
 use Rattle.text.proofs.NameLaws.{same-other}
 use Rattle.text.proofs.WordLaws.{same-name-bytes}
-use Rattle.lists.proofs.Tests.{and-left, and-right, true-not-false}
+use Rattle.lists.proofs.Tests.{and-both, and-left, and-right}
 use Rattle.calendar.specs.CellValues.{cellValue, isCellValue}
 use Rattle.text.specs.Brackets.{among, keyword, many, upTo}
 use Rattle.text.specs.Bytes.{ascii, firstByte, isDigit, isLetter, isNameByte}
@@ -143,6 +142,8 @@ row-among y e = rw (
   other "label" refl,
   other "table" refl,
   other "public" refl,
+  other "weak" refl,
+  other "strong" refl,
   e,
 )
   where
@@ -186,10 +187,18 @@ unfolding allOf isItem plainWord
 plain-items [] h = refl
 plain-items (v ∷ vs) h = rw (and-left (isCellValue v) _ h) (plain-items vs (and-right (isCellValue v) _ h))
 
-all-append : (ls vs : List Value) → allOf isName ls ≡ true → allOf isCellValue vs ≡ true → allOf isCellValue (ls ++ vs) ≡ true
+-- the row's label, where it leads with one, and the labels behind it
+lead-cells : (a : Bool) (ls : List Name) → allOf isName ls ≡ true → allOf isCellValue (cond a (take 1 ls) []) ≡ true
 unfolding allOf
-all-append [] vs h k = k
-all-append (l ∷ ls) vs h k = rw (name-cell l (and-left (isName l) _ h)) (all-append ls vs (and-right (isName l) _ h) k)
+lead-cells false ls h = refl
+lead-cells true [] h = refl
+lead-cells true (l ∷ ls) h = and-both (isCellValue l) true (name-cell l (and-left (isName l) _ h)) refl
+
+rest-names : (a : Bool) (ls : List Name) → allOf isName ls ≡ true → allOf isName (cond a (drop 1 ls) ls) ≡ true
+unfolding allOf
+rest-names false ls h = h
+rest-names true [] h = refl
+rest-names true (l ∷ ls) h = and-right (isName l) _ h
 
 bracket-items : (vs : List Value) (ls : List Name) → allOf isName ls ≡ true → allOf isCellValue vs ≡ true
     → allOf isItem (zipWith (λ v l. labelled (plainWord v) (plainWord l)) vs ls) ≡ true
@@ -208,39 +217,49 @@ map-bracket [] ls = refl
 map-bracket (v ∷ vs) [] = refl
 map-bracket (v ∷ vs) (l ∷ ls) = ap (λ x. labelled (plainWord v) (plainWord l) ∷ x) (map-bracket vs ls)
 
+-- the values of a row line as items, in brackets with their labels or without
+unfoldable pub valueItems : Bool → List Name → List Value → List Item
+valueItems false ls vs = map (λ v. plain (plainWord v)) vs
+valueItems true ls vs = zipWith (λ v l. labelled (plainWord v) (plainWord l)) vs ls
+
+value-texts : (b : Bool) (ls : List Name) (vs : List Value) → map itemText (valueItems b ls vs) ≡ valueTexts b ls vs
+unfolding valueItems valueTexts
+value-texts false ls vs = plain-texts vs
+value-texts true ls vs = bracket-texts vs ls
+
+value-fit : (b : Bool) (ls : List Name) (vs : List Value) → allOf isName ls ≡ true → allOf isCellValue vs ≡ true → allOf isItem (valueItems b ls vs) ≡ true
+unfolding valueItems
+value-fit false ls vs h k = plain-items vs k
+value-fit true ls vs h k = bracket-items vs ls h k
+
+value-placeless : (b : Bool) (ls : List Name) (vs : List Value) → map placelessItem (valueItems b ls vs) ≡ valueItems b ls vs
+unfolding valueItems
+value-placeless false ls vs = map-plain vs
+value-placeless true ls vs = map-bracket vs ls
+
 module _ {L : Type 0} where
   -- the items, without places, that a row line of this scheme gives
   unfoldable pub itemsOf : Scheme L → List Name → List Value → List Item
-  itemsOf (unlabelled b) ls vs = map (λ v. plain (plainWord v)) vs
-  itemsOf (byTable l) ls vs = map (λ v. plain (plainWord v)) vs
-  itemsOf (byColumn cs) ls vs = map (λ v. plain (plainWord v)) vs
-  itemsOf byRow ls vs = map (λ v. plain (plainWord v)) (ls ++ vs)
-  itemsOf byCell ls vs = zipWith (λ v l. labelled (plainWord v) (plainWord l)) vs ls
+  itemsOf s ls vs = map (λ v. plain (plainWord v)) (cond (leadsLabel s) (take 1 ls) []) ++ valueItems (hasBrackets s) (cond (leadsLabel s) (drop 1 ls) ls) vs
 
   items-texts : (s : Scheme L) (ls : List Name) (vs : List Value) → map itemText (itemsOf s ls vs) ≡ itemTexts s ls vs
   unfolding itemsOf itemTexts
-  items-texts (unlabelled b) ls vs = plain-texts vs
-  items-texts (byTable l) ls vs = plain-texts vs
-  items-texts (byColumn cs) ls vs = plain-texts vs
-  items-texts byRow ls vs = plain-texts (ls ++ vs)
-  items-texts byCell ls vs = bracket-texts vs ls
+  items-texts s ls vs =
+      map-append itemText (map (λ v. plain (plainWord v)) (cond (leadsLabel s) (take 1 ls) [])) (valueItems (hasBrackets s) (cond (leadsLabel s) (drop 1 ls) ls) vs)
+      ∙ (λ i. plain-texts (cond (leadsLabel s) (take 1 ls) []) i ++ value-texts (hasBrackets s) (cond (leadsLabel s) (drop 1 ls) ls) vs i)
 
   items-fit : (s : Scheme L) (ls : List Name) (vs : List Value) → allOf isName ls ≡ true → allOf isCellValue vs ≡ true → allOf isItem (itemsOf s ls vs) ≡ true
   unfolding itemsOf
-  items-fit (unlabelled b) ls vs h k = plain-items vs k
-  items-fit (byTable l) ls vs h k = plain-items vs k
-  items-fit (byColumn cs) ls vs h k = plain-items vs k
-  items-fit byRow ls vs h k = plain-items (ls ++ vs) (all-append ls vs h k)
-  items-fit byCell ls vs h k = bracket-items vs ls h k
+  items-fit s ls vs h k =
+      all-append isItem (map (λ v. plain (plainWord v)) (cond (leadsLabel s) (take 1 ls) [])) (valueItems (hasBrackets s) (cond (leadsLabel s) (drop 1 ls) ls) vs)
+      ∙ and-both _ _ (plain-items (cond (leadsLabel s) (take 1 ls) []) (lead-cells (leadsLabel s) ls h)) (value-fit (hasBrackets s) (cond (leadsLabel s) (drop 1 ls) ls) vs (rest-names (leadsLabel s) ls h) k)
 
   -- they have no places
   items-placeless : (s : Scheme L) (ls : List Name) (vs : List Value) → map placelessItem (itemsOf s ls vs) ≡ itemsOf s ls vs
   unfolding itemsOf
-  items-placeless (unlabelled b) ls vs = map-plain vs
-  items-placeless (byTable l) ls vs = map-plain vs
-  items-placeless (byColumn cs) ls vs = map-plain vs
-  items-placeless byRow ls vs = map-plain (ls ++ vs)
-  items-placeless byCell ls vs = map-bracket vs ls
+  items-placeless s ls vs =
+      map-append placelessItem (map (λ v. plain (plainWord v)) (cond (leadsLabel s) (take 1 ls) [])) (valueItems (hasBrackets s) (cond (leadsLabel s) (drop 1 ls) ls) vs)
+      ∙ (λ i. map-plain (cond (leadsLabel s) (take 1 ls) []) i ++ value-placeless (hasBrackets s) (cond (leadsLabel s) (drop 1 ls) ls) vs i)
 
   -- the bytes of a row line
   pub rowText-bytes : (s : Scheme L) (k t : Name) (ls : List Name) (vs : List Value)

@@ -7,8 +7,8 @@ use mathlib.Core.Option.{Option, Option·none-ne-some, Option·some-injective, n
 use mathlib.Core.Path.{_∙_, _≡_, ap, refl, subst}
 use native.Mathlib.Omega.{arith}
 use Rattle.condition.specs.CondForm.{conditionInForm}
-use Rattle.form.specs.Form.{Form, Item, Scheme, attr, byCell, byColumn, byRow, byTable, condRole, grant, label, labelled, note, plain, public, purpose, role, row, table, unlabelled, user}
-use Rattle.form.specs.FormReader.{attrForm, column, columnsUnderLabel, condRoleForm, form, formOf, givenForm, grantForm, item, kinds, labelForm, labelledColumn, labelledColumns, labelledItem, lineForms, node, plainColumns, plainItem, publicForm, purposeSet, rowForm, schemes, tableForm, userForm}
+use Rattle.form.specs.Form.{Form, Item, Note, Scheme, attr, byCell, byColumn, byRow, byTable, condRole, grant, label, labelled, nested, note, plain, public, purpose, role, row, strong, table, unlabelled, user, weak}
+use Rattle.form.specs.FormReader.{attrForm, column, columnsUnderLabel, condRoleForm, form, formOf, givenForm, grantForm, item, kinds, labelForm, labelNote, labelledColumn, labelledColumns, labelledItem, lineForms, node, plainColumns, plainItem, publicForm, purposeSet, rowForm, schemes, tableForm, userForm}
 use Rattle.lists.specs.Lists.{there}
 use Rattle.calendar.proofs.CellValues.{eats-cellValue}
 use Rattle.text.proofs.NameLaws.{sameName-length}
@@ -130,12 +130,16 @@ pub never-table : Never tableForm
 unfolding tableForm next keyword schemes columnsUnderLabel
 never-table = never-bind (next name) (λ t. never-bind (byte 32) (λ b. never-bind word (λ w. never-among (schemes t) w (
   never-columns t (unlabelled false),
-  (never-bind (next name) (λ l. never-columns t (byTable l)), (never-labelled t, (never-columns t byRow, (never-columns t byCell, tt)))),
+  (never-bind (next name) (λ l. never-columns t (byTable l)), (never-labelled t, (never-columns t byRow, (never-columns t byCell, (never-columns t (nested none none), tt))))),
 ))))
 
 pub never-public : Never publicForm
 unfolding publicForm rowCost
 never-public = never-bind (next name) (λ t. never-give (note t public) refl)
+
+pub never-labelNote : (make : Word → Note Word) → Never (labelNote make)
+unfolding labelNote rowCost
+never-labelNote make = never-bind (next name) (λ t. never-bind (next name) (λ l. never-give (note t (make l)) refl))
 
 -- a row comes from a later keyword, if the first never leads to one
 among-skip : (k : Name × Reader Form) (ks : Keywords Form) (w : Word) (l : Left) (t : Word) (is : List Item) (rest : Left)
@@ -163,6 +167,8 @@ keyword-row : (w : Word) (l : Left) (t : Word) (is : List Item) (rest : Left) �
 unfolding lineForms rowCost
 keyword-row w l t is rest e =
     among-row w l (row t is) rest
+    (among-skip _ _ w l t is rest (never-labelNote strong)
+    (among-skip _ _ w l t is rest (never-labelNote weak)
     (among-skip _ _ w l t is rest never-public
     (among-skip _ _ w l t is rest never-table
     (among-skip _ _ w l t is rest never-label
@@ -171,7 +177,7 @@ keyword-row w l t is rest e =
     (among-skip _ _ w l t is rest never-user
     (among-skip _ _ w l t is rest never-attr
     (among-skip _ _ w l t is rest (never-node role (λ n p. refl))
-    (among-skip _ _ w l t is rest (never-node purpose (λ n p. refl)) e)))))))))
+    (among-skip _ _ w l t is rest (never-node purpose (λ n p. refl)) e)))))))))))
 
 -- a row line is at least six bytes longer than its values with their spaces
 pub row-line : (line : List ℕ) (t : Word) (is : List Item) → formOf line ≡ some (row t is) → 6 + listCost valueCost is ≤ length line

@@ -6,11 +6,11 @@ use mathlib.Core.List.{List, [], _++_, _∷_, append-assoc, append-nil, map}
 use mathlib.Core.Option.{some}
 use mathlib.Core.Path.{_∙_, _≡_, ap, refl, subst, subst₂, sym}
 use native.Mathlib.Omega.{arith}
-use Rattle.form.proofs.FormForward.{forward-attr, forward-condRole, forward-grant, forward-label, forward-node, forward-public, forward-table, forward-user}
+use Rattle.form.proofs.FormForward.{forward-attr, forward-condRole, forward-grant, forward-label, forward-labelNote, forward-node, forward-public, forward-table, forward-user}
 use Rattle.form.proofs.RowBack.{bracket-append, isItem, itemText, row-bytes, rowText-bytes}
-use Rattle.form.proofs.RowLength.{Never, never-attr, never-condRole, never-grant, never-label, never-node, never-public, never-table, never-user, rowCost}
+use Rattle.form.proofs.RowLength.{Never, never-attr, never-condRole, never-grant, never-label, never-labelNote, never-node, never-public, never-table, never-user, rowCost}
 use Rattle.form.proofs.WalkLaws.{bracket-labelled, item-labelled, labelled-opens}
-use Rattle.form.specs.Form.{Form, Item, Scheme, labelled, plain, purpose, role, row}
+use Rattle.form.specs.Form.{Form, Item, Scheme, labelled, plain, purpose, role, row, strong, weak}
 use Rattle.form.specs.FormReader.{form, formOf, item, labelledItem, lineForms, plainItem, rowForm}
 use Rattle.form.specs.RowText.{bracketText, keywordIn, rowText, spaced}
 use Rattle.form.specs.Walks.{isLabelledAt}
@@ -143,7 +143,13 @@ form-spelled = spells-bracketed RowSpelled (keyword lineForms) (spells-keyword _
                 (λ k e. other never-table forward-table),
                 (
                   (λ k e. other never-public forward-public),
-                  (row-spelled, tt),
+                  (
+                    (λ k e. other (never-labelNote weak) (forward-labelNote weak)),
+                    (
+                      (λ k e. other (never-labelNote strong) (forward-labelNote strong)),
+                      (row-spelled, tt),
+                    ),
+                  ),
                 ),
               ),
             ),

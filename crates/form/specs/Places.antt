@@ -7,7 +7,7 @@ use mathlib.Core.Option.{Option, Option·map, none, some}
 use mathlib.Core.Path.{_≡_}
 use Rattle.condition.specs.Answers.{kindOf}
 use Rattle.condition.specs.CondForm.{conditionInForm}
-use Rattle.form.specs.Form.{Form, attr, condRole, grant, label, note, public, purpose, role, row, user}
+use Rattle.form.specs.Form.{Form, attr, condRole, grant, label, note, public, purpose, role, row, strong, user, weak}
 use Rattle.form.specs.FormReader.{formOf}
 use Rattle.form.specs.TableWords.{tableLine}
 use Rattle.form.specs.Walks.{givensAt, itemsAt, namesAt}
@@ -31,6 +31,8 @@ lineAt s (line.Label l ps qs) = some (label (wordOf s l) (namesAt s ps) (namesAt
 lineAt s (line.Table t k l cs) = some (tableLine s t k l cs)
 lineAt s (line.Row t is) = some (row (wordOf s t) (itemsAt s is))
 lineAt s (line.Public t) = some (note (wordOf s t) public)
+lineAt s (line.Weak t l) = some (note (wordOf s t) (weak (wordOf s l)))
+lineAt s (line.Strong t l) = some (note (wordOf s t) (strong (wordOf s l)))
 
 -- the places of the answer lie in the line
 unfoldable pub Within : List ℕ → Line → Type 0
@@ -47,6 +49,8 @@ Within s (line.Label l ps qs) = (l ≤ length s) × (ps ≤ length s) × (qs ≤
 Within s (line.Table t k l cs) = (t ≤ length s) × (l ≤ length s) × (cs ≤ length s)
 Within s (line.Row t is) = (t ≤ length s) × (is ≤ length s)
 Within s (line.Public t) = t ≤ length s
+Within s (line.Weak t l) = (t ≤ length s) × (l ≤ length s)
+Within s (line.Strong t l) = (t ≤ length s) × (l ≤ length s)
 
 -- THE LINE: the code's answer r stands for the form that the line is, and its places lie in the line
 pub record Reads (s : List ℕ) (r : Line) : Type 0 where

@@ -18,8 +18,8 @@ use text::words::word_end;
 ghost use mathlib.Core.Path.{_≡_};
 ghost use Rattle.text.specs.Brackets.{keyword, next};
 ghost use Rattle.text.specs.Reader.{from};
-ghost use Rattle.form.specs.Form.{purpose, role};
-ghost use Rattle.form.specs.FormReader.{attrForm, condRoleForm, grantForm, labelForm, lineForms, node, publicForm, purposeSet, rowForm, tableForm, userForm};
+ghost use Rattle.form.specs.Form.{purpose, role, strong, weak};
+ghost use Rattle.form.specs.FormReader.{attrForm, condRoleForm, grantForm, labelForm, labelNote, lineForms, node, publicForm, purposeSet, rowForm, tableForm, userForm};
 ghost use Rattle.form.specs.BodyPlaces.{ReadsBody, ReadsColumns, ReadsSet, underScheme};
 ghost use Rattle.form.specs.Places.{Reads};
 ghost use Rattle.form.specs.TableWords.{labelsColumns};
@@ -31,6 +31,7 @@ pub enum Scheme {
     ByColumn,
     ByRow,
     ByCell,
+    Nested,
 }
 
 // Whether the labels of a table of this scheme stand at its columns.
@@ -43,6 +44,7 @@ pub fn labels_columns(s: Scheme) -> bool
         Scheme::ByColumn => true,
         Scheme::ByRow => false,
         Scheme::ByCell => false,
+        Scheme::Nested => false,
     }
 }
 
@@ -63,6 +65,8 @@ pub enum Line {
     Table(usize, Scheme, usize, usize),
     Row(usize, usize),
     Public(usize),
+    Weak(usize, usize),
+    Strong(usize, usize),
 }
 
 // What stands behind a line's keyword, and where it ends.
@@ -277,6 +281,9 @@ fn table_columns(s: &[u8], at: usize) -> Columns
     if is_word(s, at, b"cell") {
         return under_scheme(s, Scheme::ByCell, 0, e, columns_end(s, e));
     }
+    if is_word(s, at, b"nest") {
+        return under_scheme(s, Scheme::Nested, 0, e, columns_end(s, e));
+    }
     Columns::Refused
 }
 
@@ -307,6 +314,36 @@ fn public_body(s: &[u8], at: usize) -> Body
         return Body::Refused;
     };
     Body::At(Line::Public(at + 1), e)
+}
+
+// `T L` behind `weak`.
+fn weak_body(s: &[u8], at: usize) -> Body
+    ensures { λ r. ⌜ ReadsBody (now (s .entry)) (labelNote weak (from (now (s .entry)) at)) r ⌝ }
+{
+    let n = spaced_name_end(s, at);
+    let End::At(e) = n else {
+        return Body::Refused;
+    };
+    let q = spaced_name_end(s, e);
+    let End::At(f) = q else {
+        return Body::Refused;
+    };
+    Body::At(Line::Weak(at + 1, e + 1), f)
+}
+
+// `T L` behind `strong`.
+fn strong_body(s: &[u8], at: usize) -> Body
+    ensures { λ r. ⌜ ReadsBody (now (s .entry)) (labelNote strong (from (now (s .entry)) at)) r ⌝ }
+{
+    let n = spaced_name_end(s, at);
+    let End::At(e) = n else {
+        return Body::Refused;
+    };
+    let q = spaced_name_end(s, e);
+    let End::At(f) = q else {
+        return Body::Refused;
+    };
+    Body::At(Line::Strong(at + 1, e + 1), f)
 }
 
 // `T` and its items.
@@ -355,6 +392,12 @@ fn read_body(s: &[u8], at: usize) -> Body
     }
     if is_word(s, at, b"public") {
         return public_body(s, e);
+    }
+    if is_word(s, at, b"weak") {
+        return weak_body(s, e);
+    }
+    if is_word(s, at, b"strong") {
+        return strong_body(s, e);
     }
     if is_word(s, at, b"row") {
         return row_body(s, e);

@@ -1,36 +1,36 @@
 -- The code and the figures of a result. Assumes nothing.
 use Prim.Native.Nat.{ℕ}
+use Rattle.answer.specs.Ask as meant
+use Rattle.answer.specs.Ask.{Outcome, ask, measure}
+use Rattle.answer.specs.Reserve as reserve
+use Rattle.answer.specs.Reserve.{IsReserve, Taken}
+use Rattle.gate.proofs.DocumentLaws.{accepted-checked, code-checked}
+use Rattle.gate.specs.Exports.{ExportsAsk, ExportsCheck, ExportsImport, ExportsMeasure, ExportsMeasureImport, ExportsRefusal, StoresAnswer, StoresLength, askFigures, checkFigures, codeOf, measureFigures}
+use Rattle.gate.specs.Outcome.{checkedAs}
+use Rattle.gate.specs.Reserved.{ChecksDocument, HasReserve}
+use Rattle.gate.specs.declared.documents.Checked.the-variants as checked
+use Rattle.gate.specs.declared.documents.Checked.{Checked}
+use Rattle.import.specs.Importing.{measureImport}
+use Rattle.import.specs.Outside.{Imports, importedAs}
+use Rattle.import.specs.declared.importing.Imported.{Imported}
+use Rattle.loaded.specs.Outside.{Asks, Measures, measuredAs}
+use Rattle.loaded.specs.declared.measures.Measured.{Measured}
+use Rattle.query.specs.Authority.{Clock}
+use Rattle.stages.specs.Figures.{Figures, answeredAs, figuresOf, inFigures}
+use Rattle.stages.specs.declared.answered.Answered.the-variants as answered
+use Rattle.stages.specs.declared.answered.Answered.{Answered}
+use Rattle.stages.specs.declared.answered.Figures as code
+use Rattle.text.proofs.RefusalLaws.{not-refused}
+use Rattle.text.specs.Names.{Name}
+use Rattle.text.specs.Reasons.{reasonNumber, refusalOf}
+use Rattle.text.specs.Refusal.{Result, accepted, refused}
+use Rattle.text.specs.declared.refusals.Reason.the-variants.{BufferTooShort, ClockOutOfRange, Closed, ImportTooShort, LateAttribute, MalformedRecord, MistypedQuery, NameTaken, NameUnknown, NoSuchDate, NotAQuery, NotAuthorised, NoteMisplaced, OverBound, RangeNotTaken, RangeReversed, RoleNotGiven, SecondRoot, TooLong, UnfitField, UnknownColumn, UnknownParty, WrongForm, WrongType, WrongValues}
+use Rattle.text.specs.declared.refusals.Reason.{Reason}
+use Rattle.text.specs.declared.refusals.Refusal.{Refusal}
 use lib.ListN.{getD, length}
 use mathlib.Core.List.{List, [], _∷_}
 use mathlib.Core.Path.{_∙_, _≡_, ap, refl, subst, sym}
 use native.Mathlib.Omega.{arith}
-use Rattle.answer.specs.Ask.{Outcome, ask, measure}
-use Rattle.answer.specs.Ask as meant
-use Rattle.answer.specs.Reserve.{IsReserve, Taken}
-use Rattle.answer.specs.Reserve as reserve
-use Rattle.gate.proofs.DocumentLaws.{accepted-checked, code-checked}
-use Rattle.gate.specs.Outcome.{checkedAs}
-use Rattle.gate.specs.declared.documents.Checked.{Checked}
-use Rattle.gate.specs.declared.documents.Checked.the-variants as checked
-use Rattle.gate.specs.Exports.{ExportsAsk, ExportsCheck, ExportsImport, ExportsMeasure, ExportsMeasureImport, ExportsRefusal, StoresAnswer, StoresLength, askFigures, checkFigures, codeOf, measureFigures}
-use Rattle.loaded.specs.Outside.{Asks, Measures, measuredAs}
-use Rattle.stages.specs.Figures.{Figures, answeredAs, figuresOf, inFigures}
-use Rattle.gate.specs.Reserved.{ChecksDocument, HasReserve}
-use Rattle.stages.specs.declared.answered.Answered.{Answered}
-use Rattle.stages.specs.declared.answered.Answered.the-variants as answered
-use Rattle.stages.specs.declared.answered.Figures as code
-use Rattle.loaded.specs.declared.measures.Measured.{Measured}
-use Rattle.import.specs.Importing.{measureImport}
-use Rattle.import.specs.Outside.{Imports, importedAs}
-use Rattle.import.specs.declared.importing.Imported.{Imported}
-use Rattle.query.specs.Authority.{Clock}
-use Rattle.text.specs.Names.{Name}
-use Rattle.text.proofs.RefusalLaws.{not-refused}
-use Rattle.text.specs.Reasons.{reasonNumber, refusalOf}
-use Rattle.text.specs.Refusal.{Result, accepted, refused}
-use Rattle.text.specs.declared.refusals.Reason.{Reason}
-use Rattle.text.specs.declared.refusals.Reason.the-variants.{BufferTooShort, ClockOutOfRange, Closed, ImportTooShort, LateAttribute, MalformedRecord, MistypedQuery, NameTaken, NameUnknown, NoSuchDate, NotAQuery, NotAuthorised, OverBound, RangeNotTaken, RangeReversed, RoleNotGiven, SecondRoot, TooLong, UnfitField, UnknownColumn, UnknownParty, WrongForm, WrongType, WrongValues}
-use Rattle.text.specs.declared.refusals.Refusal.{Refusal}
 
 -- no refusal has the code 0
 numbered : (r : Reason) → reasonNumber r ≡ 0 → ⊥
@@ -55,6 +55,7 @@ numbered BufferTooShort e = omega (arith, e)
 numbered MalformedRecord e = omega (arith, e)
 numbered UnfitField e = omega (arith, e)
 numbered ImportTooShort e = omega (arith, e)
+numbered NoteMisplaced e = omega (arith, e)
 numbered RangeNotTaken e = omega (arith, e)
 numbered RangeReversed e = omega (arith, e)
 numbered NoSuchDate e = omega (arith, e)

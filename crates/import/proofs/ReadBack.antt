@@ -5,9 +5,9 @@ use mathlib.Core.Bool.{_&&_, not, true}
 use mathlib.Core.List.{List, [], _++_, _∷_, append-assoc, flatten, map}
 use mathlib.Core.Option.{Option, Option·map, Option·some-injective, bind, none, some}
 use mathlib.Core.Path.{_∙_, _≡_, ap, refl, sym}
-use Rattle.form.proofs.RowBack.{itemsOf, placelessItem, row-back, row-read, rowParts, rowText-bytes}
-use Rattle.form.specs.Form.{Form, Item, attr, condRole, grant, label, labelled, note, plain, purpose, role, row, table, user}
-use Rattle.form.specs.RowText.{itemTexts, rowText, spaced}
+use Rattle.form.proofs.RowBack.{itemsOf, placelessItem, row-back, row-read, rowParts, rowText-bytes, valueItems}
+use Rattle.form.specs.Form.{Form, Item, attr, condRole, grant, hasBrackets, label, labelled, leadsLabel, note, plain, purpose, role, row, table, user}
+use Rattle.form.specs.RowText.{itemTexts, rowText, spaced, valueTexts}
 use Rattle.import.proofs.RowLaws.{lines-one, spaced-one, unfit-first}
 use Rattle.csv.proofs.FieldLaws.{not-name}
 use Rattle.import.proofs.ImportLaws.{was-taken}
@@ -65,7 +65,7 @@ row-words (row x is) t vs h =
 
 module _ (t l : Name) (named : isName t ≡ true) (labelled′ : isName l ≡ true) where
   line-words : (vs : List Field) → allOf isValue vs ≡ true → lineWords (rowText oneLabel (ascii "row") t (l ∷ []) vs) ≡ some (t ∷ l ∷ vs)
-  unfolding lineWords bind allOf itemsOf
+  unfolding lineWords bind allOf itemsOf leadsLabel hasBrackets valueItems
   line-words vs k =
       let r = row-read oneLabel (ascii "row") t (l ∷ []) vs (sameName-refl (ascii "row")) named (and-both (isName l) true labelled′ refl) (values-cells vs k) in
       ap (λ (o : Option Form). bind o rowWords) (r .1) ∙ row-words (r .0) t (l ∷ vs) (row-back oneLabel (ascii "row") t (l ∷ []) vs (sameName-refl (ascii "row")) named (and-both (isName l) true labelled′ refl) (values-cells vs k) (r .0) (r .1))
@@ -93,7 +93,7 @@ module _ (t l : Name) (named : isName t ≡ true) (labelled′ : isName l ≡ tr
       first-free w a = unfold noFeed allOf in a
 
   row-free : (vs : List Field) → allOf isValue vs ≡ true → noFeed (rowText oneLabel (ascii "row") t (l ∷ []) vs) ≡ true
-  unfolding itemTexts allOf
+  unfolding itemTexts leadsLabel hasBrackets valueTexts allOf noFeed
   row-free vs k =
       let a = feed-free t (value-nameBytes t (name-value t named)) in
       let b = spaced-free (l ∷ vs) (and-both (isValue l) (allOf isValue vs) (name-value l labelled′) k) in

@@ -9,7 +9,8 @@ use mathlib.Core.Option.{Option, Option·none-ne-some, none, some}
 use mathlib.Core.Path.{_∙_, _≡_, ap, refl, subst, sym}
 use native.Mathlib.Omega.{arith}
 use Rattle.form.proofs.RowBack.{rowText-bytes}
-use Rattle.form.specs.RowText.{itemTexts, spaced}
+use Rattle.form.specs.Form.{hasBrackets, leadsLabel}
+use Rattle.form.specs.RowText.{itemTexts, spaced, valueTexts}
 use Rattle.csv.proofs.FieldLaws.{eats-field, field-fit, field-is, field-plain}
 use Rattle.csv.proofs.RecordLaws.{eats-fields, end-next, fields-broken, fields-last, fields-more}
 use Rattle.csv.proofs.ScanLaws.{record-none, record-other, record-read, records-end, records-step}
@@ -162,7 +163,7 @@ module _ (s : List ℕ) (at : ℕ) {i : ℕ} {before out out′ : List ℕ} {to 
 -- ---- a row line
 
 pub line-bytes : (t l : Name) (vs : List Field) → recordLine t l vs ≡ (40 ∷ 114 ∷ 111 ∷ 119 ∷ 32 ∷ []) ++ t ++ (32 ∷ []) ++ l ++ spaced vs ++ (41 ∷ 10 ∷ [])
-unfolding recordLine itemTexts spaced flatten
+unfolding recordLine itemTexts leadsLabel hasBrackets valueTexts spaced flatten
 line-bytes t l vs = ap (λ (bs : List ℕ). bs ++ 10 ∷ []) (rowText-bytes oneLabel (ascii "row") t (l ∷ []) vs) ∙ simp append-assoc
 
 pub row-placed : (s : List ℕ) (at : ℕ) (t l : Name) {b0 b1 b2 b3 b4 b5 b6 : List ℕ} {to n1 n2 n3 n4 : ℕ} (p r : Placed)

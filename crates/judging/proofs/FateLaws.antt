@@ -11,21 +11,21 @@ use Rattle.answer.specs.Answer.{satisfies}
 use Rattle.answer.specs.Exactly.{isGiven, isUnmatchedRow, isWithheldRow}
 use Rattle.answer.specs.Seen.{rowsIn}
 use Rattle.judging.proofs.TestLaws.{stored-more}
-use Rattle.judging.specs.Judging.{Judgeable, JudgedTo, countedBy, fateHere, fateOf, passedBy}
+use Rattle.judging.specs.Judging.{Judgeable, JudgedTo, WithheldBy, countedBy, fateHere, fateOf, passedBy}
+use Rattle.judging.specs.Marking.{Marks}
+use Rattle.form.specs.Form.{Note, Scheme}
 use Rattle.judging.specs.Prepared.{Judged, Prepared, firstWithholding}
 use Rattle.judging.specs.declared.fates.Fate.the-variants as fate
 use Rattle.judging.specs.declared.fates.Fate.{Fate}
 use Rattle.judging.specs.declared.sought.Sought.{Sought}
 use Rattle.judging.specs.declared.tally.Tally.{Tally}
-use Rattle.document.proofs.OpenLaws.{settled-withheld}
-use Rattle.document.specs.Lookup.{labellingAt, notesOf, schemeAt}
-use Rattle.document.specs.Open.{labelOpen, rowWithheld}
-use Rattle.document.specs.Policy.{Doc, Policy, Row}
+use Rattle.document.specs.Lookup.{labellingAt, notesOf, schemeAt, settled}
+use Rattle.document.specs.Open.{openTo, rowWithheld}
+use Rattle.document.specs.Policy.{Doc, Row}
 use Rattle.workspace.proofs.TabulatedLaws.{tabulated-more}
 use Rattle.relations.proofs.RowLaws.{row-known}
 use Rattle.relations.proofs.TableLaws.{scheme-at, table-inside}
-use Rattle.relations.specs.Labels.{Opened}
-use Rattle.relations.specs.Rows.{Rows, labelCountIn, labelRoom, labelsIn, rowIn, rowTableIn}
+use Rattle.relations.specs.Rows.{Rows, labelsIn, rowIn, rowTableIn}
 use Rattle.relations.specs.Tables.{columnLabelsIn, schemeBy, schemeIn, tableLabelIn}
 use Rattle.workspace.specs.Tabulated.{tabulated}
 use Rattle.form.specs.declared.lines.Scheme as coded
@@ -53,13 +53,13 @@ module _ (text ws : List ℕ) (count : ℕ) (os : List Bool) (s : List ℕ) (g :
 
   -- whether it is withheld, as the code finds it
   withheld-here : (x : Bool)
-      → ((e : Policy) (p l : ℕ) (ls : List ℕ) → Opened e p os → r < 1024 → labelCountIn ws r ≤ labelRoom → x ≡ rowWithheld (labelOpen e p) (schemeBy code l ls) (drop first (take (g .chosen + g .tests) cs)) (labelsIn ws r))
+      → WithheldBy code ws os (g .marking) r (drop first (take (g .chosen + g .tests) cs)) x
       → x ≡ isWithheldRow d q (rowIn text ws r)
   unfolding isWithheldRow rowIn labellingAt
   withheld-here x h =
-      h (d .policy) (q .purpose) (jd .label) (jd .labels) (jd .opened) row-small (jd .rows .marked r l)
-      ∙ (λ i. rowWithheld (labelOpen (d .policy) (q .purpose)) (jd .schemed i) (jd .withholding i) (labelsIn ws r))
-      ∙ sym (settled-withheld (labelOpen (d .policy) (q .purpose)) (notesOf (d .policy .notes) (q .source .table)) (schemeAt (d .policy) (q .source .table)) (q .source .withholding) (labelsIn ws r))
+      let notes : List (Note ℕ) = notesOf (d .policy .notes) (q .source .table) in
+      h (d .policy) (q .purpose) (jd .label) (jd .labels) notes (jd .said) (subst (λ (z : Scheme ℕ). Marks (d .policy) (q .purpose) (g .marking) z notes) (sym (jd .schemed)) (jd .marking)) row-small (jd .rows .marked r l)
+      ∙ (λ i. rowWithheld (openTo (d .policy) (q .purpose)) (settled notes (jd .schemed i)) (jd .withholding i) (labelsIn ws r))
 
   -- what the code gives for each row
   module _ (x : ℕ) (is : r < 1024 → x ≡ rowTableIn ws r) where
@@ -68,7 +68,7 @@ module _ (text ws : List ℕ) (count : ℕ) (os : List Bool) (s : List ℕ) (g :
     fate-elsewhere e = ap (λ (b : Bool). fateBy b (isWithheldRow d q (rowIn text ws r)) (satisfies q (rowIn text ws r .values))) (sym (ne-eqb x (g .table) e) ∙ table-here x is)
 
     module _ (here : x ≡ g .table) (y : Bool)
-        (held : (e : Policy) (p l : ℕ) (ls : List ℕ) → Opened e p os → r < 1024 → labelCountIn ws r ≤ labelRoom → y ≡ rowWithheld (labelOpen e p) (schemeBy code l ls) (drop first (take (g .chosen + g .tests) cs)) (labelsIn ws r)) where
+        (held : WithheldBy code ws os (g .marking) r (drop first (take (g .chosen + g .tests) cs)) y) where
       in-table : true ≡ eqb (rowIn text ws r .table) (q .source .table)
       in-table = sym (eq-eqb x (g .table) here) ∙ table-here x is
 
@@ -111,7 +111,8 @@ judgeable text ts ws count os s g rs cs d q pr f code is = record {
       sym (is (table-inside text ts (pr .tableCount) (g .table) (d .policy) (pr .tables) (pr .inside)))
       ∙ sym (scheme-at text ts (pr .tableCount) (g .table) (d .policy) (pr .tables) (pr .inside))
       ∙ ap (schemeAt (d .policy)) (sym (pr .table));
-  opened = pr .opened;
+  said = pr .said;
+  marking = pr .marking;
   withholding = ap (λ n. drop n (take (g .chosen + g .tests) cs)) f ∙ pr .withholding;
   tested = pr .tested;
 }

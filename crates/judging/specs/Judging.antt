@@ -1,33 +1,38 @@
 -- Contract: what becomes of a row, and what the arrays say of its cells.
-use Prim.Native.Nat.{_+_, _<_, ℕ}
-use lib.Dec.{eqb}
-use lib.ListN.{drop, getD, getElem?, take}
-use mathlib.Core.Bool.{Bool, _&&_, cond, false, true}
-use mathlib.Core.List.{List}
-use mathlib.Core.Path.{_≡_}
+use Prim.Native.Nat.{_+_, _<_, _≤_, ℕ}
 use Rattle.answer.specs.Answer.{satisfies}
 use Rattle.answer.specs.Exactly.{isGiven, isUnmatchedRow, isWithheldRow}
 use Rattle.answer.specs.Seen.{rowsIn}
+use Rattle.document.specs.Lookup.{notesOf, schemeAt, settled}
+use Rattle.document.specs.Open.{openTo, rowWithheld}
+use Rattle.document.specs.Policy.{Doc, Policy, Row}
+use Rattle.form.specs.Form.{Note}
+use Rattle.form.specs.declared.lines.Scheme as coded
+use Rattle.judging.specs.Marking.{Marks}
 use Rattle.judging.specs.Tests.{Tested}
 use Rattle.judging.specs.declared.fates.Fate.the-variants as fate
 use Rattle.judging.specs.declared.fates.Fate.{Fate}
+use Rattle.judging.specs.declared.marking.Marking.{Marking}
 use Rattle.judging.specs.declared.sought.Sought.{Sought}
 use Rattle.judging.specs.declared.tally.Tally.{Tally}
-use Rattle.document.specs.Lookup.{schemeAt}
-use Rattle.document.specs.Open.{labelOpen}
-use Rattle.document.specs.Policy.{Doc, Policy, Row}
-use Rattle.relations.specs.Labels.{Opened}
-use Rattle.workspace.specs.Tabulated.{tabulated}
-use Rattle.relations.specs.Rows.{Rows, labelsIn}
-use Rattle.relations.specs.Tables.{schemeBy}
-use Rattle.form.specs.declared.lines.Scheme as coded
 use Rattle.lists.specs.Lists.{countOf}
 use Rattle.query.specs.Query.{Query}
 use Rattle.query.specs.QueryForm.{modeIn}
+use Rattle.relations.specs.Labels.{Said}
+use Rattle.relations.specs.Rows.{Rows, labelCountIn, labelRoom, labelsIn}
+use Rattle.relations.specs.Tables.{schemeBy}
+use Rattle.workspace.specs.Tabulated.{tabulated}
+use lib.Dec.{eqb}
+use lib.ListN.{drop, getD, take}
+use mathlib.Core.Bool.{Bool, _&&_, cond, false, true}
+use mathlib.Core.List.{List}
+use mathlib.Core.Path.{_≡_}
 
--- cell c of row r is open to the purpose p
-unfoldable pub openIn : Policy → ℕ → List ℕ → ℕ → ℕ → Bool
-openIn d p ws r c = labelOpen d p (getElem? (labelsIn ws r) c)
+-- fates::is_withheld: the row is withheld, where the scheme and the marking are those of a table with some notes
+abbrev pub WithheldBy : (scheme : coded.Scheme) (ws : List ℕ) (os : List Bool) (m : Marking) (r : ℕ) (cs : List ℕ) (x : Bool) → Type 0
+WithheldBy scheme ws os m r cs x =
+    (d : Policy) (p l : ℕ) (ls : List ℕ) (ns : List (Note ℕ)) → Said d p os → Marks d p m (schemeBy scheme l ls) ns → r < 1024 → labelCountIn ws r ≤ labelRoom →
+    x ≡ rowWithheld (openTo d p) (settled ns (schemeBy scheme l ls)) cs (labelsIn ws r)
 
 -- ---- the rows
 
@@ -64,7 +69,8 @@ pub record Judgeable (text ws : List ℕ) (count : ℕ) (os : List Bool) (s : Li
   pub label : ℕ
   pub labels : List ℕ
   pub schemed : schemeBy scheme label labels ≡ schemeAt (d .policy) (q .source .table)
-  pub opened : Opened (d .policy) (q .purpose) os
+  pub said : Said (d .policy) (q .purpose) os
+  pub marking : Marks (d .policy) (q .purpose) (g .marking) (schemeAt (d .policy) (q .source .table)) (notesOf (d .policy .notes) (q .source .table))
   pub withholding : drop first (take (g .chosen + g .tests) cs) ≡ q .source .withholding
   pub tested : Tested s read (g .tests) (modeIn (q .wanted)) (q .condition)
 

@@ -2,5 +2,6 @@
 pub mod Constants
 pub mod Tests
 pub mod Reading
+pub mod Marking
 pub mod Prepared
 pub mod Judging

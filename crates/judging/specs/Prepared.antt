@@ -1,25 +1,27 @@
 -- Contract: A query prepared for the rows: what the lent arrays say of it.
 use Prim.Native.Nat.{_+_, _<_, _≤_, ℕ}
+use Rattle.answer.specs.Exactly.{isGiven, isUnmatchedRow, isWithheldRow}
+use Rattle.answer.specs.Seen.{rowsIn}
+use Rattle.document.specs.Lookup.{notesOf, schemeAt}
+use Rattle.document.specs.Policy.{Doc, Row}
+use Rattle.judging.specs.Marking.{Marks}
+use Rattle.judging.specs.Tests.{Tested}
+use Rattle.judging.specs.declared.sought.Sought.{Sought}
+use Rattle.judging.specs.declared.tally.Tally.{Tally}
+use Rattle.lists.specs.Lists.{countOf}
+use Rattle.query.specs.Query.{NamesParts, PartsOpen, Query}
+use Rattle.query.specs.QueryForm.{Wanted, countsOnly, leavesGaps, modeIn, rowsOf}
+use Rattle.query.specs.QueryPlaces.{verbOf}
+use Rattle.query.specs.declared.reading.Verb.{Verb}
+use Rattle.relations.specs.Labels.{Said}
+use Rattle.relations.specs.Rows.{Rows}
+use Rattle.relations.specs.Tables.{Tables}
 use lib.Dec.{eqb}
 use lib.ListN.{drop, getD, getElem?, length, take}
 use mathlib.Core.Bool.{Bool, _&&_, cond, false, true}
 use mathlib.Core.List.{List}
 use mathlib.Core.Option.{some}
 use mathlib.Core.Path.{_≡_}
-use Rattle.answer.specs.Exactly.{isGiven, isUnmatchedRow, isWithheldRow}
-use Rattle.answer.specs.Seen.{rowsIn}
-use Rattle.document.specs.Policy.{Doc, Row}
-use Rattle.relations.specs.Labels.{Opened}
-use Rattle.relations.specs.Rows.{Rows}
-use Rattle.relations.specs.Tables.{Tables}
-use Rattle.lists.specs.Lists.{countOf}
-use Rattle.query.specs.Query.{NamesParts, PartsOpen, Query}
-use Rattle.query.specs.QueryForm.{Wanted, countsOnly, leavesGaps, modeIn, rowsOf}
-use Rattle.query.specs.QueryPlaces.{verbOf}
-use Rattle.query.specs.declared.reading.Verb.{Verb}
-use Rattle.judging.specs.Tests.{Tested}
-use Rattle.judging.specs.declared.sought.Sought.{Sought}
-use Rattle.judging.specs.declared.tally.Tally.{Tally}
 
 -- what is asked for, as the code says it: whether lines are, in which way, and of which columns
 unfoldable pub wantedBy : Bool → Verb → List ℕ → Wanted ℕ
@@ -30,7 +32,7 @@ wantedBy false v cs = countsOnly
 unfoldable pub firstWithholding : Sought → ℕ
 firstWithholding g = cond (leavesGaps (verbOf (g .verb))) (g .chosen) 0
 
--- the arrays hold the document's tables ts and rows ws; g is what is sought of the rows, os says which labels are open to the query's
+-- the arrays hold the document's tables ts and rows ws; g is what is sought of the rows, os says what labels say of the query's
 -- purpose; of the numbers cs of columns the first are selected, and then those follow that its comparisons name, which are read
 -- from the query's text s
 pub record Prepared (text ts ws : List ℕ) (count : ℕ) (os : List Bool) (s : List ℕ) (g : Sought) (read cs : List ℕ) (d : Doc) (q : Query) : Type 0 where
@@ -40,7 +42,8 @@ pub record Prepared (text ts ws : List ℕ) (count : ℕ) (os : List Bool) (s : 
   pub inside : g .table < tableCount
   pub rows : Rows text ws count (d .rows)
   pub table : q .source .table ≡ g .table
-  pub opened : Opened (d .policy) (q .purpose) os
+  pub said : Said (d .policy) (q .purpose) os
+  pub marking : Marks (d .policy) (q .purpose) (g .marking) (schemeAt (d .policy) (q .source .table)) (notesOf (d .policy .notes) (q .source .table))
   pub fewChosen : g .chosen ≤ 16
   pub wanted : q .wanted ≡ wantedBy (g .lines) (g .verb) (take (g .chosen) cs)
   pub named : NamesParts q

@@ -1,20 +1,21 @@
 // What becomes of each row: it is withheld, or given, or its condition does not hold.
 use crate::comparing::row_matches;
+use crate::marking::Marking;
+use crate::marking::cell_open;
+use crate::marking::label_open;
+use crate::marking::under_row;
 use crate::sought::Sought;
 use crate::tally::Tally;
 use crate::tests::TEST_CELLS;
 use form::lines::Scheme;
 use query::reading::leaves_gaps;
-use relations::labels::opened_at;
-use relations::rows::row_label;
-use relations::rows::row_labels;
 use relations::rows::row_table;
 use relations::tables::table_scheme;
 use workspace::layout::COLUMNS;
-use workspace::layout::LABELS;
 use workspace::layout::ROW_CELLS;
 use workspace::layout::ROWS;
 use workspace::layout::TABLE_CELLS;
+use workspace::layout::VERDICTS;
 ghost use Prim.Native.Nat.{_+_, _<_, _≤_, ℕ};
 ghost use lib.ListN.{drop, getD, length, take};
 ghost use mathlib.Core.Bool.{_&&_, false, not};
@@ -22,17 +23,15 @@ ghost use mathlib.Core.List.{List};
 ghost use mathlib.Core.Option.{Option};
 ghost use mathlib.Core.Path.{_≡_};
 ghost use Rattle.answer.specs.Answer.{matches};
-ghost use Rattle.judging.specs.Judging.{JudgedTo, Judgeable, countedBy, fateHere, fateOf, openIn, passedBy};
+ghost use Rattle.judging.specs.Judging.{JudgedTo, Judgeable, WithheldBy, countedBy, fateHere, fateOf, passedBy};
+ghost use Rattle.judging.specs.Marking.{openUnder};
 ghost use Rattle.judging.specs.Prepared.{Judged, Prepared, firstWithholding};
 ghost use Rattle.judging.specs.Tests.{Tested};
 ghost use Rattle.condition.specs.Comparison.{Comparison};
 ghost use Rattle.condition.specs.Cond.{Cond};
 ghost use Rattle.condition.specs.Ranges.{Mode};
-ghost use Rattle.document.specs.Open.{labelOpen, rowWithheld};
-ghost use Rattle.document.specs.Policy.{Doc, Policy};
-ghost use Rattle.relations.specs.Labels.{Opened};
+ghost use Rattle.document.specs.Policy.{Doc};
 ghost use Rattle.relations.specs.Rows.{labelCountIn, labelRoom, labelsIn, rowIn, valueCountIn};
-ghost use Rattle.relations.specs.Tables.{schemeBy};
 ghost use Rattle.lists.specs.Lists.{anyOf};
 ghost use Rattle.query.specs.Query.{Query};
 
@@ -44,32 +43,22 @@ pub enum Fate {
     Unmatched,
 }
 
-// Whether label c of row r is open; a label that the row has not is closed.
-pub fn cell_open(rows: &[usize; ROW_CELLS], opened: &[bool; LABELS], r: usize, c: usize) -> bool
-    ensures { λ x. ⌜ ((d : Policy) (p : ℕ) → Opened d p (now (opened .entry)) → r < 1024 → labelCountIn (now (rows .entry)) r ≤ labelRoom → x ≡ openIn d p (now (rows .entry)) r c) ⌝ }
-{
-    let n = row_labels(rows, r);
-    if c < n {
-        return opened_at(opened, row_label(rows, r, c));
-    }
-    false
-}
-
-// Whether a cell of row r is closed in one of these columns: the first n but for those before `first`.
+// Whether a cell of row r, which is marked so, is closed in one of these columns: the first n but for those before `first`.
 fn any_closed(
     rows: &[usize; ROW_CELLS],
-    opened: &[bool; LABELS],
+    said: &[bool; VERDICTS],
+    m: Marking,
     r: usize,
     columns: &[usize],
     first: usize,
     n: usize,
 ) -> bool
     requires { ⌜ n ≤ length (now columns) ⌝ }
-    ensures { λ x. ⌜ ((d : Policy) (p : ℕ) → Opened d p (now (opened .entry)) → r < 1024 → labelCountIn (now (rows .entry)) r ≤ labelRoom → x ≡ anyOf (λ c. not (openIn d p (now (rows .entry)) r c)) (drop first (take n (now (columns .entry))))) ⌝ }
+    ensures { λ x. ⌜ (r < 1024 → labelCountIn (now (rows .entry)) r ≤ labelRoom → x ≡ anyOf (λ c. not (openUnder (now (said .entry)) m (labelsIn (now (rows .entry)) r) c)) (drop first (take n (now (columns .entry))))) ⌝ }
 {
     let mut i = first;
     while i < n {
-        if !cell_open(rows, opened, r, columns[i]) {
+        if !cell_open(rows, said, m, r, columns[i]) {
             return true;
         }
         i += 1;
@@ -77,26 +66,31 @@ fn any_closed(
     false
 }
 
-// Whether row r is withheld in a table of this scheme, where closed cells in the first n columns but for those before `first`
-// withhold it.
+// Whether row r is withheld in a table of this scheme, which is marked so, where closed cells in the first n columns but for those before
+// `first` withhold it.
 fn is_withheld(
     scheme: Scheme,
     rows: &[usize; ROW_CELLS],
-    opened: &[bool; LABELS],
+    said: &[bool; VERDICTS],
+    m: Marking,
     r: usize,
     columns: &[usize; 80],
     first: usize,
     n: usize,
 ) -> bool
     requires { ⌜ n ≤ 80 ⌝ }
-    ensures { λ x. ⌜ ((d : Policy) (p l : ℕ) (ls : List ℕ) → Opened d p (now (opened .entry)) → r < 1024 → labelCountIn (now (rows .entry)) r ≤ labelRoom → x ≡ rowWithheld (labelOpen d p) (schemeBy scheme l ls) (drop first (take n (now (columns .entry)))) (labelsIn (now (rows .entry)) r)) ⌝ }
+    ensures { λ x. ⌜ WithheldBy scheme (now (rows .entry)) (now (said .entry)) m r (drop first (take n (now (columns .entry)))) x ⌝ }
 {
     match scheme {
         Scheme::Unlabelled => false,
         Scheme::ByTable => false,
         Scheme::ByColumn => false,
-        Scheme::ByRow => !cell_open(rows, opened, r, 0),
-        Scheme::ByCell => any_closed(rows, opened, r, columns, first, n),
+        Scheme::ByRow => !label_open(rows, said, r, 0),
+        Scheme::ByCell => any_closed(rows, said, m, r, columns, first, n),
+        Scheme::Nested => {
+            let own = under_row(rows, said, m, r);
+            any_closed(rows, said, own, r, columns, first, n)
+        }
     }
 }
 
@@ -137,7 +131,7 @@ fn fate_of(
     text: &[u8],
     rows: &[usize; ROW_CELLS],
     r: usize,
-    opened: &[bool; LABELS],
+    said: &[bool; VERDICTS],
     query: &[u8],
     s: Sought,
     first: usize,
@@ -146,13 +140,14 @@ fn fate_of(
     tests: &[usize; TEST_CELLS],
 ) -> Fate
     requires { ⌜ (s .chosen ≤ 16) × (s .tests ≤ 64) ⌝ }
-    ensures { λ x. ⌜ ((count : ℕ) (d : Doc) (q : Query) → Judgeable (now (text .entry)) (now (rows .entry)) count (now (opened .entry)) (now (query .entry)) s first scheme (now (columns .entry)) (now (tests .entry)) d q → r < count → x ≡ fateOf d q (rowIn (now (text .entry)) (now (rows .entry)) r)) ⌝ }
+    ensures { λ x. ⌜ ((count : ℕ) (d : Doc) (q : Query) → Judgeable (now (text .entry)) (now (rows .entry)) count (now (said .entry)) (now (query .entry)) s first scheme (now (columns .entry)) (now (tests .entry)) d q → r < count → x ≡ fateOf d q (rowIn (now (text .entry)) (now (rows .entry)) r)) ⌝ }
 {
     let m = s.tests;
     if row_table(rows, r) != s.table {
         return Fate::Elsewhere;
     }
-    let held = is_withheld(scheme, rows, opened, r, columns, first, s.chosen + m);
+    let marking = s.marking;
+    let held = is_withheld(scheme, rows, said, marking, r, columns, first, s.chosen + m);
     let met = row_met(held, text, rows, r, query, tests, m);
     fate_here(held, met)
 }
@@ -202,7 +197,7 @@ fn judge_each(
     text: &[u8],
     rows: &[usize; ROW_CELLS],
     count: usize,
-    opened: &[bool; LABELS],
+    said: &[bool; VERDICTS],
     query: &[u8],
     s: Sought,
     first: usize,
@@ -212,7 +207,7 @@ fn judge_each(
     marks: &mut [bool],
 ) -> Tally
     requires { ⌜ (s .chosen ≤ 16) × (s .tests ≤ 64) × (count ≤ 1024) × (count ≤ length (now marks)) ⌝ }
-    ensures { λ x. ⌜ ((d : Doc) (q : Query) → Judgeable (now (text .entry)) (now (rows .entry)) count (now (opened .entry)) (now (query .entry)) s first scheme (now (columns .entry)) (now (tests .entry)) d q → JudgedTo d q (rowIn (now (text .entry)) (now (rows .entry))) count (now (marks .exit)) x) ⌝ }
+    ensures { λ x. ⌜ ((d : Doc) (q : Query) → Judgeable (now (text .entry)) (now (rows .entry)) count (now (said .entry)) (now (query .entry)) s first scheme (now (columns .entry)) (now (tests .entry)) d q → JudgedTo d q (rowIn (now (text .entry)) (now (rows .entry))) count (now (marks .exit)) x) ⌝ }
 {
     let mut x = Tally {
         passed: 0,
@@ -221,18 +216,7 @@ fn judge_each(
     };
     let mut r = 0;
     while r < count {
-        let f = fate_of(
-            text,
-            rows,
-            r,
-            opened,
-            query,
-            s,
-            first,
-            scheme,
-            columns,
-            tests,
-        );
+        let f = fate_of(text, rows, r, said, query, s, first, scheme, columns, tests);
         marks[r] = is_passed(f);
         x = count_row(x, f);
         r += 1;
@@ -257,7 +241,7 @@ fn judge_bounded(
     tables: &[usize; TABLE_CELLS],
     rows: &[usize; ROW_CELLS],
     count: usize,
-    opened: &[bool; LABELS],
+    said: &[bool; VERDICTS],
     query: &[u8],
     s: Sought,
     tests: &[usize; TEST_CELLS],
@@ -265,7 +249,7 @@ fn judge_bounded(
     marks: &mut [bool; ROWS],
 ) -> Tally
     requires { ⌜ (s .chosen ≤ 16) × (s .tests ≤ 64) × (count ≤ 1024) ⌝ }
-    ensures { λ x. ⌜ ((d : Doc) (q : Query) → Prepared (now (text .entry)) (now (tables .entry)) (now (rows .entry)) count (now (opened .entry)) (now (query .entry)) s (now (tests .entry)) (now (columns .entry)) d q → Judged d q (now (marks .exit)) x) ⌝ }
+    ensures { λ x. ⌜ ((d : Doc) (q : Query) → Prepared (now (text .entry)) (now (tables .entry)) (now (rows .entry)) count (now (said .entry)) (now (query .entry)) s (now (tests .entry)) (now (columns .entry)) d q → Judged d q (now (marks .exit)) x) ⌝ }
 {
     let first = first_withholding(s);
     let scheme = table_scheme(tables, s.table);
@@ -273,7 +257,7 @@ fn judge_bounded(
         text,
         rows,
         count,
-        opened,
+        said,
         query,
         s,
         first,
@@ -291,14 +275,14 @@ pub fn judge_rows(
     tables: &[usize; TABLE_CELLS],
     rows: &[usize; ROW_CELLS],
     count: usize,
-    opened: &[bool; LABELS],
+    said: &[bool; VERDICTS],
     query: &[u8],
     s: Sought,
     tests: &[usize; TEST_CELLS],
     columns: &[usize; 80],
     marks: &mut [bool; ROWS],
 ) -> Tally
-    ensures { λ x. ⌜ ((d : Doc) (q : Query) → Prepared (now (text .entry)) (now (tables .entry)) (now (rows .entry)) count (now (opened .entry)) (now (query .entry)) s (now (tests .entry)) (now (columns .entry)) d q → Judged d q (now (marks .exit)) x) ⌝ }
+    ensures { λ x. ⌜ ((d : Doc) (q : Query) → Prepared (now (text .entry)) (now (tables .entry)) (now (rows .entry)) count (now (said .entry)) (now (query .entry)) s (now (tests .entry)) (now (columns .entry)) d q → Judged d q (now (marks .exit)) x) ⌝ }
 {
     if s.chosen <= COLUMNS {
         if s.tests <= 64 {
@@ -308,7 +292,7 @@ pub fn judge_rows(
                     tables,
                     rows,
                     count,
-                    opened,
+                    said,
                     query,
                     s,
                     tests,

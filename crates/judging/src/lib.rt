@@ -4,6 +4,7 @@ pub mod cells;
 mod comparing;
 mod constants;
 pub mod fates;
+pub mod marking;
 pub mod sought;
 pub mod tally;
 pub mod tests;

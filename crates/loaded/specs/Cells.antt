@@ -6,7 +6,7 @@ use Rattle.index.specs.declared.counts.Counts.{Counts}
 
 -- the version of the layout
 unfoldable pub version : ℕ
-version = 7700002
+version = 7700003
 
 -- how many of each kind the arrays hold
 unfoldable pub countsIn : List ℕ → Counts

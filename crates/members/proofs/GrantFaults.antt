@@ -11,6 +11,7 @@ use Rattle.document.specs.AmountFaults.{brokenRange, noSuchDate}
 use Rattle.document.specs.Bounds.{lateAttr, overBound, secondRoot}
 use Rattle.document.specs.Lookup.{condRoleOf, purposeOf}
 use Rattle.document.specs.NameFaults.{taken, unknown}
+use Rattle.document.specs.NoteFaults.{misplaced}
 use Rattle.document.specs.Policy.{CondRole, Doc, Node, Policy}
 use Rattle.document.specs.TypeFaults.{wrongType}
 use Rattle.document.specs.ValueFaults.{misfit}
@@ -72,8 +73,8 @@ module _ (text ws : List ℕ) (m : ℕ) (conds : List ℕ) (cn k : ℕ) (line : 
           (λ d h. leftmost-on _ (wordOf line p) _ (found-there x _ (is (d .policy .purposes) (h .0)) n e) ∙ unless-false _ (wordOf line c) (found-absent y _ (is′ (d .policy) (d .policy .condRoles) (h .1)) e′))
 
       pub grant-fine : (j : ℕ) → y ≡ At j → Says Fine
-      unfolding unknown purposeOf condRoleOf lateAttr secondRoot misfit wrongType brokenRange noSuchDate
+      unfolding unknown purposeOf condRoleOf lateAttr misplaced secondRoot misfit wrongType brokenRange noSuchDate
       grant-fine j e′ =
           says-fine Held Placed′ line (grant (wordOf line p) (wordOf line c)) k 128 roomy untaken
           (λ d h. leftmost-on _ (wordOf line p) _ (found-there x _ (is (d .policy .purposes) (h .0)) n e) ∙ unless-true _ (wordOf line c) (found-there y _ (is′ (d .policy) (d .policy .condRoles) (h .1)) j e′))
-          (λ d h. refl) (λ d h. refl) (λ d h. refl) (λ d h. refl) (λ d h. refl) l (λ d h. refl)
+          (λ d h. refl) (λ d h. refl) (λ d h. refl) (λ d h. refl) (λ d h. refl) l (λ d h. refl) (λ d h. refl)

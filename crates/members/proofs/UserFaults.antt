@@ -13,6 +13,7 @@ use Rattle.document.specs.Check.{checkForm}
 use Rattle.document.specs.Lookup.{attributeOf, roleOf}
 use Rattle.document.specs.Meaning.{add}
 use Rattle.document.specs.NameFaults.{taken, unknown}
+use Rattle.document.specs.NoteFaults.{misplaced}
 use Rattle.document.specs.Policy.{Doc, Policy, User}
 use Rattle.document.specs.TypeFaults.{wrongType}
 use Rattle.document.specs.ValueFaults.{givesAll, misfit}
@@ -100,5 +101,5 @@ module _ (d : Doc) (line : List ℕ) (u r : Word) (gs : List GivenForm) where
 
             -- nothing is wrong
             pub user-fine : leftmost (map (mistypedGiven (d .policy)) gs) ≡ none → checkForm d line (user u r gs) ≡ accepted (add d (user u r gs))
-            unfolding wrongType brokenRange noSuchDate lateAttr
-            user-fine h = judge-fine d line (user u r gs) few free all-known no-root (fits ∙ ap not full) h refl refl refl
+            unfolding wrongType brokenRange noSuchDate lateAttr misplaced
+            user-fine h = judge-fine d line (user u r gs) few free all-known no-root (fits ∙ ap not full) h refl refl refl refl

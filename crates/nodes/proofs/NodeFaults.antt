@@ -12,6 +12,7 @@ use Rattle.document.specs.AmountFaults.{brokenRange, noSuchDate}
 use Rattle.document.specs.Bounds.{lateAttr, overBound, secondRoot}
 use Rattle.document.specs.Lookup.{purposeOf, roleOf}
 use Rattle.document.specs.NameFaults.{taken, unknown}
+use Rattle.document.specs.NoteFaults.{misplaced}
 use Rattle.document.specs.Policy.{Doc, Node, Policy}
 use Rattle.document.specs.TypeFaults.{wrongType}
 use Rattle.document.specs.ValueFaults.{misfit}
@@ -49,9 +50,10 @@ pub record Kind (nodes : Policy → List Node) (form : Word → Option Word → 
   pub ordered : (d : Policy) (w : Word) (p : Option Word) → brokenRange d (form w p) ≡ none
   pub dated : (d : Policy) (w : Word) (p : Option Word) → noSuchDate d (form w p) ≡ none
   pub early : (d : Policy) (w : Word) (p : Option Word) → lateAttr d (form w p) ≡ false
+  pub placed : (d : Doc) (w : Word) (p : Option Word) → misplaced d (form w p) ≡ false
 
 pub purpose-kind : Kind (λ d. d .purposes) purpose limit
-unfolding overBound taken unknown secondRoot misfit wrongType brokenRange noSuchDate lateAttr purposeOf there
+unfolding overBound taken unknown secondRoot misfit wrongType brokenRange noSuchDate lateAttr misplaced purposeOf there
 purpose-kind = record {
   bound = λ d w p. refl;
   taken = λ d w p. refl;
@@ -62,10 +64,11 @@ purpose-kind = record {
   ordered = λ d w p. refl;
   dated = λ d w p. refl;
   early = λ d w p. refl;
+  placed = λ d w p. refl;
 }
 
 pub role-kind : Kind (λ d. d .roles) role 64
-unfolding overBound taken unknown secondRoot misfit wrongType brokenRange noSuchDate lateAttr roleOf
+unfolding overBound taken unknown secondRoot misfit wrongType brokenRange noSuchDate lateAttr misplaced roleOf
 role-kind = record {
   bound = λ d w p. refl;
   taken = λ d w p. refl;
@@ -76,6 +79,7 @@ role-kind = record {
   ordered = λ d w p. refl;
   dated = λ d w p. refl;
   early = λ d w p. refl;
+  placed = λ d w p. refl;
 }
 
 one-known : (ns : List Node) (w : Word) → isNode ns w ≡ true → missing (isNode ns) (listed (some w)) ≡ none
@@ -135,6 +139,7 @@ module _ (nodes : Policy → List Node) (form : Word → Option Word → Form) (
             (λ d h. kind .dated (d .policy) (wordOf line n) p)
             l
             (λ d h. kind .early (d .policy) (wordOf line n) p)
+            (λ d h. kind .placed d (wordOf line n) p)
 
         pub node-unknown : (v : ℕ) → (Placed → v ≤ length line) → ((d : Doc) → Held d → missing (isNode (nodes (d .policy))) (listed p) ≡ some (wordOf line v)) → Says (Faulty (Item NameUnknown v))
         node-unknown v q u =

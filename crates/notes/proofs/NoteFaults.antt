@@ -10,6 +10,7 @@ use Rattle.document.specs.AmountFaults.{brokenRange, noSuchDate}
 use Rattle.document.specs.Bounds.{lateAttr, overBound, secondRoot}
 use Rattle.document.specs.Lookup.{isPublic, notesOf, tableOf}
 use Rattle.document.specs.NameFaults.{taken, takenNote, unknown}
+use Rattle.document.specs.NoteFaults.{misplaced, misplacedNote}
 use Rattle.document.specs.Policy.{Doc, Table}
 use Rattle.document.specs.TypeFaults.{wrongType}
 use Rattle.document.specs.ValueFaults.{misfit}
@@ -73,15 +74,15 @@ module _ (text ws : List ℕ) (k : ℕ) (line : List ℕ) (t : ℕ) (x : Found)
         let inside : n < k = subst (λ (y : Found). FoundBelow y k) e below in
         taken-by d h
         ∙ ap (λ (y : Found). offendingIf (holdsOf (λ m. anyOf isPublic (notesOf (d .policy .notes) m)) (foundAs y)) (wordOf line t)) e
-        ∙ ap (λ c. offendingIf c (wordOf line t)) (sym (read (omega (arith, inside, h .0 .few)) ∙ h .1 .said n inside))
+        ∙ ap (λ c. offendingIf c (wordOf line t)) (sym (read (omega (arith, inside, h .0 .few)) ∙ h .1 .said n inside .isPublic?))
 
     pub public-twice : b ≡ true → Says (Faulty (Item NameTaken t))
     unfolding offendingIf
     public-twice p = says-taken Held (t ≤ length line) line Said 0 1 roomy t (λ q. q) (λ d h. said-so d h ∙ ap (λ c. offendingIf c (wordOf line t)) p)
 
     pub public-once : b ≡ false → Says Fine
-    unfolding offendingIf unknown noteLabels lateAttr secondRoot misfit wrongType brokenRange noSuchDate
+    unfolding offendingIf unknown noteLabels lateAttr misplaced misplacedNote secondRoot misfit wrongType brokenRange noSuchDate
     public-once p =
         says-fine Held (t ≤ length line) line Said 0 1 roomy (λ d h. said-so d h ∙ ap (λ c. offendingIf c (wordOf line t)) p)
         (λ d h. leftmost-on _ (wordOf line t) _ (found-there x _ (looked-up d h) n e) ∙ missing-nil _)
-        (λ d h. refl) (λ d h. refl) (λ d h. refl) (λ d h. refl) (λ d h. refl) (omega arith) (λ d h. refl)
+        (λ d h. refl) (λ d h. refl) (λ d h. refl) (λ d h. refl) (λ d h. refl) (omega arith) (λ d h. refl) (λ d h. refl)

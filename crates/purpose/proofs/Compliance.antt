@@ -19,7 +19,7 @@ use Rattle.purpose.specs.declared.Closure.{Closure}
 use Rattle.purpose.specs.declared.Label.{Label}
 
 -- a closure that is empty outside the tree: meeting it is being in the tree and passing its test
-meet-closure : (inside : Bool) (f : ℕ → Bool) (closure xs : List ℕ)
+pub meet-closure : (inside : Bool) (f : ℕ → Bool) (closure xs : List ℕ)
     → ((i : ℕ) → member i closure ≡ (inside && f i)) → intersects closure xs ≡ (inside && anyOf f xs)
 unfolding intersects
 meet-closure inside f closure xs e =
@@ -30,7 +30,7 @@ meet-closure inside f closure xs e =
     any-here (λ x. member x xs) closure (w .0) (e (w .0) ∙ and-both inside (f (w .0)) (and-left inside (anyOf f xs) h) (w .2)) (w .1))
 
 -- in and the-not: (i && x) && not (i && y) is i && (x && not y)
-spread : (i x y : Bool) → ((i && x) && not (i && y)) ≡ (i && (x && not y))
+pub spread : (i x y : Bool) → ((i && x) && not (i && y)) ≡ (i && (x && not y))
 spread true x y = refl
 spread false x y = refl
 
@@ -75,29 +75,31 @@ opens-same tree l m p s t =
     (any-same (descends tree p) (descends tree p) (l .allowed) (m .allowed) s (λ i. refl))
     (any-same (related tree p) (related tree p) (l .denied) (m .denied) t (λ i. refl))
 
+-- what some set allows of p it allows of every purpose below p
+pub allowed-down : (tree : List ℕ) (p q : ℕ) → descends tree q p ≡ true → (xs : List ℕ) → anyOf (descends tree p) xs ≡ true → anyOf (descends tree q) xs ≡ true
+allowed-down tree p q below xs h =
+    let w = any-find (descends tree p) xs h in
+    any-here (descends tree q) xs (w .0) (w .1) (descends-trans tree q p (w .0) below (w .2))
+
+-- what some set denies of a purpose below p it denies of p
+pub denied-up : (tree : List ℕ) (p q : ℕ) → descends tree q p ≡ true → (xs : List ℕ) → anyOf (related tree q) xs ≡ true → anyOf (related tree p) xs ≡ true
+denied-up tree p q below xs h =
+    let w = any-find (related tree q) xs h in
+    any-here (related tree p) xs (w .0) (w .1)
+    (⊎-elim (λ e. chain tree q p (w .0) below e) (λ e. or-right (descends tree p (w .0)) _ (descends-trans tree (w .0) q p e below)) (one-of (descends tree q (w .0)) _ (w .2)))
+
 -- what is open for p is open for every purpose of the tree below p
 pub opens-below : (tree : List ℕ) (l : Marks) (p q : ℕ) → inTree tree q ≡ true → descends tree q p ≡ true → opens tree l p ≡ true → opens tree l q ≡ true
 unfolding opens
-opens-below tree l p q inside below h = and-both (inTree tree q) _ inside (and-both _ _ allowed-q denied-q)
+opens-below tree l p q inside below h = and-both (inTree tree q) _ inside (and-both _ _ (allowed-down tree p q below (l .allowed) (and-left _ _ rest)) denied-q)
   where
     rest : (anyOf (descends tree p) (l .allowed) && not (anyOf (related tree p) (l .denied))) ≡ true
     rest = and-right (inTree tree p) _ h
 
-    allowed-q : anyOf (descends tree q) (l .allowed) ≡ true
-    allowed-q =
-        let w = any-find (descends tree p) (l .allowed) (and-left _ _ rest) in
-        any-here (descends tree q) (l .allowed) (w .0) (w .1) (descends-trans tree q p (w .0) below (w .2))
-
-    near : (d : ℕ) → related tree q d ≡ true → related tree p d ≡ true
-    near d r =
-        ⊎-elim (λ e. chain tree q p d below e) (λ e. or-right (descends tree p d) _ (descends-trans tree d q p e below))
-        (one-of (descends tree q d) _ r)
-
     denied-q : not (anyOf (related tree q) (l .denied)) ≡ true
     denied-q =
         ap not (never (anyOf (related tree q) (l .denied)) (λ k.
-        let w = any-find (related tree q) (l .denied) k in
-        true≢false (sym (any-here (related tree p) (l .denied) (w .0) (w .1) (near (w .0) (w .2))) ∙ not-true (anyOf (related tree p) (l .denied)) (and-right (anyOf (descends tree p) (l .allowed)) _ rest))))
+        true≢false (sym (denied-up tree p q below (l .denied) k) ∙ not-true (anyOf (related tree p) (l .denied)) (and-right (anyOf (descends tree p) (l .allowed)) _ rest))))
 
 -- an empty allowed set closes every purpose
 pub closed-empty : (tree denied : List ℕ) (p : ℕ) → opens tree (record { allowed = []; denied = denied }) p ≡ false

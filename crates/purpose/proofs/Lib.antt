@@ -8,3 +8,5 @@ pub mod Growing
 pub mod Closures
 pub mod Building
 pub mod Examples
+pub mod Nesting
+pub mod NestExamples

@@ -9,6 +9,7 @@ ghost use Rattle.lists.specs.Lists.{member};
 ghost use Rattle.purpose.specs.Compliance.{intersects, Same, descends, related, inTree, opens};
 ghost use Rattle.purpose.specs.Members.{limit, members, including};
 ghost use Rattle.purpose.specs.Meaning.{treeHeld, treeFrom, marksHeld, TreeGrows, ClosureOf, admitted, isAbove};
+ghost use Rattle.purpose.specs.Verdicts.{verdictBy, over, openBy};
 
 // How many words of 64 bits hold a set of purposes, and the most purposes that a tree has.
 pub const WORDS: usize = 4;
@@ -31,6 +32,13 @@ pub struct Growth {
 pub struct Label {
     pub allowed: [u64; WORDS],
     pub denied: [u64; WORDS],
+}
+
+// What a label, or several merged, say of a purpose: whether it descends from an allowed one, and whether it is ancestor or descendant
+// of a denied one.
+pub struct Verdict {
+    pub allowed: bool,
+    pub denied: bool,
 }
 
 // The ancestors of a purpose, and its ancestors with its descendants, as bits.
@@ -266,6 +274,56 @@ pub fn admits(c: Closure, l: Label) -> bool
     } else {
         false
     }
+}
+
+// What the label says of the purpose whose closure is given: two ANDs for each word.
+pub fn verdict_of(c: Closure, l: Label) -> Verdict
+    ensures { λ r. ⌜ r ≡ verdictBy c l ⌝ }
+{
+    let ancestors = c.ancestors;
+    let allowed = l.allowed;
+    let relatives = c.relatives;
+    let denied = l.denied;
+    Verdict {
+        allowed: meets(ancestors, allowed),
+        denied: meets(relatives, denied),
+    }
+}
+
+// The lower verdict merged over the upper.
+pub fn merged_over(upper: Verdict, lower: Verdict) -> Verdict
+    ensures { λ r. ⌜ r ≡ over upper lower ⌝ }
+{
+    if lower.allowed {
+        return Verdict {
+            allowed: true,
+            denied: lower.denied,
+        };
+    }
+    if lower.denied {
+        return Verdict {
+            allowed: upper.allowed,
+            denied: true,
+        };
+    }
+    upper
+}
+
+// Whether a cell of a nest table is open, by the strong verdict, the weak one of its table and row, and its own.
+pub fn nest_open(strong: Verdict, inherited: Verdict, cell: Verdict) -> bool
+    ensures { λ r. ⌜ r ≡ openBy strong (over inherited cell) ⌝ }
+{
+    if strong.denied {
+        return false;
+    }
+    if strong.allowed {
+        return true;
+    }
+    let weak = merged_over(inherited, cell);
+    if weak.denied {
+        return false;
+    }
+    weak.allowed
 }
 
 // Whether p is open under the label.

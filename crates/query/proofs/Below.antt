@@ -5,9 +5,9 @@ use mathlib.Core.Bool.{Bool, true}
 use mathlib.Core.List.{List}
 use mathlib.Core.Option.{Option, bind, none, some}
 use mathlib.Core.Path.{_≡_}
-use Rattle.document.proofs.OpenLaws.{columnOpen-more, label-below, tableOpen-more}
+use Rattle.document.proofs.OpenLaws.{Wider, columnOpen-more, open-below, tableOpen-more}
 use Rattle.document.specs.Lookup.{columnOf, columnsOf, labellingOf, purposeOf}
-use Rattle.document.specs.Open.{labelOpen}
+use Rattle.document.specs.Open.{Opening, openTo}
 use Rattle.document.specs.Policy.{Column, Grant, Policy, User, treeOf}
 use Rattle.form.specs.Form.{Scheme}
 use Rattle.purpose.proofs.Ancestry.{descends-trans}
@@ -50,8 +50,8 @@ grant-below d p q below c u g = go (getElem? (d .users) u)
 
 module _ (d : Policy) (q : QueryForm) (w : Word) (p : ℕ) (is-p : purposeOf d w ≡ some p)
     (below : descends (treeOf (d .purposes)) p (orZero (purposeOf d (q .purpose))) ≡ true) where
-  pub label-down : (l : Option ℕ) → labelOpen d (orZero (purposeOf d (q .purpose))) l ≡ true → labelOpen d p l ≡ true
-  label-down = label-below d (orZero (purposeOf d (q .purpose))) p (purpose-inside d w p is-p) below
+  pub open-down : Wider (openTo d (orZero (purposeOf d (q .purpose)))) (openTo d p)
+  open-down = open-below d (orZero (purposeOf d (q .purpose))) p (purpose-inside d w p is-p) below
 
   pub party-down : unknownParty d q ≡ none → unknownParty d (forPurpose w q) ≡ none
   unfolding unknownParty forPurpose there
@@ -64,10 +64,10 @@ module _ (d : Policy) (q : QueryForm) (w : Word) (p : ℕ) (is-p : purposeOf d w
   parts-down h =
       let s : Scheme ℕ = labellingOf d (q .table) in
       let cs : List Column = columnsOf d (q .table) in
-      let here : Option ℕ → Bool = labelOpen d (orZero (purposeOf d (q .purpose))) in
+      let here : Opening = openTo d (orZero (purposeOf d (q .purpose))) in
       rw is-p (leftmost-none _ _
-      (unless-true _ _ (tableOpen-more here (labelOpen d p) label-down s (unless-none _ _ (leftmost-head _ _ h))))
-      (leftmost-none _ _ (missing-mono _ _ (λ v. columnOpen-more here (labelOpen d p) label-down s (orZero (columnOf cs v))) (namedWords q) (leftmost-head _ _ (leftmost-tail _ _ h))) leftmost-nil))
+      (unless-true _ _ (tableOpen-more here (openTo d p) open-down s (unless-none _ _ (leftmost-head _ _ h))))
+      (leftmost-none _ _ (missing-mono _ _ (λ v. columnOpen-more here (openTo d p) open-down s (orZero (columnOf cs v))) (namedWords q) (leftmost-head _ _ (leftmost-tail _ _ h))) leftmost-nil))
 
   pub resolved-down : resolved d (forPurpose w q) ≡ toPurpose p (resolved d q)
   unfolding resolved sourceOf withholdingRefs namedRefs selectedRefs testedRefs selectedWords forPurpose toPurpose orZero

@@ -9,7 +9,7 @@ use Rattle.condition.specs.Comparison.{Comparison}
 use Rattle.condition.specs.Cond.{Cond, comparisonsIn, mapCond}
 use Rattle.condition.specs.CondForm.{Compared}
 use Rattle.document.specs.Lookup.{columnOf, columnsOf, labellingAt, labellingOf, purposeOf}
-use Rattle.document.specs.Open.{columnOpen, labelOpen, tableOpen}
+use Rattle.document.specs.Open.{columnOpen, openTo, tableOpen}
 use Rattle.document.specs.Policy.{Column, Policy}
 use Rattle.query.proofs.Sources.{named-columns, named-words-are, sources-known, withholding-columns, withholding-words-are, withholdingWords}
 use Rattle.query.proofs.WantedLaws.{gaps-map, selected-map}
@@ -109,15 +109,15 @@ module _ (d : Policy) (q : QueryForm) where
   unfolding unknownColumn
   columns-known h = missing-none _ _ (leftmost-head _ _ (leftmost-tail _ _ h))
 
-  pub table-open : closedPart d q ≡ none → tableOpen (labelOpen d (resolved d q .purpose)) (labellingAt d (resolved d q .source .table)) ≡ true
+  pub table-open : closedPart d q ≡ none → tableOpen (openTo d (resolved d q .purpose)) (labellingAt d (resolved d q .source .table)) ≡ true
   unfolding closedPart openFor resolved sourceOf labellingOf
   table-open h = unless-none _ _ (leftmost-head _ _ h)
 
   pub columns-open : unknownColumn d q ≡ none → closedPart d q ≡ none
-      → (k : ℕ) → member k (resolved d q .source .named) ≡ true → columnOpen (labelOpen d (resolved d q .purpose)) (labellingAt d (resolved d q .source .table)) k ≡ true
+      → (k : ℕ) → member k (resolved d q .source .named) ≡ true → columnOpen (openTo d (resolved d q .purpose)) (labellingAt d (resolved d q .source .table)) k ≡ true
   unfolding closedPart openFor resolved sourceOf labellingOf
   columns-open u h k m =
-      all-at (columnNumber (columnsOf d (q .table))) (columnOpen (labelOpen d (orZero (purposeOf d (q .purpose)))) (labellingOf d (q .table))) (namedWords q)
+      all-at (columnNumber (columnsOf d (q .table))) (columnOpen (openTo d (orZero (purposeOf d (q .purpose)))) (labellingOf d (q .table))) (namedWords q)
       (missing-none _ _ (leftmost-head _ _ (leftmost-tail _ _ h)))
       k (sym (ap (member k) (named-words d q (columns-known u))) ∙ m)
 

@@ -10,7 +10,7 @@ use Rattle.condition.specs.Comparison.{Comparison}
 use Rattle.condition.specs.Cond.{Cond, comparisonsIn, mapCond}
 use Rattle.condition.specs.CondForm.{Compared, mistyped}
 use Rattle.document.specs.Lookup.{columnKind, columnOf, columnsOf, labellingAt, labellingOf, purposeOf, roleOf, tableOf}
-use Rattle.document.specs.Open.{columnOpen, labelOpen, tableOpen}
+use Rattle.document.specs.Open.{Opening, columnOpen, openTo, tableOpen}
 use Rattle.document.specs.Policy.{Column, Policy}
 use Rattle.query.specs.QueryForm.{QueryForm, Ref, Wanted, hasGaps, mapWanted, namedRefs, namedWords, selected, withholdingRefs}
 use Rattle.lists.specs.Lists.{anyOf, found, holdsOf, keep, member, orZero, there}
@@ -43,8 +43,8 @@ pub record NamesParts (q : Query) : Type 0 where
 
 -- its table is open to its purpose, and so is every column that it names: so it is with every query that is not refused with 17
 pub record PartsOpen (d : Policy) (q : Query) : Type 0 where
-  pub table : tableOpen (labelOpen d (q .purpose)) (labellingAt d (q .source .table)) ≡ true
-  pub columns : (c : ℕ) → member c (q .source .named) ≡ true → columnOpen (labelOpen d (q .purpose)) (labellingAt d (q .source .table)) c ≡ true
+  pub table : tableOpen (openTo d (q .purpose)) (labellingAt d (q .source .table)) ≡ true
+  pub columns : (c : ℕ) → member c (q .source .named) ≡ true → columnOpen (openTo d (q .purpose)) (labellingAt d (q .source .table)) c ≡ true
 
 -- 12: user, role or purpose unknown
 unfoldable pub unknownParty : Policy → QueryForm → Option Word
@@ -74,9 +74,9 @@ isMissingDate v = holdsOf (λ x. not (exists x)) (dateOf v)
 unfoldable pub missingDate : QueryForm → Option Word
 missingDate q = leftmost (map (λ x. offendingIf (isMissingDate (x .value .bytes)) (x .value)) (comparisonsIn (q .condition)))
 
--- the test of labels for the query's purpose, which is known
-unfoldable pub openFor : Policy → QueryForm → Option ℕ → Bool
-openFor d q = labelOpen d (orZero (purposeOf d (q .purpose)))
+-- what is open to the query's purpose, which is known
+unfoldable pub openFor : Policy → QueryForm → Opening
+openFor d q = openTo d (orZero (purposeOf d (q .purpose)))
 
 -- 17: table or named column closed to the purpose
 unfoldable pub closedPart : Policy → QueryForm → Option Word

@@ -1,30 +1,33 @@
--- Labels in the workspace: sets of words, looking a label up, one more, and whether one is open. Assumes nothing.
+-- Labels in the workspace: sets of words, looking a label up, one more, what each says of a purpose, and whether one is open. Assumes nothing.
 use Prim.Native.Nat.{_*_, _+_, _-_, _<_, _≤_, min, suc, zero, ℕ}
 use borrow.Author.Tests.{eqb-false, eqb-true, lt-ltb, ltb-false, ltb-true}
 use lib.Dec.{eqb, ltb}
-use lib.ListN.{List·getD-append, List·getD-eq-default, drop, getD, getElem?, length, length-drop, length-map, length-take, set, take}
+use lib.ListN.{List·getD-append, drop, getD, getElem?, length, length-drop, length-map, length-set, length-take, set, take}
 use lib.Seq.{drop-paste, ext-getD, getD-append-add, getD-drop, getD-set-other, getD-set-same, getD-take, length-paste, length-take-le, paste, paste-suc, take-paste}
-use mathlib.Core.Bool.{Bool, _||_, cond, false, or-comm, or-false}
+use mathlib.Core.Bool.{Bool, _&&_, _||_, cond, false, not, or-comm, or-false, true}
 use mathlib.Core.List.{List, [], _++_, _∷_, map}
 use mathlib.Core.Logic.{⊎-elim}
-use mathlib.Core.Option.{Option, Option·map, Option·none-ne-some, bind, none, some}
+use mathlib.Core.Option.{Option, Option·getD, Option·map, Option·none-ne-some, bind, none, some}
 use mathlib.Core.Path.{_∙_, _≡_, ap, refl, subst, sym}
 use native.Mathlib.Numerals.{add-one}
 use native.Mathlib.Omega.{arith}
-use Rattle.document.specs.Open.{labelOpen}
+use Rattle.document.specs.Open.{labelOpen, marksAt}
 use Rattle.document.specs.Policy.{Label, Policy, treeOf}
 use Rattle.workspace.proofs.Finding.{found-first}
 use Rattle.workspace.proofs.TabulatedLaws.{findIndex-map, length-tabulated, tabulated-pushed, tabulated-there}
-use Rattle.relations.specs.Labels.{Labels, Opened, SetHolds, SetStored, setIn}
+use Rattle.relations.specs.Labels.{Labels, Said, SetHolds, SetStored, openedIn, setIn, verdictFor, verdictIn}
 use Rattle.workspace.specs.Tabulated.{tabulated}
-use Rattle.lists.proofs.ListLaws.{getElem?-grown, getElem?-map, map-append, member-append}
+use Rattle.lists.proofs.ListLaws.{any-same, getElem?-grown, getElem?-map, map-append, member-append}
 use Rattle.lists.proofs.Tests.{decide}
 use Rattle.lists.specs.Lists.{anyOf, findIndex, holdsOf, member}
 use Rattle.purpose.specs.Meaning.{ClosureOf}
 use Rattle.purpose.specs.declared.Closure.{Closure}
-use Rattle.purpose.proofs.Compliance.{opens-same}
-use Rattle.purpose.specs.Compliance.{Same, opens}
+use Rattle.purpose.proofs.Nesting.{opens-verdict, verdict-none}
+use Rattle.purpose.specs.Compliance.{Same, descends, inTree, opens, related}
 use Rattle.purpose.specs.Members.{including, limit, members, words}
+use Rattle.purpose.specs.Nest.{unmarked}
+use Rattle.purpose.specs.Verdicts.{silent, verdict}
+use Rattle.purpose.specs.declared.Verdict.{Verdict}
 use Rattle.text.specs.Words.{Word, isCalled, wordAt}
 
 -- ---- the words of a set
@@ -212,17 +215,19 @@ module _ (text ws sets : List ℕ) (k : ℕ) (ls : List Label) (h : Labels text 
           let m : i ≡ k = o ∙ labels-long in
           subst (λ (s : List ℕ). SetHolds s ys) (sym (ap (λ j. setIn s₂ (64 + j)) m ∙ b .here (omega (arith, l)))) hb
 
-  -- ---- whether one is open
+  -- ---- what one says
 
-  -- a label is open as its sets say
-  pub label-opens : (tree : List ℕ) (p i : ℕ) (l : Label) (allowed denied : List ℕ) → getElem? ls i ≡ some l → allowed ≡ setIn sets i → denied ≡ setIn sets (64 + i)
-      → opens tree (record { allowed = members allowed; denied = members denied }) p ≡ opens tree (l .marks) p
-  label-opens tree p i l allowed denied g a b =
-      opens-same tree (record { allowed = members allowed; denied = members denied }) (l .marks) p
-      (λ x. ap (λ s. member x (members s)) a ∙ h .allowed i l g .same x)
-      (λ x. ap (λ s. member x (members s)) b ∙ h .denied i l g .same x)
+  -- a label says what its sets say
+  pub label-says : (tree : List ℕ) (p i : ℕ) (l : Label) (allowed denied : List ℕ) → getElem? ls i ≡ some l → allowed ≡ setIn sets i → denied ≡ setIn sets (64 + i)
+      → verdict tree (record { allowed = members allowed; denied = members denied }) p ≡ verdict tree (l .marks) p
+  unfolding verdict
+  label-says tree p i l allowed denied g a b =
+      λ j. record {
+        allowed = ap (λ (x : Bool). inTree tree p && x) (any-same (descends tree p) (descends tree p) (members allowed) (l .marks .allowed) (λ x. ap (λ s. member x (members s)) a ∙ h .allowed i l g .same x) (λ x. refl)) j;
+        denied = ap (λ (x : Bool). inTree tree p && x) (any-same (related tree p) (related tree p) (members denied) (l .marks .denied) (λ x. ap (λ s. member x (members s)) b ∙ h .denied i l g .same x) (λ x. refl)) j;
+      }
 
--- ---- whether each one is open
+-- ---- what each one says
 
 -- a place within a list has an element, one behind it has none
 element-there : {A : Type 0} (xs : List A) (i : ℕ) → i < length xs → (x : A) × (getElem? xs i ≡ some x)
@@ -235,38 +240,100 @@ element-none [] i h = refl
 element-none (x ∷ xs) zero h = absurd (omega (arith, h))
 element-none (x ∷ xs) (suc i) h = element-none xs i (omega (arith, h))
 
+-- what is read at a label's two places
+said-inside : (truths : List Bool) (l : ℕ) → ltb l 64 ≡ true → verdictIn truths l ≡ record { allowed = getD truths l false; denied = getD truths (64 + l) false }
+unfolding verdictIn
+said-inside truths l e = ap (λ (b : Bool). cond b (record { allowed = getD truths l false; denied = getD truths (64 + l) false }) silent) e
+
+-- and where there is none
+pub said-behind : (truths : List Bool) (l : ℕ) → ltb l 64 ≡ false → verdictIn truths l ≡ silent
+unfolding verdictIn
+said-behind truths l e = ap (λ (b : Bool). cond b (record { allowed = getD truths l false; denied = getD truths (64 + l) false }) silent) e
+
+pub said-there : (truths : List Bool) (l : ℕ) → l < 64 → verdictIn truths l ≡ record { allowed = getD truths l false; denied = getD truths (64 + l) false }
+said-there truths l m = said-inside truths l (lt-ltb l 64 m)
+
+-- a verdict that was stored is read there, and the others are as before
+said-here : (truths : List Bool) (i : ℕ) (v : Verdict) → i < 64 → 128 ≤ length truths → verdictIn (set (set truths i (v .allowed)) (64 + i) (v .denied)) i ≡ v
+said-here truths i v m long =
+    said-there (set (set truths i (v .allowed)) (64 + i) (v .denied)) i m
+    ∙ (λ j. record {
+      allowed = (getD-set-other (set truths i (v .allowed)) (64 + i) i (v .denied) false (λ e. omega (arith, e)) ∙ getD-set-same truths i (v .allowed) false (omega (arith, m, long))) j;
+      denied = getD-set-same (set truths i (v .allowed)) (64 + i) (v .denied) false (simp length-set (omega (arith, m, long))) j;
+    })
+
+said-other : (truths : List Bool) (i j : ℕ) (v : Verdict) → i < 64 → j < 64 → (j ≡ i → ⊥) → verdictIn (set (set truths i (v .allowed)) (64 + i) (v .denied)) j ≡ verdictIn truths j
+said-other truths i j v m l apart =
+    said-there (set (set truths i (v .allowed)) (64 + i) (v .denied)) j l
+    ∙ (λ x. record {
+      allowed = (getD-set-other (set truths i (v .allowed)) (64 + i) j (v .denied) false (λ e. omega (arith, e, l)) ∙ getD-set-other truths i j (v .allowed) false apart) x;
+      denied = (getD-set-other (set truths i (v .allowed)) (64 + i) (64 + j) (v .denied) false (λ e. apart (omega (arith, e))) ∙ getD-set-other truths i (64 + j) (v .allowed) false (λ e. omega (arith, e, m))) x;
+    })
+    ∙ sym (said-there truths j l)
+
 module _ (text ws sets : List ℕ) (k : ℕ) (d : Policy) (h : Labels text ws sets k (d .labels)) (p : ℕ) where
-  -- a label that is there is open as its marks say
-  pub label-there : (i : ℕ) → i < k → (l : Label) × (getElem? (d .labels) i ≡ some l) × (labelOpen d p (some i) ≡ opens (treeOf (d .purposes)) (l .marks) p)
-  unfolding labelOpen holdsOf bind
+  -- a label that is there says what its marks say
+  pub label-there : (i : ℕ) → i < k → (l : Label) × (getElem? (d .labels) i ≡ some l) × (marksAt d (some i) ≡ l .marks)
+  unfolding marksAt bind
   label-there i m =
       let got = element-there (d .labels) i (omega (arith, m, labels-long text ws sets k (d .labels) h)) in
-      (got .0, got .1, ap (holdsOf (λ x. opens (treeOf (d .purposes)) (x .marks) p)) (got .1))
+      (got .0, got .1, ap (λ o. Option·getD (Option·map (λ x. x .marks) o) unmarked) (got .1))
 
-  -- one that is not there is closed
-  pub label-closed : (i : ℕ) → k ≤ i → labelOpen d p (some i) ≡ false
-  unfolding labelOpen holdsOf bind
-  label-closed i m = ap (holdsOf (λ x. opens (treeOf (d .purposes)) (x .marks) p)) (element-none (d .labels) i (omega (arith, m, labels-long text ws sets k (d .labels) h)))
+  -- one that is not there says nothing
+  pub label-silent : (i : ℕ) → k ≤ i → verdict (treeOf (d .purposes)) (marksAt d (some i)) p ≡ silent
+  unfolding marksAt bind
+  label-silent i m =
+      ap (λ o. verdict (treeOf (d .purposes)) (Option·getD (Option·map (λ x. x .marks) o) unmarked) p) (element-none (d .labels) i (omega (arith, m, labels-long text ws sets k (d .labels) h)))
+      ∙ verdict-none (treeOf (d .purposes)) p
 
-  -- where the truth of each place was stored, all are
-  pub labels-opened : (truths : List Bool) → 64 ≤ length truths → ((j : ℕ) → j < length truths → getD truths j false ≡ labelOpen d p (some j)) → Opened d p truths
-  labels-opened truths long each = record { is = λ l. ⊎-elim (λ e. each l (ltb-true l (length truths) e)) (λ e. behind l (ltb-false l (length truths) e)) (decide (ltb l (length truths))) }
+  -- where what each says that has a place was stored, all is
+  pub labels-said : (truths : List Bool) → ((j : ℕ) → j < 64 → verdictIn truths j ≡ verdict (treeOf (d .purposes)) (marksAt d (some j)) p) → Said d p truths
+  labels-said truths each = record { is = λ l. ⊎-elim (λ e. each l (ltb-true l 64 e)) (λ e. behind l e) (decide (ltb l 64)) }
     where
-      behind : (l : ℕ) → length truths ≤ l → getD truths l false ≡ labelOpen d p (some l)
-      behind l m = List·getD-eq-default truths false m ∙ sym (label-closed l (omega (arith, m, long, h .few)))
+      behind : (l : ℕ) → ltb l 64 ≡ false → verdictIn truths l ≡ verdict (treeOf (d .purposes)) (marksAt d (some l)) p
+      behind l e = said-behind truths l e ∙ sym (label-silent l (omega (arith, ltb-false l 64 e, h .few)))
 
--- the truths of the first i labels are stored
-abbrev pub OpenBelow : List ℕ → ℕ → Closure → List Bool → ℕ → Type 0
-OpenBelow sets k closure truths i =
-    (text ws : List ℕ) (d : Policy) (p : ℕ) → Labels text ws sets k (d .labels) → ClosureOf (treeOf (d .purposes)) p closure → (j : ℕ) → j < i → getD truths j false ≡ labelOpen d p (some j)
+-- what the first i labels say is stored
+abbrev pub SaidBelow : List ℕ → ℕ → Closure → List Bool → ℕ → Type 0
+SaidBelow sets k closure truths i =
+    (text ws : List ℕ) (d : Policy) (p : ℕ) → Labels text ws sets k (d .labels) → ClosureOf (treeOf (d .purposes)) p closure → (j : ℕ) → j < i → verdictIn truths j ≡ verdict (treeOf (d .purposes)) (marksAt d (some j)) p
 
--- one more is stored
-pub open-more : (sets : List ℕ) (k : ℕ) (closure : Closure) (truths : List Bool) (i : ℕ) (b : Bool) → i < length truths → OpenBelow sets k closure truths i
-    → ((text ws : List ℕ) (d : Policy) (p : ℕ) → Labels text ws sets k (d .labels) → ClosureOf (treeOf (d .purposes)) p closure → b ≡ labelOpen d p (some i)) → OpenBelow sets k closure (set truths i b) (i + 1)
-open-more sets k closure truths i b m below new text ws d p h of j l = ⊎-elim (λ e. last (eqb-true j i e)) (λ e. old (eqb-false j i e)) (decide (eqb j i))
+-- what one more says is stored
+pub said-more : (sets : List ℕ) (k : ℕ) (closure : Closure) (truths : List Bool) (i : ℕ) (v : Verdict) → i < 64 → 128 ≤ length truths → SaidBelow sets k closure truths i
+    → ((text ws : List ℕ) (d : Policy) (p : ℕ) → Labels text ws sets k (d .labels) → ClosureOf (treeOf (d .purposes)) p closure → v ≡ verdict (treeOf (d .purposes)) (marksAt d (some i)) p)
+    → SaidBelow sets k closure (set (set truths i (v .allowed)) (64 + i) (v .denied)) (i + 1)
+said-more sets k closure truths i v m long below new text ws d p h of j l = ⊎-elim (λ e. last (eqb-true j i e)) (λ e. old (eqb-false j i e)) (decide (eqb j i))
   where
-    last : j ≡ i → getD (set truths i b) j false ≡ labelOpen d p (some j)
-    last e = ap (λ n. getD (set truths i b) n false) e ∙ getD-set-same truths i b false m ∙ new text ws d p h of ∙ ap (λ n. labelOpen d p (some n)) (sym e)
+    last : j ≡ i → verdictIn (set (set truths i (v .allowed)) (64 + i) (v .denied)) j ≡ verdict (treeOf (d .purposes)) (marksAt d (some j)) p
+    last e = ap (verdictIn (set (set truths i (v .allowed)) (64 + i) (v .denied))) e ∙ said-here truths i v m long ∙ new text ws d p h of ∙ ap (λ n. verdict (treeOf (d .purposes)) (marksAt d (some n)) p) (sym e)
 
-    old : (j ≡ i → ⊥) → getD (set truths i b) j false ≡ labelOpen d p (some j)
-    old apart = getD-set-other truths i j b false apart ∙ below text ws d p h of j (omega (arith, l, apart))
+    old : (j ≡ i → ⊥) → verdictIn (set (set truths i (v .allowed)) (64 + i) (v .denied)) j ≡ verdict (treeOf (d .purposes)) (marksAt d (some j)) p
+    old apart = said-other truths i j v m (omega (arith, l, m)) apart ∙ below text ws d p h of j (omega (arith, l, apart))
+
+-- ---- whether one is open
+
+-- a label is open by its verdict
+pub open-verdict : (d : Policy) (p : ℕ) (l : Option ℕ) → (verdict (treeOf (d .purposes)) (marksAt d l) p .allowed && not (verdict (treeOf (d .purposes)) (marksAt d l) p .denied)) ≡ labelOpen d p l
+unfolding labelOpen marksAt holdsOf silent
+open-verdict d p l = go (bind l (getElem? (d .labels)))
+  where
+    tree : List ℕ
+    tree = treeOf (d .purposes)
+
+    says : Option Label → Verdict
+    says o = verdict (treeOf (d .purposes)) (Option·getD (Option·map (λ x. x .marks) o) unmarked) p
+
+    go : (o : Option Label) → (says o .allowed && not (says o .denied)) ≡ holdsOf (λ x. opens tree (x .marks) p) o
+    go none = ap (λ (v : Verdict). v .allowed && not (v .denied)) (verdict-none (treeOf (d .purposes)) p)
+    go (some x) = sym (opens-verdict (treeOf (d .purposes)) (x .marks) p)
+
+-- so it is by what was stored
+pub said-open : {d : Policy} {p : ℕ} {truths : List Bool} → Said d p truths → (l : ℕ) → openedIn truths l ≡ labelOpen d p (some l)
+unfolding openedIn
+said-open {d} {p} {truths} s l = ap (λ (v : Verdict). v .allowed && not (v .denied)) (s .is l) ∙ open-verdict d p (some l)
+
+-- a label that may be none says what was stored of it
+pub said-for : {d : Policy} {p : ℕ} {truths : List Bool} → Said d p truths → (o : Option ℕ) → verdictFor truths o ≡ verdict (treeOf (d .purposes)) (marksAt d o) p
+unfolding verdictFor marksAt bind unmarked
+said-for {d} {p} {truths} s none = sym (verdict-none (treeOf (d .purposes)) p)
+said-for {d} {p} {truths} s (some l) = s .is l

@@ -6,18 +6,18 @@ use lib.ListN.{getD, getElem?, length, length-set, set}
 use lib.Seq.{getD-set-other, getD-set-same}
 use mathlib.Core.Bool.{false}
 use mathlib.Core.List.{List, [], _++_, _∷_}
-use mathlib.Core.Option.{Option·getD, Option·map, some}
+use mathlib.Core.Option.{Option, Option·getD, Option·map, none, some}
 use mathlib.Core.Path.{_∙_, _≡_, ap, refl, subst, sym}
 use native.Mathlib.Omega.{arith}
 use Rattle.condition.specs.Kinds.{Kind}
-use Rattle.document.specs.Lookup.{columnOf, columnsAt, schemeAt}
+use Rattle.document.specs.Lookup.{columnOf, columnsAt, schemeAt, strongIn, weakIn}
 use Rattle.document.specs.Policy.{Column, Policy, Table}
-use Rattle.form.specs.Form.{Scheme, byCell, unlabelled}
+use Rattle.form.specs.Form.{Note, Scheme, nested, strong, unlabelled, weak}
 use Rattle.workspace.specs.Cells.{kindOfCell}
 use Rattle.workspace.specs.Found.{FoundBelow}
-use Rattle.relations.proofs.NoteLaws.{notes-kept, notes-public, notes-table}
+use Rattle.relations.proofs.NoteLaws.{notes-kept, notes-public, notes-strong, notes-table, notes-weak}
 use Rattle.relations.specs.Notes.{noteIn}
-use Rattle.relations.specs.Tables.{ColumnStored, Cut, Filling, PublicStored, TableAdded, Tables, columnCountIn, columnIn, columnKindIn, columnLabelIn, columnLabelsIn, schemeBy, schemeIn, schemeOfCell, tableIn, tableLabelIn}
+use Rattle.relations.specs.Tables.{ColumnStored, Cut, Filling, LabelNoted, PublicStored, TableAdded, Tables, columnCountIn, columnIn, columnKindIn, columnLabelIn, columnLabelsIn, schemeBy, schemeIn, schemeOfCell, tableIn, tableLabelIn}
 use Rattle.workspace.specs.Tabulated.{tabulated}
 use Rattle.workspace.specs.declared.found.Found.{Found}
 use Rattle.workspace.specs.declared.found.Found.the-variants as found
@@ -30,14 +30,15 @@ use Rattle.text.specs.Words.{Word, isCalled, wordAt}
 
 -- ---- numbers for schemes
 
--- any number over 3 stands for labels by cell
-by-cell : (n l : ℕ) (ls : List ℕ) → (n ≡ 0 → ⊥) → (n ≡ 1 → ⊥) → (n ≡ 2 → ⊥) → (n ≡ 3 → ⊥) → schemeOfCell n l ls ≡ byCell
+-- any number over 4 stands for nested labels
+by-nest : (n l : ℕ) (ls : List ℕ) → (n ≡ 0 → ⊥) → (n ≡ 1 → ⊥) → (n ≡ 2 → ⊥) → (n ≡ 3 → ⊥) → (n ≡ 4 → ⊥) → schemeOfCell n l ls ≡ nested none none
 unfolding schemeOfCell
-by-cell zero l ls a b c d = absurd (a refl)
-by-cell (suc zero) l ls a b c d = absurd (b refl)
-by-cell (suc (suc zero)) l ls a b c d = absurd (c refl)
-by-cell (suc (suc (suc zero))) l ls a b c d = absurd (d refl)
-by-cell (suc (suc (suc (suc n)))) l ls a b c d = refl
+by-nest zero l ls a b c d e = absurd (a refl)
+by-nest (suc zero) l ls a b c d e = absurd (b refl)
+by-nest (suc (suc zero)) l ls a b c d e = absurd (c refl)
+by-nest (suc (suc (suc zero))) l ls a b c d e = absurd (d refl)
+by-nest (suc (suc (suc (suc zero)))) l ls a b c d e = absurd (e refl)
+by-nest (suc (suc (suc (suc (suc n))))) l ls a b c d e = refl
 
 module _ (ws : List ℕ) (t : ℕ) where
   -- a scheme by its number
@@ -45,9 +46,9 @@ module _ (ws : List ℕ) (t : ℕ) where
   unfolding schemeIn
   scheme-number n e = ap (λ m. schemeOfCell m (getD ws (16 + t) 0) (tabulated (columnLabelIn ws t) (getD ws (24 + t) 0))) e
 
-  pub scheme-over : let n = getD ws (8 + t) 0 in (n ≡ 0 → ⊥) → (n ≡ 1 → ⊥) → (n ≡ 2 → ⊥) → (n ≡ 3 → ⊥) → schemeIn ws t ≡ byCell
+  pub scheme-over : let n = getD ws (8 + t) 0 in (n ≡ 0 → ⊥) → (n ≡ 1 → ⊥) → (n ≡ 2 → ⊥) → (n ≡ 3 → ⊥) → (n ≡ 4 → ⊥) → schemeIn ws t ≡ nested none none
   unfolding schemeIn
-  scheme-over a b c d = by-cell (getD ws (8 + t) 0) (getD ws (16 + t) 0) (tabulated (columnLabelIn ws t) (getD ws (24 + t) 0)) a b c d
+  scheme-over a b c d e = by-nest (getD ws (8 + t) 0) (getD ws (16 + t) 0) (tabulated (columnLabelIn ws t) (getD ws (24 + t) 0)) a b c d e
 
 -- ---- what stores leave
 
@@ -109,7 +110,7 @@ stored-behind text ws n v k ts far h = tables-same text ws (set ws n v) k ts (λ
 
 -- ---- a column is stored
 
-module _ (ws : List ℕ) (t c pos kind label : ℕ) (long : length ws ≡ 424) (inside : t < 8) (s : c < 16) where
+module _ (ws : List ℕ) (t c pos kind label : ℕ) (long : length ws ≡ 440) (inside : t < 8) (s : c < 16) where
   abbrev w3 : List ℕ
   w3 = set (set (set ws (32 + 16 * t + c) pos) (160 + 16 * t + c) kind) (288 + 16 * t + c) label
 
@@ -132,7 +133,7 @@ module _ (ws : List ℕ) (t c pos kind label : ℕ) (long : length ws ≡ 424) (
   pub column-stored : (type : Kind) → kindOfCell kind ≡ type → ColumnStored ws w3 t c pos type label
   column-stored type is = record {
     kept = λ text k ts l h. tables-same text ws w3 k ts (λ q b. before-same q (omega (arith, b, l))) h;
-    noted = λ k ns h. notes-kept (λ q l. elsewhere (416 + q) (λ b m e. omega (arith, e, m, inside, s))) h;
+    noted = λ k ns h. notes-kept (λ q l a i. elsewhere (416 + 8 * a + q) (λ b m e. omega (arith, e, m, inside, s))) h;
     grown = λ text cs ls l m h. record {
       few = omega (arith, s);
       columns =
@@ -189,7 +190,7 @@ table-counted text ws k pos number label c scheme ts cs ls l h f en es el ec is 
     columns : tabulated (columnIn text ws k) (getD ws (24 + k) 0) ≡ cs
     columns = ap (tabulated (columnIn text ws k)) ec ∙ f .columns
 
-module _ (ws : List ℕ) (k pos number label c : ℕ) (long : length ws ≡ 424) (inside : k < 8) where
+module _ (ws : List ℕ) (k pos number label c : ℕ) (long : length ws ≡ 440) (inside : k < 8) where
   abbrev w4 : List ℕ
   w4 = set (set (set (set ws k pos) (8 + k) number) (16 + k) label) (24 + k) c
 
@@ -248,25 +249,39 @@ module _ (ws : List ℕ) (k pos number label c : ℕ) (long : length ws ≡ 424)
       w3 : List ℕ
       w3 = set w2 (16 + k) label
 
-  abbrev w5 : List ℕ
-  w5 = set w4 (416 + k) 0
+  abbrev w7 : List ℕ
+  w7 = set (set (set w4 (416 + k) 0) (424 + k) 0) (432 + k) 0
 
-  note-none : noteIn w5 k ≡ 0
-  note-none = getD-set-same w4 (416 + k) 0 0 (omega (arith, long, inside, long-kept))
-    where
-      long-kept : length w4 ≡ length ws
-      long-kept =
-          length-set (set (set (set ws k pos) (8 + k) number) (16 + k) label) (24 + k) c
-          ∙ length-set (set (set ws k pos) (8 + k) number) (16 + k) label
-          ∙ length-set (set ws k pos) (8 + k) number
-          ∙ length-set ws k pos
+  long-kept : length w4 ≡ length ws
+  long-kept =
+      length-set (set (set (set ws k pos) (8 + k) number) (16 + k) label) (24 + k) c
+      ∙ length-set (set (set ws k pos) (8 + k) number) (16 + k) label
+      ∙ length-set (set ws k pos) (8 + k) number
+      ∙ length-set ws k pos
 
-  notes-before : (q : ℕ) → q < k → noteIn w5 q ≡ noteIn ws q
-  notes-before q l = getD-set-other w4 (416 + k) (416 + q) 0 0 (λ e. omega (arith, e, l)) ∙ besides (416 + q) (λ b m e. omega (arith, e, m, inside))
+  note-none : (b : ℕ) → b < 3 → noteIn w7 b k ≡ 0
+  note-none zero m =
+      getD-set-other (set (set w4 (416 + k) 0) (424 + k) 0) (432 + k) (416 + k) 0 0 (λ e. omega (arith, e))
+      ∙ getD-set-other (set w4 (416 + k) 0) (424 + k) (416 + k) 0 0 (λ e. omega (arith, e))
+      ∙ getD-set-same w4 (416 + k) 0 0 (omega (arith, long, inside, long-kept))
+  note-none (suc zero) m =
+      getD-set-other (set (set w4 (416 + k) 0) (424 + k) 0) (432 + k) (424 + k) 0 0 (λ e. omega (arith, e))
+      ∙ getD-set-same (set w4 (416 + k) 0) (424 + k) 0 0 (omega (arith, long, inside, long-kept, length-set w4 (416 + k) 0))
+  note-none (suc (suc zero)) m =
+      getD-set-same (set (set w4 (416 + k) 0) (424 + k) 0) (432 + k) 0 0 (omega (arith, long, inside, long-kept, length-set w4 (416 + k) 0, length-set (set w4 (416 + k) 0) (424 + k) 0))
+  note-none (suc (suc (suc b))) m = absurd (omega (arith, m))
 
-  pub added : (scheme : coded.Scheme) → ((ls : List ℕ) → schemeOfCell number label ls ≡ schemeBy scheme label ls) → TableAdded ws w5 k pos scheme label c
+  notes-before : (q : ℕ) → q < k → (b : ℕ) → b < 3 → noteIn w7 b q ≡ noteIn ws b q
+  notes-before q l b m =
+      kept-3 w4 (416 + k) (424 + k) (432 + k) 0 0 0 (416 + 8 * b + q) (λ e. omega (arith, e, l, m, inside)) (λ e. omega (arith, e, l, m, inside)) (λ e. omega (arith, e, l, m, inside))
+      ∙ besides (416 + 8 * b + q) (λ b m e. omega (arith, e, m, inside))
+
+  pub added : (scheme : coded.Scheme) → ((ls : List ℕ) → schemeOfCell number label ls ≡ schemeBy scheme label ls) → TableAdded ws w7 k pos scheme label c
   added scheme is = record {
-    grown = λ text ts cs ls h l f. stored-behind text w4 (416 + k) 0 (k + 1) _ (omega arith) (table-added text (schemeBy scheme label ls) ts cs ls (is ls) h f);
+    grown = λ text ts cs ls h l f.
+        stored-behind text (set (set w4 (416 + k) 0) (424 + k) 0) (432 + k) 0 (k + 1) _ (omega arith)
+        (stored-behind text (set w4 (416 + k) 0) (424 + k) 0 (k + 1) _ (omega arith)
+        (stored-behind text w4 (416 + k) 0 (k + 1) _ (omega arith) (table-added text (schemeBy scheme label ls) ts cs ls (is ls) h f)));
     noted = λ ns l h. notes-table notes-before note-none h;
   }
 
@@ -276,11 +291,28 @@ not-added ws k pos scheme label c out = record { grown = λ text ts cs ls h l f.
 
 -- ---- a table is declared public
 
-pub public-stored : (ws : List ℕ) (t : ℕ) → length ws ≡ 424 → PublicStored ws (set ws (416 + t) 1) t
+pub public-stored : (ws : List ℕ) (t : ℕ) → length ws ≡ 440 → PublicStored ws (set ws (416 + t) 1) t
 public-stored ws t long = record {
   kept = λ text k ts h. stored-behind text ws (416 + t) 1 k ts (omega arith) h;
   noted = λ k ns l few h. notes-public ws t k ns long l few h;
 }
+
+-- ---- a table gets a weak or a strong label
+
+pub weak-stored : (ws : List ℕ) (t l : ℕ) → length ws ≡ 440 → LabelNoted ws (set ws (424 + t) (l + 1)) t (weak l) weakIn
+weak-stored ws t l long = record {
+  kept = λ text k ts h. stored-behind text ws (424 + t) (l + 1) k ts (omega arith) h;
+  noted = λ k ns i few new h. notes-weak ws t k ns long i few h l new;
+}
+
+pub strong-stored : (ws : List ℕ) (t l : ℕ) → length ws ≡ 440 → LabelNoted ws (set ws (432 + t) (l + 1)) t (strong l) strongIn
+strong-stored ws t l long = record {
+  kept = λ text k ts h. stored-behind text ws (432 + t) (l + 1) k ts (omega arith) h;
+  noted = λ k ns i few new h. notes-strong ws t k ns long i few h l new;
+}
+
+pub not-labelled : (ws : List ℕ) (t : ℕ) (n : Note ℕ) (f : Note ℕ → Option ℕ) → (t < 8 → ⊥) → LabelNoted ws ws t n f
+not-labelled ws t n f out = record { kept = λ text k ts h. h; noted = λ k ns l few new h. absurd (out (omega (arith, l, few))) }
 
 -- outside the array nothing is declared
 pub not-public : (ws : List ℕ) (t : ℕ) → (t < 8 → ⊥) → PublicStored ws ws t

@@ -1,17 +1,20 @@
 -- Contract: how the workspace holds labels: names from 0; in an array of words the allowed sets from 0 and the denied ones behind
 -- 64 of them.
 use Prim.Native.Nat.{_*_, _+_, _-_, _<_, _≤_, ℕ}
+use lib.Dec.{ltb}
 use lib.ListN.{drop, getD, getElem?, take}
-use mathlib.Core.Bool.{Bool, false}
+use mathlib.Core.Bool.{Bool, _&&_, cond, false, not}
 use mathlib.Core.List.{List, map}
-use mathlib.Core.Option.{some}
+use mathlib.Core.Option.{Option, none, some}
 use mathlib.Core.Path.{_≡_}
 use Rattle.condition.specs.Kinds.{numbers}
-use Rattle.document.specs.Open.{labelOpen}
-use Rattle.document.specs.Policy.{Label, Policy}
+use Rattle.document.specs.Open.{marksAt}
+use Rattle.document.specs.Policy.{Label, Policy, treeOf}
 use Rattle.workspace.specs.Tabulated.{tabulated}
 use Rattle.lists.specs.Lists.{member, there}
 use Rattle.purpose.specs.Members.{members, words}
+use Rattle.purpose.specs.Verdicts.{silent, verdict}
+use Rattle.purpose.specs.declared.Verdict.{Verdict}
 use Rattle.text.specs.Words.{wordAt}
 
 -- the words of set i
@@ -33,6 +36,19 @@ pub record Labels (text ws sets : List ℕ) (k : ℕ) (ls : List Label) : Type 0
   pub allowed : (i : ℕ) (l : Label) → getElem? ls i ≡ some l → SetHolds (setIn sets i) (l .marks .allowed)
   pub denied : (i : ℕ) (l : Label) → getElem? ls i ≡ some l → SetHolds (setIn sets (64 + i)) (l .marks .denied)
 
--- the truths say of each label whether it is open to the purpose p; a label that is not there is closed
-pub record Opened (d : Policy) (p : ℕ) (truths : List Bool) : Type 0 where
-  pub is : (l : ℕ) → getD truths l false ≡ labelOpen d p (some l)
+-- what the truths say of label l: whether it allows from 0 on, whether it denies from 64 on; one that has no place says nothing
+unfoldable pub verdictIn : List Bool → ℕ → Verdict
+verdictIn truths l = cond (ltb l 64) (record { allowed = getD truths l false; denied = getD truths (64 + l) false }) silent
+
+-- the same of a label that may be none
+unfoldable pub verdictFor : List Bool → Option ℕ → Verdict
+verdictFor truths none = silent
+verdictFor truths (some l) = verdictIn truths l
+
+-- label l is open, by what the truths say: it allows, and does not deny
+unfoldable pub openedIn : List Bool → ℕ → Bool
+openedIn truths l = verdictIn truths l .allowed && not (verdictIn truths l .denied)
+
+-- the truths say of each label its verdict on the purpose p; a label that is not there says nothing
+pub record Said (d : Policy) (p : ℕ) (truths : List Bool) : Type 0 where
+  pub is : (l : ℕ) → verdictIn truths l ≡ verdict (treeOf (d .purposes)) (marksAt d (some l)) p

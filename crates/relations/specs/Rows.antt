@@ -1,5 +1,5 @@
--- Contract: how the workspace holds rows: tables from 0, the numbers of values from 1,024 and of labels from 2,048; 16 places for
--- each row: values from 3,072, labels from 19,456.
+-- Contract: how the workspace holds rows: tables from 0, the numbers of values from 1,024 and of labels from 2,048; for each row
+-- 16 places for values, from 3,072, and 17 for labels, from 19,456.
 use Prim.Native.Nat.{_*_, _+_, _<_, _≤_, ℕ}
 use lib.ListN.{getD}
 use mathlib.Core.List.{List, [], _++_, _∷_}
@@ -11,7 +11,7 @@ use Rattle.text.specs.Words.{writtenAt}
 
 -- how many labels a row has room for
 abbrev pub labelRoom : ℕ
-labelRoom = 16
+labelRoom = 17
 
 -- how many values row r has
 abbrev pub valueCountIn : List ℕ → ℕ → ℕ
@@ -31,7 +31,7 @@ valueIn text ws r c = writtenAt text (valuePlaceIn ws r c)
 
 -- label c of row r
 abbrev pub rowLabelIn : List ℕ → ℕ → ℕ → ℕ
-rowLabelIn ws r c = getD ws (19456 + 16 * r + c) 0
+rowLabelIn ws r c = getD ws (19456 + 17 * r + c) 0
 
 -- the labels of row r
 abbrev pub labelsIn : List ℕ → ℕ → List ℕ

@@ -4,10 +4,13 @@ use Prim.Native.Nat.{_*_, _+_, _<_, _≤_, suc, zero, ℕ}
 use lib.ListN.{getD}
 use mathlib.Core.Bool.{false}
 use mathlib.Core.List.{List, [], _++_, _∷_}
+use mathlib.Core.Option.{Option, none}
 use mathlib.Core.Path.{_≡_}
 use Rattle.condition.specs.Kinds.{Kind}
 use Rattle.document.specs.Policy.{Column, Noted, Table}
-use Rattle.form.specs.Form.{Scheme, byCell, byColumn, byRow, byTable, public, unlabelled}
+use Rattle.document.specs.Lookup.{givenBy, notesOf}
+use Rattle.lists.specs.Lists.{there}
+use Rattle.form.specs.Form.{Note, Scheme, byCell, byColumn, byRow, byTable, nested, public, unlabelled}
 use Rattle.relations.specs.Notes.{Notes}
 use Rattle.workspace.specs.Tabulated.{tabulated}
 use Rattle.text.specs.Words.{wordAt}
@@ -45,7 +48,8 @@ schemeOfCell zero l ls = unlabelled false
 schemeOfCell (suc zero) l ls = byTable l
 schemeOfCell (suc (suc zero)) l ls = byColumn ls
 schemeOfCell (suc (suc (suc zero))) l ls = byRow
-schemeOfCell (suc (suc (suc (suc n)))) l ls = byCell
+schemeOfCell (suc (suc (suc (suc zero)))) l ls = byCell
+schemeOfCell (suc (suc (suc (suc (suc n))))) l ls = nested none none
 
 -- the scheme by the code's name for it, with the same labels
 unfoldable pub schemeBy : coded.Scheme → ℕ → List ℕ → Scheme ℕ
@@ -54,6 +58,7 @@ schemeBy scheme.ByTable l ls = byTable l
 schemeBy scheme.ByColumn l ls = byColumn ls
 schemeBy scheme.ByRow l ls = byRow
 schemeBy scheme.ByCell l ls = byCell
+schemeBy scheme.Nested l ls = nested none none
 
 unfoldable pub schemeIn : List ℕ → ℕ → Scheme ℕ
 schemeIn ws t = schemeOfCell (getD ws (8 + t) 0) (tableLabelIn ws t) (columnLabelsIn ws t)
@@ -88,6 +93,11 @@ pub record TableAdded (before after : List ℕ) (k pos : ℕ) (scheme : coded.Sc
   pub grown : (text : List ℕ) (ts : List Table) (cs : List Column) (ls : List ℕ) → Tables text before k ts → k < 8 → Filling text before k width cs ls →
       Tables text after (k + 1) (ts ++ (record { name = wordAt text pos; scheme = schemeBy scheme label ls; columns = cs } ∷ []))
   pub noted : (ns : List Noted) → k < 8 → Notes before k ns → Notes after (k + 1) ns
+
+-- table t gets a label by a weak or strong line, which it has not yet: the tables stay, and there is one note more
+pub record LabelNoted (before after : List ℕ) (t : ℕ) (note : Note ℕ) (reads : Note ℕ → Option ℕ) : Type 0 where
+  pub kept : (text : List ℕ) (k : ℕ) (ts : List Table) → Tables text before k ts → Tables text after k ts
+  pub noted : (k : ℕ) (ns : List Noted) → t < k → k ≤ 8 → there (givenBy reads (notesOf ns t)) ≡ false → Notes before k ns → Notes after k (ns ++ (record { table = t; note = note } ∷ []))
 
 -- table t is declared public: the tables stay, and there is one note more
 pub record PublicStored (before after : List ℕ) (t : ℕ) : Type 0 where

@@ -1,29 +1,30 @@
 // Labels: names from 0 in one array. In an array of words, WORDS for a set, the sets of allowed purposes stand from 0 and those
 // of denied ones behind 64 of them.
 use purpose::Closure;
+use purpose::Verdict;
 use purpose::WORDS;
-use purpose::admits;
+use purpose::verdict_of;
 use text::words::word_end;
 use workspace::found::Found;
 use workspace::found::find_name_to;
 use workspace::layout::LABELS;
 use workspace::layout::SET_WORDS;
+use workspace::layout::VERDICTS;
 use workspace::store::put;
 ghost use Prim.Native.Nat.{_+_, _<_, _≤_, ℕ};
-ghost use lib.ListN.{drop, getD, getElem?, length, take};
+ghost use lib.ListN.{drop, getElem?, length, take};
 ghost use lib.Seq.{paste};
-ghost use mathlib.Core.Bool.{false};
 ghost use mathlib.Core.List.{List, [], _++_, _∷_};
 ghost use mathlib.Core.Option.{some};
 ghost use mathlib.Core.Path.{_≡_};
-ghost use Rattle.document.specs.Open.{labelOpen};
+ghost use Rattle.document.specs.Open.{marksAt};
 ghost use Rattle.document.specs.Policy.{Label, Policy, treeOf};
 ghost use Rattle.workspace.specs.Found.{FoundBelow, foundAs};
-ghost use Rattle.relations.specs.Labels.{Labels, Opened, SetHolds, SetStored, setIn};
+ghost use Rattle.relations.specs.Labels.{Labels, Said, SetHolds, SetStored, openedIn, setIn, verdictFor, verdictIn};
 ghost use Rattle.lists.specs.Lists.{findIndex};
-ghost use Rattle.purpose.specs.Compliance.{opens};
 ghost use Rattle.purpose.specs.Meaning.{ClosureOf};
 ghost use Rattle.purpose.specs.Members.{words};
+ghost use Rattle.purpose.specs.Verdicts.{verdict};
 ghost use Rattle.text.specs.Words.{isCalled, wordAt, wordOf};
 
 // The label of the name from u to e of the line, among the first k.
@@ -113,14 +114,14 @@ pub fn add_label(
     }
 }
 
-// Whether the purpose whose closure is given is open under label i.
-pub fn label_open(closure: Closure, sets: &[u64; SET_WORDS], i: usize) -> bool
-    ensures { λ r. ⌜ ((tree : List ℕ) (p : ℕ) (text ws : List ℕ) (k : ℕ) (ls : List Label) (l : Label) → Labels text ws (now (sets .entry)) k ls → getElem? ls i ≡ some l → ClosureOf tree p closure → r ≡ opens tree (l .marks) p) ⌝ }
+// What label i says of the purpose whose closure is given.
+fn label_verdict(closure: Closure, sets: &[u64; SET_WORDS], i: usize) -> Verdict
+    ensures { λ r. ⌜ ((tree : List ℕ) (p : ℕ) (text ws : List ℕ) (k : ℕ) (ls : List Label) (l : Label) → Labels text ws (now (sets .entry)) k ls → getElem? ls i ≡ some l → ClosureOf tree p closure → r ≡ verdict tree (l .marks) p) ⌝ }
 {
     if i < LABELS {
         let allowed = load_set(sets, i);
         let denied = load_set(sets, LABELS + i);
-        return admits(
+        return verdict_of(
             closure,
             purpose::Label {
                 allowed: allowed,
@@ -128,44 +129,82 @@ pub fn label_open(closure: Closure, sets: &[u64; SET_WORDS], i: usize) -> bool
             },
         );
     }
-    false
+    Verdict {
+        allowed: false,
+        denied: false,
+    }
 }
 
-// Whether label i is there, among the first k, and open to the purpose whose closure is given.
-fn is_open(closure: Closure, sets: &[u64; SET_WORDS], k: usize, i: usize) -> bool
-    ensures { λ r. ⌜ ((text ws : List ℕ) (d : Policy) (p : ℕ) → Labels text ws (now (sets .entry)) k (d .labels) → ClosureOf (treeOf (d .purposes)) p closure → r ≡ labelOpen d p (some i)) ⌝ }
+// What label i, one of k, says of the purpose whose closure is given; one that is not there says nothing.
+fn verdict_there(closure: Closure, sets: &[u64; SET_WORDS], k: usize, i: usize) -> Verdict
+    ensures { λ r. ⌜ ((text ws : List ℕ) (d : Policy) (p : ℕ) → Labels text ws (now (sets .entry)) k (d .labels) → ClosureOf (treeOf (d .purposes)) p closure → r ≡ verdict (treeOf (d .purposes)) (marksAt d (some i)) p) ⌝ }
 {
     if i < k {
-        return label_open(closure, sets, i);
+        return label_verdict(closure, sets, i);
     }
-    false
+    Verdict {
+        allowed: false,
+        denied: false,
+    }
 }
 
-// Whether each label that there is a place for is open to the purpose whose closure is given.
-fn fill_open(closure: Closure, sets: &[u64; SET_WORDS], k: usize, opened: &mut [bool])
-    ensures { λ _. ⌜ ((text ws : List ℕ) (d : Policy) (p : ℕ) → Labels text ws (now (sets .entry)) k (d .labels) → ClosureOf (treeOf (d .purposes)) p closure → 64 ≤ length (now (opened .entry)) → Opened d p (now (opened .exit))) ⌝ }
+// What each label that there is a place for says of the purpose whose closure is given.
+fn fill_said(closure: Closure, sets: &[u64; SET_WORDS], k: usize, said: &mut [bool])
+    requires { ⌜ 128 ≤ length (now said) ⌝ }
+    ensures { λ _. ⌜ ((text ws : List ℕ) (d : Policy) (p : ℕ) → Labels text ws (now (sets .entry)) k (d .labels) → ClosureOf (treeOf (d .purposes)) p closure → Said d p (now (said .exit))) ⌝ }
 {
     let mut i = 0;
-    while i < opened.len() {
-        let open = is_open(closure, sets, k, i);
-        opened[i] = open;
+    while i < LABELS {
+        let v = verdict_there(closure, sets, k, i);
+        said[i] = v.allowed;
+        said[LABELS + i] = v.denied;
         i += 1;
     }
 }
 
-// Whether each label, of which there are k, is open to the purpose whose closure is given.
-pub fn open_labels(closure: Closure, sets: &[u64; SET_WORDS], k: usize, opened: &mut [bool; LABELS])
-    ensures { λ _. ⌜ ((text ws : List ℕ) (d : Policy) (p : ℕ) → Labels text ws (now (sets .entry)) k (d .labels) → ClosureOf (treeOf (d .purposes)) p closure → Opened d p (now (opened .exit))) ⌝ }
+// What each label, of which there are k, says of the purpose whose closure is given.
+pub fn say_labels(closure: Closure, sets: &[u64; SET_WORDS], k: usize, said: &mut [bool; VERDICTS])
+    ensures { λ _. ⌜ ((text ws : List ℕ) (d : Policy) (p : ℕ) → Labels text ws (now (sets .entry)) k (d .labels) → ClosureOf (treeOf (d .purposes)) p closure → Said d p (now (said .exit))) ⌝ }
 {
-    fill_open(closure, sets, k, opened);
+    fill_said(closure, sets, k, said);
+}
+
+// What label l says, by what was stored of each label; one that has no place says nothing.
+pub fn said_at(said: &[bool; VERDICTS], l: usize) -> Verdict
+    ensures { λ r. ⌜ r ≡ verdictIn (now (said .entry)) l ⌝ }
+{
+    if l < LABELS {
+        return Verdict {
+            allowed: said[l],
+            denied: said[LABELS + l],
+        };
+    }
+    Verdict {
+        allowed: false,
+        denied: false,
+    }
+}
+
+// What a label says that may be none, which says nothing.
+pub fn said_of(said: &[bool; VERDICTS], f: Found) -> Verdict
+    ensures { λ r. ⌜ r ≡ verdictFor (now (said .entry)) (foundAs f) ⌝ }
+{
+    match f {
+        Found::At(l) => said_at(said, l),
+        Found::Nothing => Verdict {
+            allowed: false,
+            denied: false,
+        },
+    }
 }
 
 // Whether label l is open, by what was stored of each label; one that is not there is closed.
-pub fn opened_at(opened: &[bool], l: usize) -> bool
-    ensures { λ r. ⌜ r ≡ getD (now (opened .entry)) l false ⌝ }
+pub fn opened_at(said: &[bool; VERDICTS], l: usize) -> bool
+    ensures { λ r. ⌜ r ≡ openedIn (now (said .entry)) l ⌝ }
 {
-    if l < opened.len() {
-        return opened[l];
+    let v = said_at(said, l);
+    if v.allowed {
+        return !v.denied;
     }
     false
 }

@@ -10,7 +10,9 @@ use workspace::layout::ROW_WIDTHS;
 use workspace::layout::ROWS;
 ghost use Prim.Native.Nat.{_+_, _<_, ℕ};
 ghost use lib.ListN.{getD};
+ghost use lib.Dec.{eqb};
 ghost use mathlib.Core.List.{List, _++_, _∷_, []};
+ghost use Rattle.lists.specs.Lists.{anyOf};
 ghost use mathlib.Core.Path.{_≡_};
 ghost use Rattle.document.specs.Policy.{Row};
 ghost use Rattle.relations.specs.Rows.{FillingRow, LabelStored, Rows, ValueStored, labelCountIn, labelRoom, rowLabelIn, valueCountIn, valuePlaceIn};
@@ -107,4 +109,18 @@ pub fn row_label(ws: &[usize; ROW_CELLS], r: usize, m: usize) -> usize
         }
     }
     0
+}
+
+// Whether one of the rows, of which there are so many, lies in table t.
+pub fn has_row(ws: &[usize; ROW_CELLS], count: usize, t: usize) -> bool
+    ensures { λ x. ⌜ ((text : List ℕ) (rs : List Row) → Rows text (now (ws .entry)) count rs → x ≡ anyOf (λ r. eqb (r .table) t) rs) ⌝ }
+{
+    let mut r: usize = 0;
+    while r < count {
+        if row_table(ws, r) == t {
+            return true;
+        }
+        r += 1;
+    }
+    false
 }

@@ -14,6 +14,8 @@ use workspace::layout::TABLE_CELLS;
 use workspace::layout::TABLE_LABELS;
 use workspace::layout::TABLE_NOTES;
 use workspace::layout::TABLE_SCHEMES;
+use workspace::layout::TABLE_STRONG;
+use workspace::layout::TABLE_WEAK;
 use workspace::layout::TABLE_WIDTHS;
 use workspace::layout::TABLES;
 use workspace::store::kind_by;
@@ -24,7 +26,9 @@ ghost use mathlib.Core.List.{List};
 ghost use mathlib.Core.Path.{_≡_};
 ghost use Rattle.condition.specs.Answers.{kindOf};
 ghost use Rattle.document.specs.Lookup.{columnOf};
+ghost use Rattle.document.specs.NoteFaults.{isNested};
 ghost use Rattle.document.specs.Policy.{Table};
+ghost use Rattle.form.specs.Form.{hasBrackets, leadsLabel};
 ghost use Rattle.workspace.specs.Found.{FoundBelow, foundAs};
 ghost use Rattle.relations.specs.Tables.{ColumnStored, Cut, TableAdded, Tables, columnCountIn, columnKindIn, columnLabelIn, columnLabelsIn, columnsIn, schemeBy, schemeIn, schemeOfCell, tableLabelIn};
 ghost use Rattle.lists.specs.Lists.{findIndex};
@@ -40,6 +44,7 @@ fn scheme_cell(s: Scheme) -> usize
         Scheme::ByColumn => 2,
         Scheme::ByRow => 3,
         Scheme::ByCell => 4,
+        Scheme::Nested => 5,
     }
 }
 
@@ -84,6 +89,8 @@ pub fn add_table(
         cells[TABLE_LABELS + k] = label;
         cells[TABLE_WIDTHS + k] = width;
         cells[TABLE_NOTES + k] = 0;
+        cells[TABLE_WEAK + k] = 0;
+        cells[TABLE_STRONG + k] = 0;
     }
 }
 
@@ -111,10 +118,53 @@ pub fn table_scheme(ws: &[usize; TABLE_CELLS], t: usize) -> Scheme
             1 => Scheme::ByTable,
             2 => Scheme::ByColumn,
             3 => Scheme::ByRow,
-            _ => Scheme::ByCell,
+            4 => Scheme::ByCell,
+            _ => Scheme::Nested,
         }
     } else {
         Scheme::Unlabelled
+    }
+}
+
+// Whether a row of the scheme leads with a label for itself.
+pub fn leads_label(s: Scheme) -> bool
+    ensures { λ r. ⌜ ((l : ℕ) (ls : List ℕ) → r ≡ leadsLabel (schemeBy s l ls)) ⌝ }
+{
+    match s {
+        Scheme::Unlabelled => false,
+        Scheme::ByTable => false,
+        Scheme::ByColumn => false,
+        Scheme::ByRow => true,
+        Scheme::ByCell => false,
+        Scheme::Nested => true,
+    }
+}
+
+// Whether a row of the scheme has each value in brackets with its label.
+pub fn has_brackets(s: Scheme) -> bool
+    ensures { λ r. ⌜ ((l : ℕ) (ls : List ℕ) → r ≡ hasBrackets (schemeBy s l ls)) ⌝ }
+{
+    match s {
+        Scheme::Unlabelled => false,
+        Scheme::ByTable => false,
+        Scheme::ByColumn => false,
+        Scheme::ByRow => false,
+        Scheme::ByCell => true,
+        Scheme::Nested => true,
+    }
+}
+
+// Whether the scheme is nest.
+pub fn is_nested(s: Scheme) -> bool
+    ensures { λ r. ⌜ ((l : ℕ) (ls : List ℕ) → r ≡ isNested (schemeBy s l ls)) ⌝ }
+{
+    match s {
+        Scheme::Unlabelled => false,
+        Scheme::ByTable => false,
+        Scheme::ByColumn => false,
+        Scheme::ByRow => false,
+        Scheme::ByCell => false,
+        Scheme::Nested => true,
     }
 }
 

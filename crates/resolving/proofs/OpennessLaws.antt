@@ -1,27 +1,28 @@
 -- What of a table is closed to a purpose, by the labels and the numbers of the columns that the code reads. Assumes nothing.
 use Prim.Native.Nat.{_<_, _≤_, suc, zero, ℕ}
+use Rattle.document.proofs.OpenLaws.{settled-column}
+use Rattle.document.specs.Lookup.{columnOf, columnsAt, labellingAt, notesOf, schemeAt, settled}
+use Rattle.document.specs.Open.{columnOpen, labelOpen, openTo, tableOpen}
+use Rattle.document.specs.Policy.{Policy}
+use Rattle.form.specs.declared.lines.Scheme as coded
+use Rattle.lists.specs.Lists.{holdsOf, orZero}
+use Rattle.query.specs.Naming.{wordsAt}
+use Rattle.relations.proofs.LabelLaws.{said-open}
+use Rattle.relations.proofs.TableLaws.{column-label-read, scheme-read, width-read}
+use Rattle.relations.specs.Labels.{Said, openedIn}
+use Rattle.relations.specs.Tables.{Cut, Tables, columnCountIn, columnLabelIn, columnLabelsIn, schemeBy, schemeIn, tableLabelIn}
+use Rattle.resolving.proofs.TakenLaws.{mapped-at}
+use Rattle.text.proofs.FirstOffending.{first-missing, none-missing}
+use Rattle.text.specs.Offending.{missing}
+use Rattle.text.specs.Words.{Word, wordOf}
+use Rattle.workspace.proofs.TabulatedLaws.{length-tabulated}
+use Rattle.workspace.specs.Tabulated.{tabulated}
 use lib.ListN.{getD, getElem?, length, take}
 use mathlib.Core.Bool.{Bool, false, true}
 use mathlib.Core.List.{List, [], _∷_, map}
 use mathlib.Core.Option.{bind, none, some}
 use mathlib.Core.Path.{_∙_, _≡_, ap, refl, sym}
 use native.Mathlib.Omega.{arith}
-use Rattle.document.proofs.OpenLaws.{settled-column}
-use Rattle.document.specs.Lookup.{columnOf, columnsAt, labellingAt, notesOf, schemeAt, settled}
-use Rattle.document.specs.Open.{columnOpen, labelOpen, tableOpen}
-use Rattle.document.specs.Policy.{Policy}
-use Rattle.workspace.proofs.TabulatedLaws.{length-tabulated}
-use Rattle.relations.proofs.TableLaws.{column-label-read, scheme-read, width-read}
-use Rattle.relations.specs.Labels.{Opened}
-use Rattle.relations.specs.Tables.{Cut, Tables, columnCountIn, columnLabelIn, columnLabelsIn, schemeBy, schemeIn, tableLabelIn}
-use Rattle.workspace.specs.Tabulated.{tabulated}
-use Rattle.form.specs.declared.lines.Scheme as coded
-use Rattle.lists.specs.Lists.{holdsOf, orZero}
-use Rattle.query.specs.Naming.{wordsAt}
-use Rattle.resolving.proofs.TakenLaws.{mapped-at}
-use Rattle.text.proofs.FirstOffending.{first-missing, none-missing}
-use Rattle.text.specs.Offending.{missing}
-use Rattle.text.specs.Words.{Word, wordOf}
 
 -- nothing stands past the end
 past-end : {A : Type 0} (xs : List A) (i : ℕ) → length xs ≤ i → getElem? xs i ≡ none
@@ -45,10 +46,10 @@ openAt ws t d p w = labelOpen d p (getElem? (labelsIn ws t d) (orZero (columnOf 
 module _ (text ws : List ℕ) (k t : ℕ) (d : Policy) (p : ℕ) (h : Tables text ws k (d .tables)) (l : t < k) where
   -- a column's label, if the table has the column
   module _ (c n : ℕ) (cut : Cut 16 t 8 (columnCountIn ws t) n) where
-    pub column-there : c < n → (truths : List Bool) → Opened d p truths → (x : ℕ) → (t < 8 → c < 16 → x ≡ columnLabelIn ws t c)
-        → (b : Bool) → b ≡ getD truths x false → b ≡ labelOpen d p (getElem? (labelsIn ws t d) c)
+    pub column-there : c < n → (truths : List Bool) → Said d p truths → (x : ℕ) → (t < 8 → c < 16 → x ≡ columnLabelIn ws t c)
+        → (b : Bool) → b ≡ openedIn truths x → b ≡ labelOpen d p (getElem? (labelsIn ws t d) c)
     column-there less truths o x is b e =
-        e ∙ o .is x ∙ ap (labelOpen d p) (sym (column-label-read text ws k t d h l c (omega (arith, less, width-read text ws k t d h l n cut)) x is))
+        e ∙ said-open o x ∙ ap (labelOpen d p) (sym (column-label-read text ws k t d h l c (omega (arith, less, width-read text ws k t d h l n cut)) x is))
 
     pub column-lacking : n ≤ c → false ≡ labelOpen d p (getElem? (labelsIn ws t d) c)
     column-lacking over =
@@ -64,33 +65,33 @@ module _ (text ws : List ℕ) (k t : ℕ) (d : Policy) (p : ℕ) (h : Tables tex
     unfolding labellingAt
     labelling-is = ap (settled (notesOf (d .notes) t)) scheme-is
 
-    pub table-by : tableOpen (labelOpen d p) (labellingAt d t) ≡ tableOpen (labelOpen d p) (settled (notesOf (d .notes) t) (schemeBy scheme (tableLabelIn ws t) (labelsIn ws t d)))
-    table-by = ap (tableOpen (labelOpen d p)) labelling-is
+    pub table-by : tableOpen (openTo d p) (labellingAt d t) ≡ tableOpen (openTo d p) (settled (notesOf (d .notes) t) (schemeBy scheme (tableLabelIn ws t) (labelsIn ws t d)))
+    table-by = ap (tableOpen (openTo d p)) labelling-is
 
     pub columns-by : (words : List Word)
-        → missing (λ w. columnOpen (labelOpen d p) (labellingAt d t) (orZero (columnOf (columnsAt d t) w))) words
-        ≡ missing (λ w. columnOpen (labelOpen d p) (schemeBy scheme (tableLabelIn ws t) (labelsIn ws t d)) (orZero (columnOf (columnsAt d t) w))) words
+        → missing (λ w. columnOpen (openTo d p) (labellingAt d t) (orZero (columnOf (columnsAt d t) w))) words
+        ≡ missing (λ w. columnOpen (openTo d p) (schemeBy scheme (tableLabelIn ws t) (labelsIn ws t d)) (orZero (columnOf (columnsAt d t) w))) words
     columns-by words =
-        ap (λ z. missing (λ w. columnOpen (labelOpen d p) z (orZero (columnOf (columnsAt d t) w))) words) labelling-is
-        ∙ (λ i. missing (λ w. settled-column (labelOpen d p) (notesOf (d .notes) t) (schemeBy scheme (tableLabelIn ws t) (labelsIn ws t d)) (orZero (columnOf (columnsAt d t) w)) i) words)
+        ap (λ z. missing (λ w. columnOpen (openTo d p) z (orZero (columnOf (columnsAt d t) w))) words) labelling-is
+        ∙ (λ i. missing (λ w. settled-column (openTo d p) (notesOf (d .notes) t) (schemeBy scheme (tableLabelIn ws t) (labelsIn ws t d)) (orZero (columnOf (columnsAt d t) w)) i) words)
 
 -- ---- the first closed column
 
 -- what the loop is given of a document and a query: the table, which labels are open, and the numbers of the named columns
-pub record Named (tables : List ℕ) (t : ℕ) (opened : List Bool) (places : List ℕ) (n : ℕ) (columns : List ℕ) (d : Policy) (p : ℕ) (s : List ℕ) : Type 0 where
+pub record Named (tables : List ℕ) (t : ℕ) (said : List Bool) (places : List ℕ) (n : ℕ) (columns : List ℕ) (d : Policy) (p : ℕ) (s : List ℕ) : Type 0 where
   pub text : List ℕ
   pub k : ℕ
   pub held : Tables text tables k (d .tables)
   pub inside : t < k
   pub longPlaces : n ≤ length places
   pub longColumns : n ≤ length columns
-  pub labels : Opened d p opened
+  pub labels : Said d p said
   pub are : take n columns ≡ map (λ w. orZero (columnOf (columnsAt d t) w)) (wordsAt s n places)
 
-module _ {tables : List ℕ} {t : ℕ} {opened : List Bool} {places : List ℕ} {n : ℕ} {columns : List ℕ} {d : Policy} {p : ℕ} {s : List ℕ} (g : Named tables t opened places n columns d p s) where
+module _ {tables : List ℕ} {t : ℕ} {said : List Bool} {places : List ℕ} {n : ℕ} {columns : List ℕ} {d : Policy} {p : ℕ} {s : List ℕ} (g : Named tables t said places n columns d p s) where
   -- what the code finds at a column's number
   pub open-found : (i : ℕ) → i < n → (b : Bool)
-      → ((d : Policy) (text : List ℕ) (k p : ℕ) → Tables text tables k (d .tables) → t < k → Opened d p opened → b ≡ labelOpen d p (getElem? (labelsIn tables t d) (getD columns i 0)))
+      → ((d : Policy) (text : List ℕ) (k p : ℕ) → Tables text tables k (d .tables) → t < k → Said d p said → b ≡ labelOpen d p (getElem? (labelsIn tables t d) (getD columns i 0)))
       → b ≡ openAt tables t d p (wordOf s (getD places i 0))
   open-found i l b is =
       is d (g .text) (g .k) p (g .held) (g .inside) (g .labels)

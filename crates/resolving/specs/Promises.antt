@@ -5,11 +5,11 @@ use mathlib.Core.Bool.{Bool}
 use mathlib.Core.List.{List, [], _∷_, map}
 use mathlib.Core.Path.{_≡_}
 use Rattle.document.specs.Lookup.{columnOf, columnsAt, labellingAt}
-use Rattle.document.specs.Open.{columnOpen, labelOpen, tableOpen}
+use Rattle.document.specs.Open.{columnOpen, labelOpen, openTo, tableOpen}
 use Rattle.document.specs.Policy.{Policy}
 use Rattle.lists.specs.Lists.{orZero}
 use Rattle.query.specs.Naming.{wordsAt}
-use Rattle.relations.specs.Labels.{Opened}
+use Rattle.relations.specs.Labels.{Said}
 use Rattle.relations.specs.Notes.{Notes}
 use Rattle.relations.specs.Tables.{Tables, columnLabelIn}
 use Rattle.text.specs.CodeEnds.{offendingOf}
@@ -19,22 +19,22 @@ use Rattle.workspace.specs.Tabulated.{tabulated}
 use Rattle.text.specs.declared.offending.Offending.{Offending}
 
 -- openness::first_closed: the first of the n named columns whose label is closed
-abbrev pub FirstClosedPromise : (tables : List ℕ) (t : ℕ) (opened : List Bool) (places : List ℕ) (n : ℕ) (columns : List ℕ) (x : Offending) → Type 0
-FirstClosedPromise tables t opened places n columns x =
-    (d : Policy) (text s : List ℕ) (k p : ℕ) → Tables text tables k (d .tables) → t < k → n ≤ length places → n ≤ length columns → Opened d p opened →
+abbrev pub FirstClosedPromise : (tables : List ℕ) (t : ℕ) (said : List Bool) (places : List ℕ) (n : ℕ) (columns : List ℕ) (x : Offending) → Type 0
+FirstClosedPromise tables t said places n columns x =
+    (d : Policy) (text s : List ℕ) (k p : ℕ) → Tables text tables k (d .tables) → t < k → n ≤ length places → n ≤ length columns → Said d p said →
     take n columns ≡ map (λ w. orZero (columnOf (columnsAt d t) w)) (wordsAt s n places) →
     offendingOf s x ≡ missing (λ w. labelOpen d p (getElem? (tabulated (columnLabelIn tables t) (length (columnsAt d t))) (orZero (columnOf (columnsAt d t) w)))) (wordsAt s n places)
 
 -- openness::closed_column: the first of the n named columns that is closed: only labels by column close one
-abbrev pub ClosedColumnPromise : (tables : List ℕ) (t : ℕ) (opened : List Bool) (places : List ℕ) (n : ℕ) (columns : List ℕ) (x : Offending) → Type 0
-ClosedColumnPromise tables t opened places n columns x =
-    (d : Policy) (text s : List ℕ) (k p : ℕ) → Tables text tables k (d .tables) → t < k → n ≤ length places → n ≤ length columns → Opened d p opened →
+abbrev pub ClosedColumnPromise : (tables : List ℕ) (t : ℕ) (said : List Bool) (places : List ℕ) (n : ℕ) (columns : List ℕ) (x : Offending) → Type 0
+ClosedColumnPromise tables t said places n columns x =
+    (d : Policy) (text s : List ℕ) (k p : ℕ) → Tables text tables k (d .tables) → t < k → n ≤ length places → n ≤ length columns → Said d p said →
     take n columns ≡ map (λ w. orZero (columnOf (columnsAt d t) w)) (wordsAt s n places) →
-    offendingOf s x ≡ missing (λ w. columnOpen (labelOpen d p) (labellingAt d t) (orZero (columnOf (columnsAt d t) w))) (wordsAt s n places)
+    offendingOf s x ≡ missing (λ w. columnOpen (openTo d p) (labellingAt d t) (orZero (columnOf (columnsAt d t) w))) (wordsAt s n places)
 
 -- openness::closed_part: the table, whose name stands at `at`, or else the first of the n named columns, where it is closed
-abbrev pub ClosedPartPromise : (tables : List ℕ) (t : ℕ) (opened : List Bool) (query : List ℕ) (at : ℕ) (places : List ℕ) (n : ℕ) (columns : List ℕ) (x : Offending) → Type 0
-ClosedPartPromise tables t opened query at places n columns x =
-    (d : Policy) (text : List ℕ) (k p : ℕ) → Tables text tables k (d .tables) → Notes tables k (d .notes) → t < k → n ≤ 80 → Opened d p opened →
+abbrev pub ClosedPartPromise : (tables : List ℕ) (t : ℕ) (said : List Bool) (query : List ℕ) (at : ℕ) (places : List ℕ) (n : ℕ) (columns : List ℕ) (x : Offending) → Type 0
+ClosedPartPromise tables t said query at places n columns x =
+    (d : Policy) (text : List ℕ) (k p : ℕ) → Tables text tables k (d .tables) → Notes tables k (d .notes) → t < k → n ≤ 80 → Said d p said →
     take n columns ≡ map (λ w. orZero (columnOf (columnsAt d t) w)) (wordsAt query n places) →
-    offendingOf query x ≡ leftmost (unless (tableOpen (labelOpen d p) (labellingAt d t)) (wordOf query at) ∷ missing (λ w. columnOpen (labelOpen d p) (labellingAt d t) (orZero (columnOf (columnsAt d t) w))) (wordsAt query n places) ∷ [])
+    offendingOf query x ≡ leftmost (unless (tableOpen (openTo d p) (labellingAt d t)) (wordOf query at) ∷ missing (λ w. columnOpen (openTo d p) (labellingAt d t) (orZero (columnOf (columnsAt d t) w))) (wordsAt query n places) ∷ [])

@@ -1,5 +1,15 @@
 -- The values of a row by the positions where they stand, for each shape of its items. Assumes nothing.
 use Prim.Native.Nat.{_+_, suc, zero, ℕ}
+use Rattle.document.specs.ValueFaults.{bracketValues, plainValues, shapedValues, valuesBehindLabel}
+use Rattle.form.proofs.WalkLaws.{item-onward, walk-more, walk-stop}
+use Rattle.form.proofs.WalkSteps.{item-bracket, item-plain, items-more, items-stop, place-bracket, place-plain}
+use Rattle.form.specs.Form.{Item, labelled, plain}
+use Rattle.form.specs.Walks.{firstIn, isLabelledAt, itemAt, itemEndAt, itemsAt, listAt, listUpTo}
+use Rattle.lists.proofs.ListLaws.{map-inv}
+use Rattle.lists.specs.Lists.{holdsOf}
+use Rattle.rows.specs.RowWords.{itemValueAt, valuesAt}
+use Rattle.text.specs.Names.{isName}
+use Rattle.text.specs.Words.{Word, writtenOf}
 use lib.Dec.{eqb}
 use lib.ListN.{getD, length}
 use mathlib.Core.Bool.{Bool, cond, false, not, true}
@@ -7,16 +17,6 @@ use mathlib.Core.List.{List, [], _∷_}
 use mathlib.Core.Option.{Option, Option·map, Option·none-ne-some, Option·some-injective, none, some}
 use mathlib.Core.Path.{_∙_, _≡_, ap, refl, sym}
 use native.Mathlib.Omega.{arith}
-use Rattle.document.specs.ValueFaults.{bracketValues, plainValues, valuesBehindLabel}
-use Rattle.rows.specs.RowWords.{itemValueAt, shapedValues, valuesAt}
-use Rattle.form.proofs.WalkLaws.{item-onward, walk-more, walk-stop}
-use Rattle.form.proofs.WalkSteps.{item-bracket, item-plain, items-more, items-stop, place-bracket, place-plain}
-use Rattle.form.specs.Form.{Item, labelled, plain}
-use Rattle.form.specs.Walks.{firstIn, isLabelledAt, itemAt, itemEndAt, itemsAt, listAt, listUpTo}
-use Rattle.lists.proofs.ListLaws.{map-inv}
-use Rattle.lists.specs.Lists.{holdsOf}
-use Rattle.text.specs.Names.{isName}
-use Rattle.text.specs.Words.{Word, writtenOf}
 
 -- ---- one item
 
@@ -134,17 +134,16 @@ shaped-at b s at ws h = shaped-up-to b s (length s) at ws h
 
 -- ---- a row whose first item is its label
 
--- what behind a first item is plain has these values
-behind-item : (i : Item) (is : List Item) (ws : List Word) → valuesBehindLabel (i ∷ is) ≡ some ws → plainValues is ≡ some ws
+-- what stands behind a first item has these values
+behind-item : (values : List Item → Option (List Word)) (i : Item) (is : List Item) (ws : List Word) → valuesBehindLabel values (i ∷ is) ≡ some ws → values is ≡ some ws
 unfolding valuesBehindLabel
-behind-item (plain w) is ws h = go (isName (w .bytes)) h
+behind-item values (plain w) is ws h = go (isName (w .bytes)) h
   where
-    go : (t : Bool) → cond t (plainValues is) none ≡ some ws → plainValues is ≡ some ws
+    go : (t : Bool) → cond t (values is) none ≡ some ws → values is ≡ some ws
     go true h = h
     go false h = absurd (Option·none-ne-some _ h)
-behind-item (labelled v l) is ws h = absurd (Option·none-ne-some _ h)
+behind-item values (labelled v l) is ws h = absurd (Option·none-ne-some _ h)
 
 module _ (s : List ℕ) (at : ℕ) where
-  pub behind-values : getD s at 0 ≡ 32 → (ws : List Word) → valuesBehindLabel (itemsAt s at) ≡ some ws → valuesAt s (itemEndAt s (at + 1)) ≡ ws
-  unfolding shapedValues
-  behind-values e ws h = shaped-at false s (itemEndAt s (at + 1)) ws (behind-item (itemAt s (at + 1)) _ ws (ap valuesBehindLabel (sym (items-more s at e)) ∙ h))
+  pub behind-values : getD s at 0 ≡ 32 → (b : Bool) (ws : List Word) → valuesBehindLabel (shapedValues b) (itemsAt s at) ≡ some ws → valuesAt s (itemEndAt s (at + 1)) ≡ ws
+  behind-values e b ws h = shaped-at b s (itemEndAt s (at + 1)) ws (behind-item (shapedValues b) (itemAt s (at + 1)) _ ws (ap (valuesBehindLabel (shapedValues b)) (sym (items-more s at e)) ∙ h))

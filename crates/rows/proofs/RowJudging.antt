@@ -14,6 +14,7 @@ use Rattle.document.specs.Check.{checkForm}
 use Rattle.document.specs.Lookup.{columnsAt, columnsOf, labelOf, schemeAt, schemeOf, tableOf}
 use Rattle.document.specs.Meaning.{add}
 use Rattle.document.specs.NameFaults.{rowLabels, taken, unknown}
+use Rattle.document.specs.NoteFaults.{misplaced}
 use Rattle.document.specs.Policy.{Doc}
 use Rattle.document.specs.TypeFaults.{mistypedValue, wrongType}
 use Rattle.document.specs.ValueFaults.{misfit, rowValues}
@@ -128,8 +129,8 @@ module _ (d : Doc) (line : List ℕ) (w : Word) (is : List Item) (k : ℕ) (coun
               row-unreal u q = judge-date d line (row w is) row-room row-new (unknown-is ∙ l) one-root (misfit-is ∙ ap not f) (types-are ∙ m) (order-is ∙ o) u (dates-are ∙ q)
 
               pub row-fine : firstUnreal ws ≡ none → checkForm d line (row w is) ≡ accepted (add d (row w is))
-              unfolding lateAttr
-              row-fine q = judge-fine d line (row w is) row-room row-new (unknown-is ∙ l) one-root (misfit-is ∙ ap not f) (types-are ∙ m) (order-is ∙ o) (dates-are ∙ q) late
+              unfolding lateAttr misplaced
+              row-fine q = judge-fine d line (row w is) row-room row-new (unknown-is ∙ l) one-root (misfit-is ∙ ap not f) (types-are ∙ m) (order-is ∙ o) (dates-are ∙ q) late refl
                 where
                   late : lateAttr (d .policy) (row w is) ≡ false
                   late = refl

@@ -1,22 +1,25 @@
 -- The items of a row that are shaped for the table's scheme, as the code walks through them: values, or brackets of a value and a label. Assumes
 -- nothing.
 use Prim.Native.Nat.{_+_, suc, zero, ℕ}
+use Rattle.document.proofs.RowItems.{bracket-behind, led-name, led-values, no-values-behind}
+use Rattle.document.specs.NameFaults.{bracketLabels, leadingName}
+use Rattle.document.specs.ValueFaults.{bracketValues, plainValues, valuesBehindLabel}
+use Rattle.form.proofs.WalkLaws.{unopened-unlabelled}
+use Rattle.form.proofs.WalkSteps.{item-plain, item-plain-end, items-more}
+use Rattle.form.specs.Form.{Item, labelled, plain}
+use Rattle.form.specs.Walks.{cellAt, cellEndAt, cellLabelIn, cellsAt, firstIn, isLabelledAt, itemAt, itemEndAt, itemsAt, listAt, listUpTo, plainAt}
+use Rattle.lists.proofs.ListLaws.{map-inv}
+use Rattle.text.proofs.Closings.{written-end}
+use Rattle.text.specs.Names.{isName}
+use Rattle.text.specs.Walking.{wordEndAt, writtenEndAt}
+use Rattle.text.specs.Words.{Word, wordAt, wordOf, writtenOf}
 use borrow.Author.Tests.{eqb-false, eqb-true}
 use lib.Dec.{eqb}
 use lib.ListN.{getD, length}
 use mathlib.Core.Bool.{Bool, cond, false, true}
 use mathlib.Core.List.{List, [], _∷_, map}
-use mathlib.Core.Option.{Option·none-ne-some, Option·some-injective, some}
+use mathlib.Core.Option.{Option, Option·none-ne-some, Option·some-injective, some}
 use mathlib.Core.Path.{_∙_, _≡_, ap, refl, sym}
-use Rattle.document.proofs.RowItems.{bracket-behind, led-name, led-values, no-values-behind}
-use Rattle.document.specs.NameFaults.{bracketLabels, leadingName}
-use Rattle.document.specs.ValueFaults.{bracketValues, plainValues, valuesBehindLabel}
-use Rattle.form.specs.Form.{Item, labelled, plain}
-use Rattle.form.specs.Walks.{cellAt, cellEndAt, cellLabelIn, cellsAt, firstIn, isLabelledAt, itemAt, itemEndAt, itemsAt, listAt, listUpTo, plainAt}
-use Rattle.lists.proofs.ListLaws.{map-inv}
-use Rattle.text.specs.Names.{isName}
-use Rattle.text.specs.Walking.{wordEndAt, writtenEndAt}
-use Rattle.text.specs.Words.{Word, wordAt, wordOf, writtenOf}
 
 -- ---- values without labels
 
@@ -73,20 +76,29 @@ module _ (s : List ℕ) (at : ℕ) (ws : List Word) (h : bracketValues (itemsAt 
   unfolding itemsAt cellsAt listAt
   bracket-labels = bracket-upTo s (length s) at ws h .labels
 
--- ---- a label in front of the values: the first item is a name, and the others are values
+-- ---- a label in front of the values: the first item is a name, and the others are read as the scheme says
 
-pub record Leading (s : List ℕ) (at : ℕ) (ws : List Word) : Type 0 where
+pub record Leading (values : List Item → Option (List Word)) (s : List ℕ) (at : ℕ) (ws : List Word) : Type 0 where
   pub label : leadingName (itemsAt s at) ≡ wordOf s (at + 1) ∷ []
-  pub values : ws ≡ plainAt s (wordEndAt s (at + 1))
+  pub behind : values (itemsAt s (wordEndAt s (at + 1))) ≡ some ws
+  pub brackets : bracketLabels (itemsAt s at) ≡ bracketLabels (itemsAt s (wordEndAt s (at + 1)))
 
-module _ (s : List ℕ) (at : ℕ) (ws : List Word) (h : valuesBehindLabel (itemsAt s at) ≡ some ws) where
+-- the brackets' labels are those of the items behind the first
+pub brackets-behind : (s : List ℕ) (at : ℕ) → getD s at 0 ≡ 32 → (getD s (at + 1) 0 ≡ 40 → ⊥) → bracketLabels (itemsAt s at) ≡ bracketLabels (itemsAt s (wordEndAt s (at + 1)))
+unfolding bracketLabels
+brackets-behind s at g o =
+    ap bracketLabels (items-more s at g)
+    ∙ ap (λ i. bracketLabels (i ∷ itemsAt s (itemEndAt s (at + 1)))) (item-plain s (at + 1) (unopened-unlabelled s (at + 1) o))
+    ∙ ap (λ n. bracketLabels (itemsAt s n)) (item-plain-end s (at + 1) (unopened-unlabelled s (at + 1) o) ∙ written-end s (at + 1) o)
+
+module _ (values : List Item → Option (List Word)) (s : List ℕ) (at : ℕ) (ws : List Word) (h : valuesBehindLabel values (itemsAt s at) ≡ some ws) where
   pub leading-space : (getD s at 0 ≡ 32 → ⊥) → ⊥
-  leading-space g = Option·none-ne-some ws (sym (no-values-behind s at g) ∙ h)
+  leading-space g = Option·none-ne-some ws (sym (no-values-behind s at values g) ∙ h)
 
-  pub leading : getD s at 0 ≡ 32 → Leading s at ws
+  pub leading : getD s at 0 ≡ 32 → Leading values s at ws
   leading g = go (eqb (getD s (at + 1) 0) 40) refl (isName (wordAt s (at + 1))) refl
     where
-      go : (o : Bool) → eqb (getD s (at + 1) 0) 40 ≡ o → (n : Bool) → isName (wordAt s (at + 1)) ≡ n → Leading s at ws
-      go true o n e = absurd (Option·none-ne-some ws (sym (bracket-behind s at g (eqb-true _ _ o)) ∙ h))
-      go false o false e = absurd (Option·none-ne-some ws (sym (led-values s at g (eqb-false _ _ o) false e) ∙ h))
-      go false o true e = record { label = led-name s at g (eqb-false _ _ o) true e; values = plain-values s (wordEndAt s (at + 1)) ws (sym (led-values s at g (eqb-false _ _ o) true e) ∙ h) }
+      go : (o : Bool) → eqb (getD s (at + 1) 0) 40 ≡ o → (n : Bool) → isName (wordAt s (at + 1)) ≡ n → Leading values s at ws
+      go true o n e = absurd (Option·none-ne-some ws (sym (bracket-behind s at values g (eqb-true _ _ o)) ∙ h))
+      go false o false e = absurd (Option·none-ne-some ws (sym (led-values s at g (eqb-false _ _ o) false e values) ∙ h))
+      go false o true e = record { label = led-name s at g (eqb-false _ _ o) true e; behind = sym (led-values s at g (eqb-false _ _ o) true e values) ∙ h; brackets = brackets-behind s at g (eqb-false _ _ o) }

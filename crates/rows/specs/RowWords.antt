@@ -1,10 +1,6 @@
 -- Contract: the words of a row's items by the positions where they stand.
 use Prim.Native.Nat.{ℕ}
-use mathlib.Core.Bool.{Bool, false, true}
 use mathlib.Core.List.{List}
-use mathlib.Core.Option.{Option}
-use Rattle.document.specs.ValueFaults.{bracketValues, plainValues}
-use Rattle.form.specs.Form.{Item}
 use Rattle.form.specs.Walks.{cellLabelIn, itemEndAt, listAt, valuePlace}
 use Rattle.text.specs.Words.{Word, wordOf, writtenOf}
 
@@ -19,8 +15,3 @@ valuesAt s at = listAt itemValueAt itemEndAt s at
 -- the label of the bracket at a position
 unfoldable pub labelAt : List ℕ → ℕ → Word
 labelAt s at = wordOf s (cellLabelIn s at)
-
--- the values of items that are all brackets (true), or all without one (false)
-unfoldable pub shapedValues : Bool → List Item → Option (List Word)
-shapedValues true is = bracketValues is
-shapedValues false is = plainValues is

@@ -16,6 +16,8 @@ use form::walks::value_place;
 use relations::labels::find_label;
 use relations::tables::column_kind;
 use relations::tables::find_table;
+use relations::tables::has_brackets;
+use relations::tables::leads_label;
 use relations::tables::table_scheme;
 use relations::tables::table_width;
 use stepping::fault::Fault;
@@ -34,6 +36,7 @@ use workspace::layout::TABLE_CELLS;
 ghost use Prim.Native.Nat.{_<_, ℕ};
 ghost use lib.Dec.{eqb};
 ghost use lib.ListN.{length};
+ghost use mathlib.Core.Bool.{cond};
 ghost use mathlib.Core.List.{List, [], _∷_};
 ghost use mathlib.Core.Option.{some};
 ghost use mathlib.Core.Path.{_≡_};
@@ -45,6 +48,7 @@ ghost use Rattle.document.specs.NameFaults.{bracketLabels, leadingName, rowLabe
 ghost use Rattle.document.specs.Policy.{Policy};
 ghost use Rattle.document.specs.TypeFaults.{cellHasKind, mistypedValue};
 ghost use Rattle.document.specs.ValueFaults.{rowValues};
+ghost use Rattle.form.specs.Form.{hasBrackets, leadsLabel};
 ghost use Rattle.stepping.specs.Places.{Near};
 ghost use Rattle.rows.specs.RowWords.{labelAt, valuesAt};
 ghost use Rattle.form.specs.Walks.{itemAt, itemsAt};
@@ -61,26 +65,21 @@ ghost use Rattle.rows.specs.Promises.{DatesJudged, RowFaultPromise};
 fn row_fits(scheme: Scheme, line: &[u8], at: usize, width: usize) -> bool
     ensures { λ r. ⌜ ((l : ℕ) (ls : List ℕ) → r ≡ holdsOf (λ ws. eqb (length ws) width) (rowValues (schemeBy scheme l ls) (itemsAt (now (line .entry)) at))) ⌝ }
 {
-    match scheme {
-        Scheme::Unlabelled => values_fit(line, at, false, width),
-        Scheme::ByTable => values_fit(line, at, false, width),
-        Scheme::ByColumn => values_fit(line, at, false, width),
-        Scheme::ByRow => led_values_fit(line, at, width),
-        Scheme::ByCell => values_fit(line, at, true, width),
+    let bracketed = has_brackets(scheme);
+    if leads_label(scheme) {
+        return led_values_fit(line, at, bracketed, width);
     }
+    values_fit(line, at, bracketed, width)
 }
 
 // Where the items that have the values begin, of those from a position on.
 pub fn values_start(scheme: Scheme, line: &[u8], at: usize) -> usize
     ensures { λ r. ⌜ ((l : ℕ) (ls : List ℕ) (ws : List Word) → rowValues (schemeBy scheme l ls) (itemsAt (now (line .entry)) at) ≡ some ws → valuesAt (now (line .entry)) r ≡ ws) ⌝ }
 {
-    match scheme {
-        Scheme::Unlabelled => at,
-        Scheme::ByTable => at,
-        Scheme::ByColumn => at,
-        Scheme::ByRow => behind_first(line, at),
-        Scheme::ByCell => at,
+    if leads_label(scheme) {
+        return behind_first(line, at);
     }
+    at
 }
 
 // Whether a range stands at a position.
@@ -248,6 +247,40 @@ fn leading_unknown(
     }
 }
 
+// The same where rows of the scheme lead with a label; else nothing.
+fn unknown_lead(
+    scheme: Scheme,
+    text: &[u8],
+    labels: &[usize; LABELS],
+    k: usize,
+    line: &[u8],
+    at: usize,
+) -> Offending
+    ensures { λ r. ⌜ ((sets : List ℕ) (d : Policy) (l : ℕ) (ls : List ℕ) → Labels (now (text .entry)) (now (labels .entry)) sets k (d .labels) → offendingOf (now (line .entry)) r ≡ missing (λ w. there (labelOf d w)) (cond (leadsLabel (schemeBy scheme l ls)) (leadingName (itemsAt (now (line .entry)) at)) [])) × Near (now (line .entry)) r ⌝ }
+{
+    if leads_label(scheme) {
+        return leading_unknown(text, labels, k, line, at);
+    }
+    Offending::Nothing
+}
+
+// The first bracket's label that is not known, where rows of the scheme have brackets; else nothing.
+fn unknown_bracket(
+    scheme: Scheme,
+    text: &[u8],
+    labels: &[usize; LABELS],
+    k: usize,
+    line: &[u8],
+    at: usize,
+) -> Offending
+    ensures { λ r. ⌜ ((sets : List ℕ) (d : Policy) (l : ℕ) (ls : List ℕ) → Labels (now (text .entry)) (now (labels .entry)) sets k (d .labels) → offendingOf (now (line .entry)) r ≡ missing (λ w. there (labelOf d w)) (cond (hasBrackets (schemeBy scheme l ls)) (bracketLabels (itemsAt (now (line .entry)) at)) [])) × Near (now (line .entry)) r ⌝ }
+{
+    if has_brackets(scheme) {
+        return first_unknown_label(text, labels, k, line, at);
+    }
+    Offending::Nothing
+}
+
 // The first label that the items from a position on use by the scheme, and that is not known.
 fn unknown_label(
     scheme: Scheme,
@@ -259,12 +292,10 @@ fn unknown_label(
 ) -> Offending
     ensures { λ r. ⌜ ((sets : List ℕ) (d : Policy) (l : ℕ) (ls : List ℕ) → Labels (now (text .entry)) (now (labels .entry)) sets k (d .labels) → offendingOf (now (line .entry)) r ≡ missing (λ w. there (labelOf d w)) (rowLabels (schemeBy scheme l ls) (itemsAt (now (line .entry)) at))) × Near (now (line .entry)) r ⌝ }
 {
-    match scheme {
-        Scheme::Unlabelled => Offending::Nothing,
-        Scheme::ByTable => Offending::Nothing,
-        Scheme::ByColumn => Offending::Nothing,
-        Scheme::ByRow => leading_unknown(text, labels, k, line, at),
-        Scheme::ByCell => first_unknown_label(text, labels, k, line, at),
+    let first = unknown_lead(scheme, text, labels, k, line, at);
+    match first {
+        Offending::At(p) => Offending::At(p),
+        Offending::Nothing => unknown_bracket(scheme, text, labels, k, line, at),
     }
 }
 

@@ -8,13 +8,14 @@ use text::words::word_end;
 ghost use Prim.Native.Nat.{_+_};
 ghost use lib.Dec.{eqb};
 ghost use lib.ListN.{getD, length};
-ghost use mathlib.Core.Bool.{cond, false, not, true};
+ghost use mathlib.Core.Bool.{Bool, cond, false, not, true};
 ghost use mathlib.Core.List.{List, []};
-ghost use mathlib.Core.Option.{none, some};
+ghost use mathlib.Core.Option.{Option, none, some};
 ghost use mathlib.Core.Path.{_≡_};
 ghost use Rattle.document.specs.NameFaults.{leadingName};
-ghost use Rattle.document.specs.ValueFaults.{valuesBehindLabel};
-ghost use Rattle.rows.specs.RowWords.{shapedValues, valuesAt};
+ghost use Rattle.document.specs.ValueFaults.{shapedValues, valuesBehindLabel};
+ghost use Rattle.rows.specs.RowWords.{valuesAt};
+ghost use Rattle.form.specs.Form.{Item};
 ghost use Rattle.form.specs.Walks.{isLabelledAt, itemsAt};
 ghost use Rattle.lists.specs.Lists.{holdsOf};
 ghost use Rattle.text.specs.Names.{isName};
@@ -49,7 +50,7 @@ pub(crate) fn values_fit(line: &[u8], at: usize, bracketed: bool, width: usize) 
 
 // Whether the first item from a position on is a name without a bracket.
 pub(crate) fn leads(line: &[u8], at: usize) -> bool
-    ensures { λ r. ⌜ (r ≡ true → (getD (now (line .entry)) at 0 ≡ 32) × (getD (now (line .entry)) (at + 1) 0 ≡ 40 → ⊥) × (isName (wordAt (now (line .entry)) (at + 1)) ≡ true)) × (r ≡ false → (leadingName (itemsAt (now (line .entry)) at) ≡ []) × (valuesBehindLabel (itemsAt (now (line .entry)) at) ≡ none)) ⌝ }
+    ensures { λ r. ⌜ (r ≡ true → (getD (now (line .entry)) at 0 ≡ 32) × (getD (now (line .entry)) (at + 1) 0 ≡ 40 → ⊥) × (isName (wordAt (now (line .entry)) (at + 1)) ≡ true)) × (r ≡ false → (leadingName (itemsAt (now (line .entry)) at) ≡ []) × ((values : List Item → Option (List Word)) → valuesBehindLabel values (itemsAt (now (line .entry)) at) ≡ none)) ⌝ }
 {
     if byte_at(line, at) != b' ' {
         return false;
@@ -64,19 +65,19 @@ pub(crate) fn leads(line: &[u8], at: usize) -> bool
     }
 }
 
-// Whether the first item is a name without a bracket, and those behind it are without brackets and as many as this.
-pub(crate) fn led_values_fit(line: &[u8], at: usize, width: usize) -> bool
-    ensures { λ r. ⌜ r ≡ holdsOf (λ ws. eqb (length ws) width) (valuesBehindLabel (itemsAt (now (line .entry)) at)) ⌝ }
+// Whether the first item is a name without a bracket, and those behind it are all shaped so, and as many as this.
+pub(crate) fn led_values_fit(line: &[u8], at: usize, bracketed: bool, width: usize) -> bool
+    ensures { λ r. ⌜ r ≡ holdsOf (λ ws. eqb (length ws) width) (valuesBehindLabel (shapedValues bracketed) (itemsAt (now (line .entry)) at)) ⌝ }
 {
     if leads(line, at) {
-        return values_fit(line, word_end(line, at + 1), false, width);
+        return values_fit(line, word_end(line, at + 1), bracketed, width);
     }
     false
 }
 
 // Where the items behind the first begin.
 pub fn behind_first(line: &[u8], at: usize) -> usize
-    ensures { λ r. ⌜ ((ws : List Word) → valuesBehindLabel (itemsAt (now (line .entry)) at) ≡ some ws → valuesAt (now (line .entry)) r ≡ ws) ⌝ }
+    ensures { λ r. ⌜ ((b : Bool) (ws : List Word) → valuesBehindLabel (shapedValues b) (itemsAt (now (line .entry)) at) ≡ some ws → valuesAt (now (line .entry)) r ≡ ws) ⌝ }
 {
     if byte_at(line, at) == b' ' {
         return item_end_at(line, at + 1);

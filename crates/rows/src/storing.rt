@@ -1,5 +1,4 @@
 // Storing a row: its values and labels one by one, and then the row.
-use form::lines::Scheme;
 use form::walks::cell_end;
 use form::walks::cell_label;
 use form::walks::first_in;
@@ -8,12 +7,15 @@ use relations::rows::add_row;
 use relations::rows::set_label;
 use relations::rows::set_value;
 use relations::tables::find_table;
+use relations::tables::has_brackets;
+use relations::tables::leads_label;
 use relations::tables::table_scheme;
 use stepping::places::number;
 use stepping::places::place;
 use text::bytes::byte_at;
 use text::words::word_end;
 use text::words::written_end;
+use workspace::layout::COLUMNS;
 use workspace::layout::LABELS;
 use workspace::layout::ROW_CELLS;
 use workspace::layout::TABLE_CELLS;
@@ -28,7 +30,7 @@ ghost use Rattle.form.specs.Walks.{itemsAt, plainAt};
 ghost use Rattle.relations.specs.Rows.{FillingRow, Rows};
 ghost use Rattle.stepping.specs.Stored.{LineAt, RowFilled};
 ghost use Rattle.text.specs.Words.{Word};
-ghost use Rattle.rows.specs.Promises.{StoreByCellPromise, StoreByRowPromise, StoreCellsPromise, StoreRowPromise};
+ghost use Rattle.rows.specs.Promises.{StoreByCellPromise, StoreByRowPromise, StoreCellsPromise, StoreNestedPromise, StoreRowPromise};
 
 // Stores the values that stand from a place of the line on as those of row k, and gives their number.
 fn store_values(
@@ -53,7 +55,8 @@ fn store_values(
     c
 }
 
-// Stores the cells `(v L)` that stand from a place of the line on as the values and labels of row k, and gives their number.
+// Stores the cells `(v L)` that stand from a place of the line on as the values of row k and its labels behind m of them, and gives their
+// number.
 fn store_cells(
     text: &[u8],
     labels: &[usize; LABELS],
@@ -63,8 +66,10 @@ fn store_cells(
     at: usize,
     line: &[u8],
     is: usize,
+    m: usize,
 ) -> usize
-    ensures { λ r. ⌜ StoreCellsPromise (now (text .entry)) (now (labels .entry)) «labels_count» (now (rows .entry)) (now (rows .exit)) k at (now (line .entry)) is r ⌝ }
+    requires { ⌜ m ≤ 1 ⌝ }
+    ensures { λ r. ⌜ StoreCellsPromise (now (text .entry)) (now (labels .entry)) «labels_count» (now (rows .entry)) (now (rows .exit)) k at (now (line .entry)) is m r ⌝ }
 {
     let mut c: usize = 0;
     let mut j = is;
@@ -74,7 +79,7 @@ fn store_cells(
         let label = number(find_label(text, labels, labels_count, line, q));
         let pos = place(text, at, w);
         set_value(rows, k, c, pos);
-        set_label(rows, k, c, label);
+        set_label(rows, k, m + c, label);
         j = cell_end(line, j + 1);
         c += 1;
     }
@@ -134,8 +139,42 @@ fn store_by_cell(
 )
     ensures { λ _. ⌜ StoreByCellPromise (now (text .entry)) (now (labels .entry)) «labels_count» (now (rows .entry)) (now (rows .exit)) k at (now (line .entry)) table is ⌝ }
 {
-    let n = store_cells(text, labels, labels_count, rows, k, at, line, is);
+    let n = store_cells(text, labels, labels_count, rows, k, at, line, is, 0);
     add_row(rows, k, table, n, n);
+}
+
+// One more than the values of a row.
+fn one_more(n: usize) -> usize
+    ensures { λ r. ⌜ (n ≤ 16 → r ≡ n + 1) ⌝ }
+{
+    if n <= COLUMNS {
+        return n + 1;
+    }
+    n
+}
+
+// Stores row k of a table, with the label that stands first from a place of the line on, and the values behind it with a label at each.
+fn store_nested(
+    text: &[u8],
+    labels: &[usize; LABELS],
+    labels_count: usize,
+    rows: &mut [usize; ROW_CELLS],
+    k: usize,
+    at: usize,
+    line: &[u8],
+    table: usize,
+    is: usize,
+)
+    ensures { λ _. ⌜ StoreNestedPromise (now (text .entry)) (now (labels .entry)) «labels_count» (now (rows .entry)) (now (rows .exit)) k at (now (line .entry)) table is ⌝ }
+{
+    if byte_at(line, is) == b' ' {
+        let w = is + 1;
+        let label = number(find_label(text, labels, labels_count, line, w));
+        set_label(rows, k, 0, label);
+        let e = word_end(line, w);
+        let n = store_cells(text, labels, labels_count, rows, k, at, line, e, 1);
+        add_row(rows, k, table, n, one_more(n));
+    }
 }
 
 // Stores the row of the table of the name at t of the line, behind k of them, with the items from `is` on.
@@ -156,21 +195,18 @@ pub fn store_row(
 {
     let table = number(find_table(text, tables, tables_count, line, t));
     let scheme = table_scheme(tables, table);
-    match scheme {
-        Scheme::Unlabelled => {
-            store_plain(text, rows, k, at, line, table, is);
-        }
-        Scheme::ByTable => {
-            store_plain(text, rows, k, at, line, table, is);
-        }
-        Scheme::ByColumn => {
-            store_plain(text, rows, k, at, line, table, is);
-        }
-        Scheme::ByRow => {
+    let bracketed = has_brackets(scheme);
+    if leads_label(scheme) {
+        if bracketed {
+            store_nested(text, labels, labels_count, rows, k, at, line, table, is);
+        } else {
             store_by_row(text, labels, labels_count, rows, k, at, line, table, is);
         }
-        Scheme::ByCell => {
+    } else {
+        if bracketed {
             store_by_cell(text, labels, labels_count, rows, k, at, line, table, is);
+        } else {
+            store_plain(text, rows, k, at, line, table, is);
         }
     }
 }

@@ -13,7 +13,7 @@ use Rattle.authority.specs.Authorities.{Authorities}
 use Rattle.document.specs.Lookup.{purposeOf}
 use Rattle.document.specs.Policy.{Doc, Node, Policy, treeOf}
 use Rattle.workspace.proofs.TabulatedLaws.{length-tabulated}
-use Rattle.relations.specs.Labels.{Opened}
+use Rattle.relations.specs.Labels.{Said}
 use Rattle.principals.specs.Nodes.{Nodes, nodeIn}
 use Rattle.lists.specs.Lists.{orZero}
 use Rattle.purpose.specs.Compliance.{inTree}
@@ -39,9 +39,9 @@ module _ {text ps rs bs us cs gs ms ts ws : List ℕ} {c : Counts} {d : Doc} (h 
   authorities = record { formed = h .formed; roles = h .indexed .roles; attributes = h .indexed .attributes; users = h .indexed .users; conds = h .indexed .conds; grants = h .indexed .grants }
 
   -- so much as the answer needs
-  pub granted : {os : List Bool} {s : List ℕ} {q : Question} {p : ℕ} → IsQuery s q → purposeOf (d .policy) (formAt s q .purpose) ≡ some p → Opened (d .policy) p os → Granted text ts ws c os s q d
+  pub granted : {os : List Bool} {s : List ℕ} {q : Question} {p : ℕ} → IsQuery s q → purposeOf (d .policy) (formAt s q .purpose) ≡ some p → Said (d .policy) p os → Granted text ts ws c os s q d
   unfolding orZero
-  granted {os} i e o = record { small = h .small; tables = h .indexed .tables; notes = h .indexed .notes; rows = h .indexed .rows; opened = subst (λ n. Opened (d .policy) n os) (sym (ap orZero e)) o; query = i }
+  granted {os} i e o = record { small = h .small; tables = h .indexed .tables; notes = h .indexed .notes; rows = h .indexed .rows; said = subst (λ n. Said (d .policy) n os) (sym (ap orZero e)) o; query = i }
 
 -- the number of a purpose that was found lies in the tree
 pub in-tree : {text ws : List ℕ} {k p : ℕ} {ns : List Node} → Nodes limit text ws k ns → p < k → inTree (treeOf ns) p ≡ true

@@ -1,5 +1,48 @@
 -- A query prepared for the rows: its columns by number, its comparisons by the places of their operators. Assumes nothing.
 use Prim.Native.Nat.{_+_, _≤_, ℕ}
+use Rattle.answer.specs.Ranged.{hasRange, rangedColumn, rangedWord}
+use Rattle.condition.specs.Cond.{comparisonsIn, mapCond}
+use Rattle.condition.specs.CondForm.{Compared, mistyped}
+use Rattle.document.specs.Lookup.{columnKind, columnOf, columnsAt, columnsOf, labellingAt, labellingOf, notesOf, purposeOf, schemeAt, tableOf}
+use Rattle.document.specs.Open.{columnOpen, openTo, tableOpen}
+use Rattle.document.specs.Policy.{Column, Doc, Policy}
+use Rattle.form.specs.Form.{Scheme}
+use Rattle.index.specs.declared.counts.Counts.{Counts}
+use Rattle.judging.proofs.OpenCells.{marks-told}
+use Rattle.judging.specs.Marking.{MarkingOf, Marks}
+use Rattle.judging.specs.Prepared.{Prepared, firstWithholding, wantedBy}
+use Rattle.judging.specs.Reading.{Comparable, TestsRead, firstMissing, firstWrong}
+use Rattle.judging.specs.Tests.{Tested}
+use Rattle.judging.specs.declared.marking.Marking.{Marking}
+use Rattle.judging.specs.declared.sought.Sought.{Sought}
+use Rattle.lists.proofs.ListLaws.{all-map, all-parts, map-append, map-map}
+use Rattle.lists.specs.Lists.{allOf, orZero, there}
+use Rattle.query.proofs.BodiesRead as body
+use Rattle.query.proofs.BodiesRead.{gaps-are, mode-is, ranges-are, wanted-count}
+use Rattle.query.proofs.NamedColumns.{columnNumber, names-parts, parts-open, withholding-words}
+use Rattle.query.proofs.Sources.{named-words-are, withholding-words-are, withholdingWords}
+use Rattle.query.proofs.WantedLaws.{mode-map}
+use Rattle.query.specs.Naming.{NamesPlaced, TestsPlaced, wordsAt}
+use Rattle.query.specs.Query.{NamesParts, PartsOpen, closedPart, columnComparison, missingDate, mistypedQuery, openFor, resolved, sourceOf, unknownColumn, wantedOf}
+use Rattle.query.specs.QueryForm.{QueryForm, admitsRanges, countsOnly, hasGaps, leavesGaps, mapWanted, modeIn, modeOf, namedWords, rowsOf, selected, selectedWords, takesRanges}
+use Rattle.query.specs.QueryPlaces.{IsQuery, asksRows, chosenCount, comparisonCount, conditionAt, formAt, verbIn, verbOf, wantedAt}
+use Rattle.query.specs.declared.reading.Question.{Question}
+use Rattle.query.specs.declared.reading.Verb.{Verb}
+use Rattle.relations.specs.Labels.{Said}
+use Rattle.relations.specs.Tables.{Tables}
+use Rattle.resolving.specs.Resolved.{Resolves}
+use Rattle.stages.proofs.Chain.{no-value, no-word, number-found}
+use Rattle.stages.specs.Promises.{plainAt}
+use Rattle.stages.specs.Stages.{ColumnsKnown, Granted, InTable, soughtIn}
+use Rattle.text.proofs.OffendingLaws.{leftmost-only, missing-none}
+use Rattle.text.specs.CodeEnds.{offendingOf, offendingValue}
+use Rattle.text.specs.Offending.{leftmost, missing, unless}
+use Rattle.text.specs.Words.{Word, wordOf}
+use Rattle.text.specs.declared.offending.Offending.the-variants as offending
+use Rattle.text.specs.declared.offending.Offending.{Offending}
+use Rattle.workspace.specs.Found.{FoundBelow, foundAs}
+use Rattle.workspace.specs.declared.found.Found.the-variants as found
+use Rattle.workspace.specs.declared.found.Found.{Found}
 use lib.ListN.{drop, length, length-append, length-map, take, take-append-drop}
 use lib.Seq.{drop-at, take-at}
 use mathlib.Core.Bool.{Bool, cond, false, not, true}
@@ -7,46 +50,6 @@ use mathlib.Core.List.{List, [], _++_, _∷_, append-assoc, map}
 use mathlib.Core.Option.{Option, Option·map, none, some}
 use mathlib.Core.Path.{_∙_, _≡_, ap, refl, subst, sym}
 use native.Mathlib.Omega.{arith}
-use Rattle.answer.specs.Ranged.{hasRange, rangedColumn, rangedWord}
-use Rattle.condition.specs.Cond.{comparisonsIn, mapCond}
-use Rattle.condition.specs.CondForm.{Compared, mistyped}
-use Rattle.document.specs.Lookup.{columnKind, columnOf, columnsAt, columnsOf, labellingAt, labellingOf, purposeOf, tableOf}
-use Rattle.document.specs.Open.{columnOpen, labelOpen, tableOpen}
-use Rattle.document.specs.Policy.{Column, Doc, Policy}
-use Rattle.form.specs.Form.{Scheme}
-use Rattle.workspace.specs.Found.{FoundBelow, foundAs}
-use Rattle.relations.specs.Labels.{Opened}
-use Rattle.relations.specs.Tables.{Tables}
-use Rattle.judging.specs.Prepared.{Prepared, firstWithholding, wantedBy}
-use Rattle.judging.specs.Reading.{Comparable, TestsRead, firstMissing, firstWrong}
-use Rattle.judging.specs.Tests.{Tested}
-use Rattle.lists.proofs.ListLaws.{all-map, all-parts, map-append, map-map}
-use Rattle.lists.specs.Lists.{allOf, orZero, there}
-use Rattle.query.proofs.BodiesRead as body
-use Rattle.query.proofs.BodiesRead.{gaps-are, mode-is, ranges-are, wanted-count}
-use Rattle.query.proofs.WantedLaws.{mode-map}
-use Rattle.query.proofs.NamedColumns.{columnNumber, names-parts, parts-open, withholding-words}
-use Rattle.query.proofs.Sources.{named-words-are, withholding-words-are, withholdingWords}
-use Rattle.query.specs.Naming.{NamesPlaced, TestsPlaced, wordsAt}
-use Rattle.query.specs.Query.{NamesParts, PartsOpen, closedPart, columnComparison, missingDate, mistypedQuery, openFor, resolved, sourceOf, unknownColumn, wantedOf}
-use Rattle.query.specs.QueryForm.{QueryForm, admitsRanges, countsOnly, hasGaps, leavesGaps, mapWanted, modeIn, modeOf, namedWords, rowsOf, selected, selectedWords, takesRanges}
-use Rattle.query.specs.QueryPlaces.{IsQuery, asksRows, chosenCount, comparisonCount, conditionAt, formAt, verbIn, verbOf, wantedAt}
-use Rattle.resolving.specs.Resolved.{Resolves}
-use Rattle.text.specs.CodeEnds.{offendingOf, offendingValue}
-use Rattle.stages.proofs.Chain.{no-value, no-word, number-found}
-use Rattle.stages.specs.Promises.{plainAt}
-use Rattle.stages.specs.Stages.{ColumnsKnown, Granted, InTable, soughtIn}
-use Rattle.text.proofs.OffendingLaws.{leftmost-only, missing-none}
-use Rattle.text.specs.Offending.{leftmost, missing, unless}
-use Rattle.text.specs.Words.{Word, wordOf}
-use Rattle.index.specs.declared.counts.Counts.{Counts}
-use Rattle.workspace.specs.declared.found.Found.{Found}
-use Rattle.workspace.specs.declared.found.Found.the-variants as found
-use Rattle.judging.specs.declared.sought.Sought.{Sought}
-use Rattle.query.specs.declared.reading.Question.{Question}
-use Rattle.query.specs.declared.reading.Verb.{Verb}
-use Rattle.text.specs.declared.offending.Offending.{Offending}
-use Rattle.text.specs.declared.offending.Offending.the-variants as offending
 
 -- ---- a list whose first n are two lists joined
 
@@ -116,7 +119,7 @@ module _ {d : Policy} {s : List ℕ} (q : Question) {t k n : ℕ} {places ops nu
 
   -- what is closed to purpose p, where y is the table's scheme with its notes and ys are its columns
   abbrev closed : ℕ → Scheme ℕ → List Column → List Word → Option Word
-  closed p y ys ws = leftmost (unless (tableOpen (labelOpen d p) y) (wordOf s (q .head .table)) ∷ missing (λ w. columnOpen (labelOpen d p) y (orZero (columnOf ys w))) ws ∷ [])
+  closed p y ys ws = leftmost (unless (tableOpen (openTo d p) y) (wordOf s (q .head .table)) ∷ missing (λ w. columnOpen (openTo d p) y (orZero (columnOf ys w))) ws ∷ [])
 
   abbrev purpose-of : ℕ
   purpose-of = orZero (purposeOf d (formAt s q .purpose))
@@ -129,8 +132,8 @@ module _ {d : Policy} {s : List ℕ} (q : Question) {t k n : ℕ} {places ops nu
       ∙ ap (λ y. closed purpose-of y (columnsOf d (wordOf s (q .head .table))) (namedWords (formAt s q))) (sym (labelling-is table))
 
   -- 17: what is closed is what the definition says
-  pub parts-judged : x ≡ offending.Nothing → (y : Offending) {os : List Bool} → Opened d purpose-of os
-      → (n ≤ 80 → Opened d purpose-of os → take n numbers ≡ map (λ w. orZero (columnOf (columnsAt d t) w)) (wordsAt s n places) → offendingOf s y ≡ closed purpose-of (labellingAt d t) (columnsAt d t) (wordsAt s n places))
+  pub parts-judged : x ≡ offending.Nothing → (y : Offending) {os : List Bool} → Said d purpose-of os
+      → (n ≤ 80 → Said d purpose-of os → take n numbers ≡ map (λ w. orZero (columnOf (columnsAt d t) w)) (wordsAt s n places) → offendingOf s y ≡ closed purpose-of (labellingAt d t) (columnsAt d t) (wordsAt s n places))
       → offendingOf s y ≡ closedPart d (formAt s q)
   parts-judged e y o f = f (placed .small) o (r .numbered e) ∙ parts-are
 
@@ -154,9 +157,9 @@ module _ (d : Doc) {s : List ℕ} (q : Question) {t k n : ℕ} {places ops numbe
   ranges-judged e y b is f = f (placed .small) (r .numbered e) ∙ ap (λ (z : Bool). cond z none (missing (plainAt d t) (wordsAt s n places))) is ∙ ranged-are
 
 -- what is sought is asked for as the question says
-pub verb-is : (q : Question) (t : ℕ) {g : Sought} → g ≡ soughtIn q t → takesRanges (verbOf (g .verb)) ≡ takesRanges (verbOf (verbIn (q .wanted)))
+pub verb-is : (q : Question) (t : ℕ) {g : Sought} (m : Marking) → g ≡ soughtIn q t m → takesRanges (verbOf (g .verb)) ≡ takesRanges (verbOf (verbIn (q .wanted)))
 unfolding soughtIn
-verb-is q t e = ap (λ (g : Sought). takesRanges (verbOf (g .verb))) e
+verb-is q t m e = ap (λ (g : Sought). takesRanges (verbOf (g .verb))) e
 
 -- what is asked for, by the numbers of the columns
 wanted-by : (ws : List Word) (ys : List Column) (b : Bool) (v : Verb) (ns : List ℕ) → ns ≡ map (λ w. orZero (columnOf ys w)) ws → wantedOf ys (cond b (rowsOf (verbOf v) ws) countsOnly) ≡ wantedBy b v ns
@@ -218,9 +221,9 @@ module _ {d : Policy} {s : List ℕ} (q : Question) {t k : ℕ} {numbers ops : L
       ∙ all-parts (λ w. there (columnOf (columnsAt d t) w)) selected-words compared-words (ap (allOf (λ w. there (columnOf (columnsAt d t) w))) (sym words-are) ∙ columns .allThere) .1
 
   -- the comparisons can be read, g being what is sought as the code finds it
-  pub comparable : {g : Sought} {text ts : List ℕ} → g ≡ soughtIn q t → Tables text ts k (d .tables) → Comparable text ts s g ops numbers d
+  pub comparable : {g : Sought} {text ts : List ℕ} (m : Marking) → g ≡ soughtIn q t m → Tables text ts k (d .tables) → Comparable text ts s g ops numbers d
   unfolding soughtIn
-  comparable {text} {ts} e held = subst (λ g. Comparable text ts s g ops numbers d) (sym e) (record {
+  comparable {text} {ts} m e held = subst (λ g. Comparable text ts s g ops numbers d) (sym e) (record {
     tableCount = k;
     tables = held;
     inside = table .inside;
@@ -236,17 +239,17 @@ module _ {d : Policy} {s : List ℕ} (q : Question) {t k : ℕ} {numbers ops : L
   unfolding mistypedQuery formAt
   types-are = ap (λ ys. leftmost (map (λ x. mistyped (columnKind ys (x .of)) x) comparisons)) (sym (columns-are table))
 
-  pub types-judged : {g : Sought} {ws : List ℕ} (x : Offending) → g ≡ soughtIn q t → TestsRead s g ws (columnsAt d (g .table)) → (g .tests ≤ 64 → offendingValue s x ≡ firstWrong s ws (g .tests)) → offendingValue s x ≡ mistypedQuery d (formAt s q)
+  pub types-judged : {g : Sought} {ws : List ℕ} (x : Offending) (m : Marking) → g ≡ soughtIn q t m → TestsRead s g ws (columnsAt d (g .table)) → (g .tests ≤ 64 → offendingValue s x ≡ firstWrong s ws (g .tests)) → offendingValue s x ≡ mistypedQuery d (formAt s q)
   unfolding soughtIn
-  types-judged {ws} x e r h =
+  types-judged {ws} x m e r h =
       subst (λ g. g .tests ≤ 64 → offendingValue s x ≡ firstWrong s ws (g .tests)) e h (tests .few)
       ∙ subst (λ g. TestsRead s g ws (columnsAt d (g .table))) e r .wrong
       ∙ types-are
 
   -- 31: which date does not exist is what the definition says
-  pub dates-judged : {g : Sought} {ws : List ℕ} (x : Offending) → g ≡ soughtIn q t → TestsRead s g ws (columnsAt d (g .table)) → (g .tests ≤ 64 → offendingValue s x ≡ firstMissing s ws (g .tests)) → offendingValue s x ≡ missingDate (formAt s q)
+  pub dates-judged : {g : Sought} {ws : List ℕ} (x : Offending) (m : Marking) → g ≡ soughtIn q t m → TestsRead s g ws (columnsAt d (g .table)) → (g .tests ≤ 64 → offendingValue s x ≡ firstMissing s ws (g .tests)) → offendingValue s x ≡ missingDate (formAt s q)
   unfolding soughtIn missingDate formAt
-  dates-judged {ws} x e r h =
+  dates-judged {ws} x m e r h =
       subst (λ g. g .tests ≤ 64 → offendingValue s x ≡ firstMissing s ws (g .tests)) e h (tests .few)
       ∙ subst (λ g. TestsRead s g ws (columnsAt d (g .table))) e r .dates
 
@@ -295,16 +298,17 @@ mode-same d s q = mode-map _ (wantedAt s (q .wanted)) ∙ mode-is s (q .wanted)
 module _ {text ts ws : List ℕ} {c : Counts} {os : List Bool} {s : List ℕ} (q : Question) {t : ℕ} {numbers ops rs : List ℕ} {d : Doc}
     (h : Granted text ts ws c os s q d) (table : InTable (d .policy) (formAt s q) t (c .tables)) (columns : ColumnsKnown (d .policy) (formAt s q) t numbers) (tests : TestsPlaced s (q .test) ops)
     (parts : PartsOpen (d .policy) (resolved (d .policy) (formAt s q))) where
-  as-read : TestsRead s (soughtIn q t) rs (columnsAt (d .policy) (soughtIn q t .table)) → firstWrong s rs (comparisonCount (q .test)) ≡ none → Prepared text ts ws (c .rows) os s (soughtIn q t) rs numbers d (resolved (d .policy) (formAt s q))
+  as-read : (m : Marking) → MarkingOf ts t os m → TestsRead s (soughtIn q t m) rs (columnsAt (d .policy) (soughtIn q t m .table)) → firstWrong s rs (comparisonCount (q .test)) ≡ none → Prepared text ts ws (c .rows) os s (soughtIn q t m) rs numbers d (resolved (d .policy) (formAt s q))
   unfolding resolved sourceOf formAt soughtIn firstWithholding
-  as-read r typed = record {
+  as-read m told r typed = record {
     small = h .small;
     tableCount = c .tables;
     tables = h .tables;
     inside = table .inside;
     rows = h .rows;
     table = number-is table;
-    opened = h .opened;
+    said = h .said;
+    marking = subst (λ (n : ℕ). Marks (d .policy) (orZero (purposeOf (d .policy) (wordOf s (q .head .purpose)))) m (schemeAt (d .policy) n) (notesOf (d .policy .notes) n)) (sym (number-is table)) (marks-told (h .tables) (h .notes) (table .inside) (h .said) told);
     fewChosen = h .query .few .columns;
     wanted = wanted-are q (h .query) table columns tests;
     named = names-are q (h .query) table columns tests;
@@ -315,9 +319,9 @@ module _ {text ts ws : List ℕ} {c : Counts} {os : List Bool} {s : List ℕ} (q
   }
 
   -- by what is sought as the code finds it, x being what was judged with 16
-  pub prepared : {g : Sought} {x : Offending} → g ≡ soughtIn q t → TestsRead s g rs (columnsAt (d .policy) (g .table)) → x ≡ offending.Nothing → (g .tests ≤ 64 → offendingValue s x ≡ firstWrong s rs (g .tests))
+  pub prepared : {g : Sought} {x : Offending} (m : Marking) → MarkingOf ts t os m → g ≡ soughtIn q t m → TestsRead s g rs (columnsAt (d .policy) (g .table)) → x ≡ offending.Nothing → (g .tests ≤ 64 → offendingValue s x ≡ firstWrong s rs (g .tests))
       → Prepared text ts ws (c .rows) os s g rs numbers d (resolved (d .policy) (formAt s q))
   unfolding soughtIn
-  prepared {x} e r n h =
+  prepared {x} m told e r n h =
       subst (λ g. Prepared text ts ws (c .rows) os s g rs numbers d (resolved (d .policy) (formAt s q))) (sym e)
-      (as-read (subst (λ g. TestsRead s g rs (columnsAt (d .policy) (g .table))) e r) (sym (no-value s n (subst (λ g. g .tests ≤ 64 → offendingValue s x ≡ firstWrong s rs (g .tests)) e h (tests .few)))))
+      (as-read m told (subst (λ g. TestsRead s g rs (columnsAt (d .policy) (g .table))) e r) (sym (no-value s n (subst (λ g. g .tests ≤ 64 → offendingValue s x ≡ firstWrong s rs (g .tests)) e h (tests .few)))))

@@ -9,7 +9,7 @@ use query::clock::Clock;
 use query::clock::in_range;
 use query::reading::Asked;
 use query::reading::read_query;
-use relations::labels::open_labels;
+use relations::labels::say_labels;
 use resolving::parties::Parties;
 use resolving::parties::find_parties;
 use text::refusals::Reason;
@@ -19,13 +19,13 @@ use workspace::found::Found;
 use workspace::layout::ATTRIBUTE_CELLS;
 use workspace::layout::COND_ROLE_CELLS;
 use workspace::layout::GRANT_CELLS;
-use workspace::layout::LABELS;
 use workspace::layout::PURPOSE_CELLS;
 use workspace::layout::ROLE_CELLS;
 use workspace::layout::ROW_CELLS;
 use workspace::layout::SET_WORDS;
 use workspace::layout::TABLE_CELLS;
 use workspace::layout::USER_CELLS;
+use workspace::layout::VERDICTS;
 ghost use Rattle.document.specs.Policy.{Doc};
 ghost use Rattle.query.specs.HostClock.{clockOf};
 ghost use Rattle.stages.specs.Stages.{Standing};
@@ -91,7 +91,7 @@ pub fn ask_accepted(
     let Found::At(grant) = found else {
         return refused_at(query, Reason::NotAuthorised, h.purpose);
     };
-    let mut opened = [false; LABELS];
-    open_labels(closure, sets, c.labels, &mut opened);
-    ask_granted(text, tables, rows, c, &opened, query, q, grant, out)
+    let mut said = [false; VERDICTS];
+    say_labels(closure, sets, c.labels, &mut said);
+    ask_granted(text, tables, rows, c, &said, query, q, grant, out)
 }

@@ -6,6 +6,8 @@ use crate::refusing::refused_at;
 use crate::refusing::refused_written;
 use answering::answers::answer_rows;
 use index::counts::Counts;
+use judging::marking::Marking;
+use judging::marking::marking_of;
 use judging::sought::Sought;
 use judging::tests::TEST_CELLS;
 use judging::tests::read_tests;
@@ -25,9 +27,9 @@ use resolving::openness::closed_part;
 use text::offending::Offending;
 use text::refusals::Reason;
 use workspace::found::Found;
-use workspace::layout::LABELS;
 use workspace::layout::ROW_CELLS;
 use workspace::layout::TABLE_CELLS;
+use workspace::layout::VERDICTS;
 ghost use Rattle.document.specs.Policy.{Doc};
 ghost use mathlib.Core.Path.{_≡_};
 ghost use Rattle.judging.specs.Prepared.{Prepared};
@@ -38,9 +40,9 @@ ghost use Rattle.stages.specs.Stages.{Granted, soughtIn};
 ghost use Rattle.stages.specs.Tails.{Gives, answerUnder, ifKnown};
 ghost use Rattle.text.specs.Refusal.{accepted};
 
-// What a query asks of the rows of table t.
-fn sought_in(q: Question, t: usize) -> Sought
-    ensures { λ r. ⌜ r ≡ soughtIn q t ⌝ }
+// What a query asks of the rows of table t, which is marked so.
+fn sought_in(q: Question, t: usize, marking: Marking) -> Sought
+    ensures { λ r. ⌜ r ≡ soughtIn q t marking ⌝ }
 {
     let wanted = q.wanted;
     let test = q.test;
@@ -50,6 +52,7 @@ fn sought_in(q: Question, t: usize) -> Sought
     let chosen = chosen_count(wanted);
     Sought {
         table: t,
+        marking,
         test,
         tests,
         lines,
@@ -64,7 +67,7 @@ fn ask_rows(
     tables: &[usize; TABLE_CELLS],
     rows: &[usize; ROW_CELLS],
     count: usize,
-    opened: &[bool; LABELS],
+    said: &[bool; VERDICTS],
     query: &[u8],
     s: Sought,
     tests: &[usize; TEST_CELLS],
@@ -72,14 +75,14 @@ fn ask_rows(
     grant: usize,
     out: &mut [u8],
 ) -> Answered
-    ensures { λ r. ⌜ ((d : Doc) (q : QueryForm) → Prepared (now (text .entry)) (now (tables .entry)) (now (rows .entry)) count (now (opened .entry)) (now (query .entry)) s (now (tests .entry)) (now (columns .entry)) d (resolved (d .policy) q) → Gives (accepted (answerUnder d q grant)) (now (out .entry)) (now (out .exit)) r) ⌝ }
+    ensures { λ r. ⌜ ((d : Doc) (q : QueryForm) → Prepared (now (text .entry)) (now (tables .entry)) (now (rows .entry)) count (now (said .entry)) (now (query .entry)) s (now (tests .entry)) (now (columns .entry)) d (resolved (d .policy) q) → Gives (accepted (answerUnder d q grant)) (now (out .entry)) (now (out .exit)) r) ⌝ }
 {
     let x = answer_rows(
         text,
         tables,
         rows,
         count,
-        opened,
+        said,
         query,
         s,
         tests,
@@ -95,19 +98,19 @@ fn ask_rows(
     })
 }
 
-// The answer under a grant (15, 16, 27, 31 and 17, and the rows). Which labels are open to the purpose is given.
+// The answer under a grant (15, 16, 27, 31 and 17, and the rows). What labels say of the purpose is given.
 pub(crate) fn ask_granted(
     text: &[u8],
     tables: &[usize; TABLE_CELLS],
     rows: &[usize; ROW_CELLS],
     c: Counts,
-    opened: &[bool; LABELS],
+    said: &[bool; VERDICTS],
     query: &[u8],
     q: Question,
     grant: usize,
     out: &mut [u8],
 ) -> Answered
-    ensures { λ r. ⌜ ((d : Doc) → Granted (now (text .entry)) (now (tables .entry)) (now (rows .entry)) c (now (opened .entry)) (now (query .entry)) q d → Gives (ifKnown d (formAt (now (query .entry)) q) grant) (now (out .entry)) (now (out .exit)) r) ⌝ }
+    ensures { λ r. ⌜ ((d : Doc) → Granted (now (text .entry)) (now (tables .entry)) (now (rows .entry)) c (now (said .entry)) (now (query .entry)) q d → Gives (ifKnown d (formAt (now (query .entry)) q) grant) (now (out .entry)) (now (out .exit)) r) ⌝ }
 {
     let h = q.head;
     let table = find_table(text, tables, c.tables, query, h.table);
@@ -122,7 +125,7 @@ pub(crate) fn ask_granted(
     if let Offending::At(at) = unknown {
         return refused_at(query, Reason::UnknownColumn, at);
     }
-    let s = sought_in(q, t);
+    let s = sought_in(q, t, marking_of(tables, t, said));
     let mut tests = [0usize; TEST_CELLS];
     read_tests(tables, query, s, &ops, &columns, &mut tests);
     let wrong = mistyped_test(&tests, s.tests);
@@ -139,7 +142,7 @@ pub(crate) fn ask_granted(
     if let Offending::At(at) = absent {
         return refused_written(query, Reason::NoSuchDate, at);
     }
-    let closed = closed_part(tables, t, opened, query, h.table, &places, n, &columns);
+    let closed = closed_part(tables, t, said, query, h.table, &places, n, &columns);
     if let Offending::At(at) = closed {
         return refused_at(query, Reason::Closed, at);
     }
@@ -148,7 +151,7 @@ pub(crate) fn ask_granted(
         tables,
         rows,
         c.rows,
-        opened,
+        said,
         query,
         s,
         &tests,

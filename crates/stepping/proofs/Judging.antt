@@ -9,6 +9,7 @@ use Rattle.document.specs.Bounds.{lateAttr, overBound, secondRoot}
 use Rattle.document.specs.Check.{checkForm}
 use Rattle.document.specs.Meaning.{add}
 use Rattle.document.specs.NameFaults.{taken, unknown}
+use Rattle.document.specs.NoteFaults.{misplaced}
 use Rattle.document.specs.Policy.{Doc}
 use Rattle.document.specs.TypeFaults.{wrongType}
 use Rattle.document.specs.ValueFaults.{misfit}
@@ -61,6 +62,10 @@ module _ (d : Doc) (line : List ℕ) (f : Form) where
                   unfolding checkForm _>>_ refuseIf refuseAt
                   judge-late i = rw (a, b, c, e, g, h, o, q, i)
 
-                  pub judge-fine : lateAttr (d .policy) f ≡ false → checkForm d line f ≡ accepted (add d f)
+                  pub judge-misplaced : lateAttr (d .policy) f ≡ false → misplaced d f ≡ true → checkForm d line f ≡ refused (pointingAll 25 document line)
                   unfolding checkForm _>>_ refuseIf refuseAt
-                  judge-fine i = rw (a, b, c, e, g, h, o, q, i)
+                  judge-misplaced i j = rw (a, b, c, e, g, h, o, q, i, j)
+
+                  pub judge-fine : lateAttr (d .policy) f ≡ false → misplaced d f ≡ false → checkForm d line f ≡ accepted (add d f)
+                  unfolding checkForm _>>_ refuseIf refuseAt
+                  judge-fine i j = rw (a, b, c, e, g, h, o, q, i, j)

@@ -9,16 +9,17 @@ use mathlib.Core.Path.{_≡_}
 use Rattle.document.specs.AmountFaults.{brokenRange, noSuchDate}
 use Rattle.document.specs.Bounds.{lateAttr, overBound, secondRoot}
 use Rattle.document.specs.NameFaults.{taken, unknown}
+use Rattle.document.specs.NoteFaults.{misplaced}
 use Rattle.document.specs.Policy.{Doc}
 use Rattle.document.specs.TypeFaults.{wrongType}
 use Rattle.document.specs.ValueFaults.{misfit}
-use Rattle.stepping.proofs.Judging.{judge-bound, judge-fine, judge-late, judge-root, judge-taken, judge-unknown}
+use Rattle.stepping.proofs.Judging.{judge-bound, judge-fine, judge-late, judge-misplaced, judge-root, judge-taken, judge-unknown}
 use Rattle.stepping.specs.Judged.{Judges}
 use Rattle.form.specs.Form.{Form}
 use Rattle.text.specs.Words.{wordOf}
 use Rattle.stepping.specs.declared.fault.Fault.the-variants.{Item, Whole}
 use Rattle.stepping.specs.declared.fault.Verdict.the-variants.{Faulty, Fine}
-use Rattle.text.specs.declared.refusals.Reason.the-variants.{LateAttribute, NameTaken, NameUnknown, OverBound, SecondRoot}
+use Rattle.text.specs.declared.refusals.Reason.the-variants.{LateAttribute, NameTaken, NameUnknown, NoteMisplaced, OverBound, SecondRoot}
 
 module _ (Held : Doc → Type 0) (Placed : Type 0) (line : List ℕ) (f : Form) (k room : ℕ) where
   pub says-bound : ((d : Doc) → Held d → overBound d f ≡ true) → Judges Held Placed line f k room (Faulty (Whole OverBound))
@@ -45,6 +46,10 @@ module _ (Held : Doc → Type 0) (Placed : Type 0) (line : List ℕ) (f : Form) 
           says-late i =
               record { is = λ d h. judge-late d line f (a d h) (b d h) (c d h) (e d h) (g d h) (t d h) (o d h) (q d h) (i d h); roomy = tt; reaches = λ p. tt }
 
-          pub says-fine : k < room → ((d : Doc) → Held d → lateAttr (d .policy) f ≡ false) → Judges Held Placed line f k room Fine
-          says-fine l i =
-              record { is = λ d h. judge-fine d line f (a d h) (b d h) (c d h) (e d h) (g d h) (t d h) (o d h) (q d h) (i d h); roomy = l; reaches = λ p. tt }
+          pub says-misplaced : ((d : Doc) → Held d → lateAttr (d .policy) f ≡ false) → ((d : Doc) → Held d → misplaced d f ≡ true) → Judges Held Placed line f k room (Faulty (Whole NoteMisplaced))
+          says-misplaced i j =
+              record { is = λ d h. judge-misplaced d line f (a d h) (b d h) (c d h) (e d h) (g d h) (t d h) (o d h) (q d h) (i d h) (j d h); roomy = tt; reaches = λ p. tt }
+
+          pub says-fine : k < room → ((d : Doc) → Held d → lateAttr (d .policy) f ≡ false) → ((d : Doc) → Held d → misplaced d f ≡ false) → Judges Held Placed line f k room Fine
+          says-fine l i j =
+              record { is = λ d h. judge-fine d line f (a d h) (b d h) (c d h) (e d h) (g d h) (t d h) (o d h) (q d h) (i d h) (j d h); roomy = l; reaches = λ p. tt }

@@ -11,6 +11,7 @@ use Rattle.document.specs.AmountFaults.{brokenRange, noSuchDate}
 use Rattle.document.specs.Bounds.{lateAttr, overBound, secondRoot}
 use Rattle.document.specs.Lookup.{labelOf, purposeOf}
 use Rattle.document.specs.NameFaults.{taken, unknown}
+use Rattle.document.specs.NoteFaults.{misplaced}
 use Rattle.document.specs.Policy.{Doc, Label, Node}
 use Rattle.document.specs.TypeFaults.{wrongType}
 use Rattle.document.specs.ValueFaults.{misfit}
@@ -115,8 +116,8 @@ module _ (text ws : List ℕ) (m : ℕ) (labels : List ℕ) (k : ℕ) (line : Li
                 (λ d h. allowed-known d h ∙ place-word line f5 _ (is5 .0 (d .policy .purposes) (h .0)) v e5)
 
             pub label-fine : f5 ≡ offending.Nothing → Says Fine
-            unfolding unknown purposeOf secondRoot misfit wrongType brokenRange noSuchDate lateAttr
+            unfolding unknown purposeOf secondRoot misfit wrongType brokenRange noSuchDate lateAttr misplaced
             label-fine e5 =
                 says-fine Held (l ≤ length line) line form′ k 64 roomy untaken
                 (λ d h. allowed-known d h ∙ place-none line f5 _ (is5 .0 (d .policy .purposes) (h .0)) e5)
-                (λ d h. refl) (λ d h. refl) (λ d h. refl) (λ d h. refl) (λ d h. refl) q (λ d h. refl)
+                (λ d h. refl) (λ d h. refl) (λ d h. refl) (λ d h. refl) (λ d h. refl) q (λ d h. refl) (λ d h. refl)

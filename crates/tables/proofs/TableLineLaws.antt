@@ -14,6 +14,7 @@ use Rattle.document.specs.AmountFaults.{brokenRange, noSuchDate}
 use Rattle.document.specs.Bounds.{lateAttr, overBound, secondRoot}
 use Rattle.document.specs.Lookup.{labelOf, tableOf}
 use Rattle.document.specs.NameFaults.{taken, unknown}
+use Rattle.document.specs.NoteFaults.{misplaced}
 use Rattle.document.specs.Policy.{Doc}
 use Rattle.document.specs.TypeFaults.{wrongType}
 use Rattle.document.specs.ValueFaults.{misfit}
@@ -45,6 +46,7 @@ columns-words line code.ByTable cs = refl
 columns-words line code.ByColumn cs = refl
 columns-words line code.ByRow cs = refl
 columns-words line code.ByCell cs = refl
+columns-words line code.Nested cs = refl
 
 module _ (s : List ℕ) (at : ℕ) where
   -- a turn goes on, and stays within the text
@@ -270,3 +272,7 @@ module _ (d : Doc) (line : List ℕ) (t : ℕ) (scheme : coded.Scheme) (l cs : �
   pub table-late : lateAttr (d .policy) form ≡ false
   unfolding lateAttr
   table-late = refl
+
+  pub table-placed : misplaced d form ≡ false
+  unfolding misplaced
+  table-placed = refl

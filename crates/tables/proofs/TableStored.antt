@@ -34,6 +34,7 @@ module _ (f : Word → ℕ) (line : List ℕ) (l cs : ℕ) where
   labelled-columns code.ByColumn h = refl
   labelled-columns code.ByRow h = true-not-false h refl
   labelled-columns code.ByCell h = true-not-false h refl
+  labelled-columns code.Nested h = true-not-false h refl
 
   pub plain-columns : (s : coded.Scheme) → labelsColumns s ≡ false → columnWords line s cs ≡ columnFormsAt line cs
   unfolding columnWords
@@ -42,6 +43,7 @@ module _ (f : Word → ℕ) (line : List ℕ) (l cs : ℕ) where
   plain-columns code.ByColumn h = true-not-false refl h
   plain-columns code.ByRow h = refl
   plain-columns code.ByCell h = refl
+  plain-columns code.Nested h = refl
 
   pub labelled-scheme : (s : coded.Scheme) (label : ℕ) → labelsColumns s ≡ true → schemeBy s label (map f (columnLabelsAt line cs)) ≡ mapScheme f (schemeWords line s l cs)
   unfolding schemeBy mapScheme schemeWords
@@ -50,6 +52,7 @@ module _ (f : Word → ℕ) (line : List ℕ) (l cs : ℕ) where
   labelled-scheme code.ByColumn label h = refl
   labelled-scheme code.ByRow label h = true-not-false h refl
   labelled-scheme code.ByCell label h = true-not-false h refl
+  labelled-scheme code.Nested label h = true-not-false h refl
 
   pub plain-scheme : (s : coded.Scheme) (label : ℕ) (ls : List ℕ) → label ≡ f (wordOf line l) → labelsColumns s ≡ false → schemeBy s label ls ≡ mapScheme f (schemeWords line s l cs)
   unfolding schemeBy mapScheme schemeWords
@@ -58,6 +61,7 @@ module _ (f : Word → ℕ) (line : List ℕ) (l cs : ℕ) where
   plain-scheme code.ByColumn label ls e h = true-not-false refl h
   plain-scheme code.ByRow label ls e h = refl
   plain-scheme code.ByCell label ls e h = refl
+  plain-scheme code.Nested label ls e h = refl
 
 module _ {text : List ℕ} {at : ℕ} {line : List ℕ} (p : LineAt text at line) (d : Doc) (t pos : ℕ) (h : t ≤ length line) (e : at + t ≤ length text → pos ≡ at + t) (s : coded.Scheme) (l cs : ℕ) where
   pub table-stored : {before mid after : List ℕ} {k width : ℕ} (label : ℕ) (fs : List ColumnForm) (ls : List ℕ) → Tables text before k (d .policy .tables) → Passes d line (tableLine line t s l cs)

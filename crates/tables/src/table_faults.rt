@@ -177,6 +177,7 @@ fn unknown_label(
         Scheme::ByColumn => first_unknown_label(text, labels, m, line, cs),
         Scheme::ByRow => Offending::Nothing,
         Scheme::ByCell => Offending::Nothing,
+        Scheme::Nested => Offending::Nothing,
     }
 }
 

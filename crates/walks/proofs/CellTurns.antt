@@ -2,7 +2,7 @@
 use Prim.Native.Nat.{_+_, _<_, _≤_, ℕ}
 use lib.ListN.{getD, length}
 use mathlib.Core.Bool.{true}
-use mathlib.Core.List.{List, _∷_, map}
+use mathlib.Core.List.{List, [], _++_, _∷_, map}
 use mathlib.Core.Option.{some}
 use mathlib.Core.Path.{_∙_, _≡_, ap, refl, subst, sym}
 use native.Mathlib.Omega.{arith}
@@ -18,13 +18,13 @@ use Rattle.form.specs.Form.{Item, labelled}
 use Rattle.form.specs.FormReader.{item, labelledItem}
 use Rattle.form.specs.Walks.{cellAt, cellEndAt, cellLabelIn, cellsAt, firstIn, isLabelledAt, itemEndAt, itemsAt, valuePlace}
 use Rattle.relations.proofs.TableLaws.{column-inside}
-use Rattle.relations.specs.Rows.{LabelStored, ValueStored}
+use Rattle.relations.specs.Rows.{FillingRow, LabelStored, ValueStored}
 use Rattle.relations.specs.Tables.{Tables, columnKindIn}
 use Rattle.lists.specs.Lists.{orZero, there}
 use Rattle.walks.proofs.Typed.{ItemsPassed, all-passed, end-some, items-turn, none-passed, typed-at, typed-value}
 use Rattle.walks.specs.Walked.{CellsTaken, LabelTaken, LabelWalked, typedEnd}
 use Rattle.stepping.proofs.PlaceLaws.{written-placed}
-use Rattle.rows.proofs.RowTurns.{Rowed, label-added, rowed-all, rowed-none, value-added}
+use Rattle.rows.proofs.RowTurns.{Rowed, label-added, rowed-all, rowed-begun, value-added}
 use Rattle.stepping.specs.Stored.{LineAt}
 use Rattle.calendar.proofs.CellValues.{forward-cellValue}
 use Rattle.text.proofs.CodeLaws.{word-at}
@@ -68,22 +68,22 @@ label-at {before} {after} {line} {d} {k} {m} {at} q h = subst (λ z. LabelWalked
 
 -- ---- what the walk keeps
 
--- c cells, of which n are wanted, stand from `is` to j and are stored as those of row k
-pub record CellsPassed (text before after line : List ℕ) (k n c : ℕ) (d : Policy) (cs : List Column) (is j : ℕ) : Type 0 where
+-- c cells, of which n are wanted, stand from `is` to j and are stored as those of row k, which had the labels ls before them, m of them
+pub record CellsPassed (text before after line : List ℕ) (k n m : ℕ) (ls : List ℕ) (c : ℕ) (d : Policy) (cs : List Column) (is j : ℕ) : Type 0 where
   pub items : ItemsPassed true line n c cs is j
   pub labelled : missing (λ w. there (labelOf d w)) (bracketLabels (itemsAt line is)) ≡ missing (λ w. there (labelOf d w)) (bracketLabels (itemsAt line j))
-  pub rowed : Rowed text before after k c c (map (λ g. g .0 .bytes) (cellsAt line is)) (map (λ g. g .0 .bytes) (cellsAt line j)) (map (λ g. orZero (labelOf d (g .1))) (cellsAt line is)) (map (λ g. orZero (labelOf d (g .1))) (cellsAt line j))
+  pub rowed : Rowed text before after k c (m + c) (map (λ g. g .0 .bytes) (cellsAt line is)) (map (λ g. g .0 .bytes) (cellsAt line j)) (ls ++ map (λ g. orZero (labelOf d (g .1))) (cellsAt line is)) (map (λ g. orZero (labelOf d (g .1))) (cellsAt line j))
 
-pub no-cells-passed : (text ws line : List ℕ) (k n : ℕ) (d : Policy) (cs : List Column) (is : ℕ) → CellsPassed text ws ws line k n 0 d cs is is
-no-cells-passed text ws line k n d cs is = record {
+pub no-cells-passed : {text ws line : List ℕ} {k n m : ℕ} {ls : List ℕ} {d : Policy} {cs : List Column} {is : ℕ} → FillingRow text ws k 0 m [] ls → CellsPassed text ws ws line k n m ls 0 d cs is is
+no-cells-passed {text} {ws} {line} {k} {n} {m} {ls} {d} {cs} {is} h = record {
   items = none-passed true line n cs is;
   labelled = refl;
-  rowed = rowed-none text ws k _ _;
+  rowed = rowed-begun _ _ h;
 }
 
-pub all-cells-passed : {text before after line : List ℕ} {k n c : ℕ} {d : Policy} {cs : List Column} {is j : ℕ} → c ≡ n → CellsPassed text before after line k n c d cs is j → CellsTaken text before after line k n d cs is j
-all-cells-passed {text} {before} {after} {line} {k} {n} {c} {d} {cs} {is} {j} q h =
-    let g = subst (λ i. CellsPassed text before after line k n i d cs is j) q h in
+pub all-cells-passed : {text before after line : List ℕ} {k n m : ℕ} {ls : List ℕ} {c : ℕ} {d : Policy} {cs : List Column} {is j : ℕ} → c ≡ n → CellsPassed text before after line k n m ls c d cs is j → CellsTaken text before after line k n m ls d cs is j
+all-cells-passed {text} {before} {after} {line} {k} {n} {m} {ls} {c} {d} {cs} {is} {j} q h =
+    let g = subst (λ i. CellsPassed text before after line k n m ls i d cs is j) q h in
     record {
       walked = all-passed (g .items);
       labelled = g .labelled;
@@ -130,28 +130,31 @@ module _ (line : List ℕ) (j e f : ℕ) (opened : getD line (j + 1) 0 ≡ 40) (
     cell-read : wordEnd (item (from line (j + 1))) ≡ At (f + 1)
     cell-read = ap wordEnd (labelled-item (from line (j + 1)) (is-pair .0 .0) (is-pair .0 .1) (is-pair .1)) ∙ ap wordEnd (sym (is-pair .1)) ∙ pair-read
 
-  cell-stored : {text : List ℕ} {at : ℕ} (l : LineAt text at line) {before ws mid after : List ℕ} {k c : ℕ} (d : Policy) (is pos : ℕ) → getD line j 0 ≡ 32 → (at + (j + 2) ≤ length text → pos ≡ at + (j + 2))
-      → ValueStored ws mid k c pos → LabelStored mid after k c (orZero (labelOf d (wordOf line (e + 1)))) → k < 1024 → c < 16
-      → Rowed text before ws k c c (map (λ g. g .0 .bytes) (cellsAt line is)) (map (λ g. g .0 .bytes) (cellsAt line j)) (map (λ g. orZero (labelOf d (g .1))) (cellsAt line is)) (map (λ g. orZero (labelOf d (g .1))) (cellsAt line j))
-      → Rowed text before after k (c + 1) (c + 1) (map (λ g. g .0 .bytes) (cellsAt line is)) (map (λ g. g .0 .bytes) (cellsAt line (f + 1))) (map (λ g. orZero (labelOf d (g .1))) (cellsAt line is)) (map (λ g. orZero (labelOf d (g .1))) (cellsAt line (f + 1)))
+  cell-stored : {text : List ℕ} {at : ℕ} (l : LineAt text at line) {before ws mid after : List ℕ} {k c m : ℕ} (ls : List ℕ) (d : Policy) (is pos : ℕ) → getD line j 0 ≡ 32 → (at + (j + 2) ≤ length text → pos ≡ at + (j + 2))
+      → ValueStored ws mid k c pos → LabelStored mid after k (m + c) (orZero (labelOf d (wordOf line (e + 1)))) → k < 1024 → c < 16 → m ≤ 1
+      → Rowed text before ws k c (m + c) (map (λ g. g .0 .bytes) (cellsAt line is)) (map (λ g. g .0 .bytes) (cellsAt line j)) (ls ++ map (λ g. orZero (labelOf d (g .1))) (cellsAt line is)) (map (λ g. orZero (labelOf d (g .1))) (cellsAt line j))
+      → Rowed text before after k (c + 1) (m + (c + 1)) (map (λ g. g .0 .bytes) (cellsAt line is)) (map (λ g. g .0 .bytes) (cellsAt line (f + 1))) (ls ++ map (λ g. orZero (labelOf d (g .1))) (cellsAt line is)) (map (λ g. orZero (labelOf d (g .1))) (cellsAt line (f + 1)))
   unfolding cellAt firstIn
-  cell-stored {text} {at} l {before} {ws} {mid} {after} {k} {c} d is pos space placed s t small inside g =
+  cell-stored {text} {at} l {before} {ws} {mid} {after} {k} {c} {m} ls d is pos space placed s t small inside one g =
       let begins : j + 1 < length line = before-end line (j + 1) (λ z. absurd (omega (arith, opened, z))) in
-      label-added (orZero (labelOf d (wordOf line (cellLabelIn line (j + 1)))))
+      let counted : m + c + 1 ≡ m + (c + 1) = omega arith in
+      subst (λ n. Rowed text before after k (c + 1) n (map (λ g. g .0 .bytes) (cellsAt line is)) (map (λ g. g .0 .bytes) (cellsAt line (f + 1))) (ls ++ map (λ g. orZero (labelOf d (g .1))) (cellsAt line is)) (map (λ g. orZero (labelOf d (g .1))) (cellsAt line (f + 1))))
+      counted
+      (label-added (orZero (labelOf d (wordOf line (cellLabelIn line (j + 1)))))
       (value-added (writtenAt line (firstIn line (j + 1)))
-      (subst (λ (xs : List (Word × Word)). Rowed text before ws k c c (map (λ g. g .0 .bytes) (cellsAt line is)) (map (λ g. g .0 .bytes) xs) (map (λ g. orZero (labelOf d (g .1))) (cellsAt line is)) (map (λ g. orZero (labelOf d (g .1))) xs))
+      (subst (λ (xs : List (Word × Word)). Rowed text before ws k c (m + c) (map (λ g. g .0 .bytes) (cellsAt line is)) (map (λ g. g .0 .bytes) xs) (ls ++ map (λ g. orZero (labelOf d (g .1))) (cellsAt line is)) (map (λ g. orZero (labelOf d (g .1))) xs))
       (cells-more line j space ∙ ap (λ n. cellAt line (j + 1) ∷ cellsAt line n) (sym pair-at)) g)
       small inside s (written-placed l (j + 2) pos (omega arith) placed ∙ ap (writtenAt line) first-at))
-      small (omega (arith, inside)) t (ap (λ n. orZero (labelOf d (wordOf line n))) second-at)
+      small (omega (arith, inside, one)) t (ap (λ n. orZero (labelOf d (wordOf line n))) second-at))
 
 -- ---- one cell more
 
 module _ {text tables : List ℕ} {count x : ℕ} (d : Policy) (T : Tables text tables count (d .tables)) (b : x < count) {n : ℕ} (wide : n ≡ length (columnsAt d x)) where
-  pub cells-turn : {before ws mid after line : List ℕ} {k c at e f pos : ℕ} (is j : ℕ) (type : Kind) → LineAt text at line → k < 1024 → c < n → getD line j 0 ≡ 32 → getD line (j + 1) 0 ≡ 40
+  pub cells-turn : {before ws mid after line : List ℕ} {k c m at e f pos : ℕ} (ls : List ℕ) (is j : ℕ) (type : Kind) → LineAt text at line → k < 1024 → m ≤ 1 → c < n → getD line j 0 ≡ 32 → getD line (j + 1) 0 ≡ 40
       → (x < 8 → c < 16 → type ≡ columnKindIn tables x c) → typedEnd line (j + 2) type ≡ At e
-      → (at + (j + 2) ≤ length text → pos ≡ at + (j + 2)) → ValueStored ws mid k c pos → LabelTaken mid after line d k c e f → getD line f 0 ≡ 41
-      → CellsPassed text before ws line k n c d (columnsAt d x) is j → CellsPassed text before after line k n (c + 1) d (columnsAt d x) is (f + 1)
-  cells-turn {before} {ws} {mid} {after} {line} {k} {c} {at} {e} {f} {pos} is j type stands small inside space opened kind ends placed s t closed p =
+      → (at + (j + 2) ≤ length text → pos ≡ at + (j + 2)) → ValueStored ws mid k c pos → LabelTaken mid after line d k (m + c) e f → getD line f 0 ≡ 41
+      → CellsPassed text before ws line k n m ls c d (columnsAt d x) is j → CellsPassed text before after line k n m ls (c + 1) d (columnsAt d x) is (f + 1)
+  cells-turn {before} {ws} {mid} {after} {line} {k} {c} {m} {at} {e} {f} {pos} ls is j type stands small one inside space opened kind ends placed s t closed p =
       let v = typed-at line (j + 2) type e ends in
       let to : f + 1 ≡ itemEndAt line (j + 1) = cell-end line j e f opened (v .1) (t .space) (t .end) closed type (v .0) (t .named) in
       let marked : isLabelledAt line (j + 1) ≡ true = cell-labelled line j e f opened (v .1) (t .space) (t .end) closed type (v .0) (t .named) in
@@ -165,6 +168,6 @@ module _ {text tables : List ℕ} {count x : ℕ} (d : Policy) (T : Tables text 
             ∙ labels-on (λ w. there (labelOf d w)) line j space true (bracket-known (λ w. there (labelOf d w)) line (j + 1) marked true mark) refl
             ∙ ap (λ i. missing (λ w. there (labelOf d w)) (bracketLabels (itemsAt line i))) (sym to);
         rowed =
-            cell-stored line j e f opened (v .1) (t .space) (t .end) closed stands d is pos space placed s (t .stored) small
-            (column-inside text tables count x d T b c (subst (λ q. c < q) wide inside)) (p .rowed);
+            cell-stored line j e f opened (v .1) (t .space) (t .end) closed stands ls d is pos space placed s (t .stored) small
+            (column-inside text tables count x d T b c (subst (λ q. c < q) wide inside)) one (p .rowed);
       }

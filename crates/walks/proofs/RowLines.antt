@@ -1,13 +1,5 @@
 -- A line that begins with `(row T` and whose items run up to the bracket that ends it is a row form. Assumes nothing.
 use Prim.Native.Nat.{_+_, ℕ}
-use borrow.Author.Tests.{eqb-true}
-use lib.Dec.{eqb}
-use lib.ListN.{getD, length}
-use mathlib.Core.Bool.{Bool, _&&_, cond, false, true}
-use mathlib.Core.List.{List}
-use mathlib.Core.Option.{Option·map, some}
-use mathlib.Core.Path.{_∙_, _≡_, ap, refl, subst, sym}
-use native.Mathlib.Omega.{arith}
 use Rattle.document.specs.Meaning.{add}
 use Rattle.document.specs.Policy.{Doc}
 use Rattle.form.proofs.FormForward.{forward-item}
@@ -16,9 +8,8 @@ use Rattle.form.proofs.LineLaws.{line-read}
 use Rattle.form.proofs.PartLaws.{items-to}
 use Rattle.form.specs.Form.{Form}
 use Rattle.form.specs.FormReader.{formOf, item, lineForms, rowForm}
-use Rattle.relations.specs.Rows.{Rows}
 use Rattle.lists.proofs.Tests.{and-left, and-right}
-use Rattle.walks.specs.Taken.{ItemsClose, TakesItems, TakesRow, closesAt, rowAt, tableEnd}
+use Rattle.relations.specs.Rows.{Rows}
 use Rattle.stepping.specs.Stored.{Passes}
 use Rattle.text.proofs.CodeLaws.{word-at, word-to}
 use Rattle.text.proofs.EndLaws.{list-stop}
@@ -31,8 +22,17 @@ use Rattle.text.specs.Names.{Name, isName, lower, sameByte, sameName}
 use Rattle.text.specs.Reader.{from}
 use Rattle.text.specs.Walking.{wordEndAt}
 use Rattle.text.specs.Words.{isCalled, name, wordAt}
-use Rattle.text.specs.declared.words.End.{End}
 use Rattle.text.specs.declared.words.End.the-variants.{At, Nothing}
+use Rattle.text.specs.declared.words.End.{End}
+use Rattle.walks.specs.Taken.{ItemsClose, TakesItems, TakesRow, closesAt, rowAt, tableEnd}
+use borrow.Author.Tests.{eqb-true}
+use lib.Dec.{eqb}
+use lib.ListN.{getD, length}
+use mathlib.Core.Bool.{Bool, _&&_, cond, false, true}
+use mathlib.Core.List.{List}
+use mathlib.Core.Option.{Option·map, some}
+use mathlib.Core.Path.{_∙_, _≡_, ap, refl, subst, sym}
+use native.Mathlib.Omega.{arith}
 
 -- ---- the bracket that ends the line
 
@@ -57,7 +57,7 @@ module _ (line : List ℕ) (e : ℕ) (h : closesAt line e ≡ true) where
 row-keyword : (line : List ℕ) → sameName (wordAt line 1) (ascii "row") ≡ true → keyword lineForms (from line 1) ≡ rowForm (from line 4)
 unfolding lineForms among isCalled sameName sameByte lower
 row-keyword line h =
-    rw (keyword-at lineForms line 1 4 (ap (λ n. 1 + n) (sym (sameName-length (wordAt line 1) (ascii "row") h))), other (ascii "purpose") refl, other (ascii "role") refl, other (ascii "attr") refl, other (ascii "user") refl, other (ascii "cond-role") refl, other (ascii "grant") refl, other (ascii "label") refl, other (ascii "table") refl, other (ascii "public") refl, h)
+    rw (keyword-at lineForms line 1 4 (ap (λ n. 1 + n) (sym (sameName-length (wordAt line 1) (ascii "row") h))), other (ascii "purpose") refl, other (ascii "role") refl, other (ascii "attr") refl, other (ascii "user") refl, other (ascii "cond-role") refl, other (ascii "grant") refl, other (ascii "label") refl, other (ascii "table") refl, other (ascii "public") refl, other (ascii "weak") refl, other (ascii "strong") refl, h)
   where
     other : (n : Name) → sameName (ascii "row") n ≡ false → sameName (wordAt line 1) n ≡ false
     other n k = same-other (wordAt line 1) (ascii "row") n h k

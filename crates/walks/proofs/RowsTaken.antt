@@ -1,64 +1,65 @@
 -- A row whose items were walked to the bracket that ends its line: the check accepts it, and it stands in the workspace. Assumes
 -- nothing.
 use Prim.Native.Nat.{_+_, _<_, _≤_, ℕ}
-use borrow.Author.Tests.{eqb-true}
-use lib.Dec.{eqb}
-use lib.ListN.{drop, getD, length}
-use mathlib.Core.Bool.{Bool, false, true}
-use mathlib.Core.List.{List, [], _++_, _∷_, map}
-use mathlib.Core.Option.{none, some}
-use mathlib.Core.Path.{_∙_, _≡_, ap, refl, subst, sym}
-use native.Mathlib.Omega.{arith}
 use Rattle.calendar.specs.DateText.{dateOf}
 use Rattle.condition.specs.Kinds.{hasKind, names}
-use Rattle.document.proofs.RowItems.{led-name, led-values}
+use Rattle.document.proofs.RowItems.{labels-by, led-name, led-values, values-by}
 use Rattle.document.specs.AmountFaults.{dateExists, inOrder}
 use Rattle.document.specs.Lookup.{columnsAt, labelOf, schemeAt, schemeOf, tableOf}
-use Rattle.document.specs.NameFaults.{rowLabels}
+use Rattle.document.specs.NameFaults.{bracketLabels, leadingName, rowLabels}
 use Rattle.document.specs.Policy.{Column, Doc, Policy}
 use Rattle.document.specs.TypeFaults.{cellHasKind, mistypedValue}
-use Rattle.document.specs.ValueFaults.{plainValues, rowValues}
-use Rattle.rows.proofs.RowChecks.{firstBroken, firstUnreal, labels-done, no-values-left, one-missing, test-done}
-use Rattle.rows.proofs.RowItems.{fits-stop, shaped-at, width-fits}
-use Rattle.rows.proofs.RowJudging.{row-fine}
-use Rattle.rows.proofs.RowTypes.{word-kind}
-use Rattle.rows.specs.RowWords.{shapedValues, valuesAt}
+use Rattle.document.specs.ValueFaults.{rowValues, shapedValues, valuesBehindLabel}
 use Rattle.form.proofs.FormForward.{forward-item}
 use Rattle.form.proofs.WalkSteps.{cells-stop, plain-stop}
-use Rattle.form.specs.Form.{Item, Scheme, byCell, byRow}
+use Rattle.form.specs.Form.{Item, Scheme, hasBrackets, leadsLabel}
 use Rattle.form.specs.FormReader.{item}
 use Rattle.form.specs.Walks.{itemsAt}
-use Rattle.relations.proofs.RowLaws.{rows-counted}
-use Rattle.relations.proofs.TableLaws.{scheme-read}
-use Rattle.workspace.specs.Found.{FoundBelow, foundAs}
-use Rattle.relations.specs.Rows.{Rows}
-use Rattle.relations.specs.Tables.{Tables, columnLabelIn, columnLabelsIn, schemeBy, schemeIn, tableLabelIn}
-use Rattle.workspace.specs.Tabulated.{tabulated}
-use Rattle.workspace.specs.declared.found.Found.{Found}
-use Rattle.workspace.specs.declared.found.Found.the-variants as found
 use Rattle.form.specs.declared.lines.Scheme as coded
 use Rattle.lists.proofs.ListLaws.{holdsOf-some}
 use Rattle.lists.proofs.Tests.{eqb-self, true-not-false}
 use Rattle.lists.specs.Lists.{orZero, there}
-use Rattle.walks.proofs.RowLines.{no-items, no-space}
-use Rattle.walks.proofs.Typed.{typed-plain}
-use Rattle.walks.specs.Taken.{ItemsClose, ItemsTaken, NoLabels, closesAt, rowAt}
-use Rattle.walks.specs.Walked.{CellsTaken, ItemsWalked, LabelTaken, ValuesTaken}
-use Rattle.rows.proofs.RowStored.{AddsRow, RowFits, cells-stored, leading-stored, plain-stored, row-stored}
+use Rattle.relations.proofs.RowLaws.{rows-counted}
+use Rattle.relations.proofs.TableLaws.{scheme-read}
+use Rattle.relations.specs.Rows.{Rows}
+use Rattle.relations.specs.Tables.{Tables, columnLabelIn, columnLabelsIn, schemeBy, schemeIn, tableLabelIn}
+use Rattle.rows.proofs.RowChecks.{firstBroken, firstUnreal, labels-done, no-values-left, one-missing, test-done}
+use Rattle.rows.proofs.RowItems.{fits-stop, shaped-at, width-fits}
+use Rattle.rows.proofs.RowJudging.{row-fine}
+use Rattle.rows.proofs.RowStored.{Added, AddsRow, RowFits, cells-stored, leading-stored, led-alone, nested-stored, none-before, plain-stored, row-stored}
+use Rattle.rows.proofs.RowTypes.{word-kind}
+use Rattle.rows.proofs.StoredItems.{brackets-behind}
+use Rattle.rows.specs.RowWords.{valuesAt}
 use Rattle.stepping.specs.Stored.{Passes}
+use Rattle.text.proofs.Closings.{written-end}
 use Rattle.text.proofs.EndLaws.{list-more}
-use Rattle.text.proofs.OffendingLaws.{missing-nil, unless-true}
+use Rattle.text.proofs.OffendingLaws.{missing-nil, missing-second, unless-true}
+use Rattle.text.proofs.WordLaws.{not-name-letter}
 use Rattle.text.specs.Amounts.{rangeOf}
 use Rattle.text.specs.Brackets.{many}
+use Rattle.text.specs.Bytes.{isLetter}
 use Rattle.text.specs.CodeEnds.{wordEnd}
 use Rattle.text.specs.Offending.{missing}
 use Rattle.text.specs.Reader.{from}
-use Rattle.text.proofs.Closings.{written-end}
-use Rattle.text.proofs.WordLaws.{not-name-letter}
-use Rattle.text.specs.Bytes.{isLetter}
 use Rattle.text.specs.Walking.{wordEndAt}
 use Rattle.text.specs.Words.{Word, wordOf, writtenAt}
 use Rattle.text.specs.declared.words.End.the-variants.{At}
+use Rattle.walks.proofs.RowLines.{no-items, no-space}
+use Rattle.walks.proofs.Typed.{typed-plain}
+use Rattle.walks.specs.Taken.{ItemsClose, ItemsTaken, closesAt, rowAt}
+use Rattle.walks.specs.Walked.{CellsTaken, ItemsWalked, LabelTaken, ValuesTaken}
+use Rattle.workspace.specs.Found.{FoundBelow, foundAs}
+use Rattle.workspace.specs.Tabulated.{tabulated}
+use Rattle.workspace.specs.declared.found.Found.the-variants as found
+use Rattle.workspace.specs.declared.found.Found.{Found}
+use borrow.Author.Tests.{eqb-true}
+use lib.Dec.{eqb}
+use lib.ListN.{drop, getD, length}
+use mathlib.Core.Bool.{Bool, cond, false, true}
+use mathlib.Core.List.{List, [], _++_, _∷_, map}
+use mathlib.Core.Option.{none, some}
+use mathlib.Core.Path.{_∙_, _≡_, ap, refl, subst, sym}
+use native.Mathlib.Omega.{arith}
 
 -- ---- items that were walked to the bracket
 
@@ -116,25 +117,6 @@ module _ (d : Doc) (line : List ℕ) (is k x : ℕ) (counted : k ≡ length (d .
 
 -- ---- what the scheme of the table says of the items
 
--- none has a label
-module _ (d : Policy) {s : Scheme ℕ} (h : NoLabels s) (items : List Item) where
-  unlabelled-all : missing (λ v. there (labelOf d v)) (rowLabels s items) ≡ none
-  unlabelled-all = ap (missing (λ v. there (labelOf d v))) (h .labels items) ∙ missing-nil (λ v. there (labelOf d v))
-
-  plain-shaped : rowValues s items ≡ shapedValues false items
-  unfolding shapedValues
-  plain-shaped = h .values items
-
--- each has one
-cells-shaped : (items : List Item) → rowValues byCell items ≡ shapedValues true items
-unfolding rowValues shapedValues
-cells-shaped items = refl
-
-cells-labelled : {text before mid : List ℕ} {k n : ℕ} (d : Policy) (line : List ℕ) {cs : List Column} {is e : ℕ} → CellsTaken text before mid line k n d cs is e → closesAt line e ≡ true
-    → missing (λ v. there (labelOf d v)) (rowLabels byCell (itemsAt line is)) ≡ none
-unfolding rowLabels
-cells-labelled d line {cs} {is} {e} t shut = t .labelled ∙ labels-done (λ v. there (labelOf d v)) line e (no-space line e shut)
-
 -- the first is the label
 module _ {before marked line : List ℕ} {d : Policy} {k is j : ℕ} (l : LabelTaken before marked line d k 0 is j) where
   -- a name begins with no bracket
@@ -149,46 +131,75 @@ module _ {before marked line : List ℕ} {d : Policy} {k is j : ℕ} (l : LabelT
   led-ends : wordEnd (many item (from line is)) ≡ wordEnd (many item (from line j))
   led-ends = sym (list-more item forward-item line is refl (l .space) refl (typed-plain line (is + 1) names is-typed ∙ ap At (written-end line (is + 1) bare ∙ sym (l .end))) refl)
 
-  led-labelled : missing (λ v. there (labelOf d v)) (rowLabels byRow (itemsAt line is)) ≡ none
-  unfolding rowLabels
-  led-labelled =
-      ap (missing (λ v. there (labelOf d v))) (led-name line is (l .space) bare true (l .named))
+  led-labelled : (us : List Word) → missing (λ v. there (labelOf d v)) us ≡ none → missing (λ v. there (labelOf d v)) (leadingName (itemsAt line is) ++ us) ≡ none
+  led-labelled us h =
+      missing-second (λ v. there (labelOf d v)) (leadingName (itemsAt line is)) us
+      (ap (missing (λ v. there (labelOf d v))) (led-name line is (l .space) bare true (l .named))
       ∙ one-missing (λ v. there (labelOf d v)) (wordOf line (is + 1)) true (l .found)
-      ∙ unless-true true (wordOf line (is + 1)) refl
+      ∙ unless-true true (wordOf line (is + 1)) refl)
+      ∙ h
 
-  led-shaped : rowValues byRow (itemsAt line is) ≡ shapedValues false (itemsAt line j)
-  unfolding rowValues shapedValues
-  led-shaped = led-values line is (l .space) bare true (l .named) ∙ ap (λ m. plainValues (itemsAt line m)) (sym (l .end))
+  led-shaped : (b : Bool) → valuesBehindLabel (shapedValues b) (itemsAt line is) ≡ shapedValues b (itemsAt line j)
+  led-shaped b = led-values line is (l .space) bare true (l .named) (shapedValues b) ∙ ap (λ m. shapedValues b (itemsAt line m)) (sym (l .end))
 
--- ---- the row is taken, by the scheme of its table
+  led-brackets : bracketLabels (itemsAt line is) ≡ bracketLabels (itemsAt line j)
+  led-brackets = brackets-behind line is (l .space) bare ∙ ap (λ m. bracketLabels (itemsAt line m)) (sym (l .end))
+
+-- the brackets' labels are known
+cells-labelled : {text before mid : List ℕ} {k n m : ℕ} {ls : List ℕ} (d : Policy) (line : List ℕ) {cs : List Column} {is e : ℕ} → CellsTaken text before mid line k n m ls d cs is e → closesAt line e ≡ true
+    → missing (λ v. there (labelOf d v)) (bracketLabels (itemsAt line is)) ≡ none
+cells-labelled d line {cs} {is} {e} t shut = t .labelled ∙ labels-done (λ v. there (labelOf d v)) line e (no-space line e shut)
+
+-- ---- the row is taken, by the two marks of its table's scheme: whether rows lead with a label, and whether they have brackets
 
 module _ {text before : List ℕ} {k x n : ℕ} (d : Doc) (line : List ℕ) (is e : ℕ) (N : Rows text before k (d .rows)) (room : k < 1024) (table : tableOf (d .policy) (wordOf line 5) ≡ some x)
-    (shut : closesAt line e ≡ true) (wide : n ≡ length (columnsAt (d .policy) x)) (few : n ≤ 16) {mid after : List ℕ} where
-  pub plain-taken : NoLabels (schemeAt (d .policy) x) → ValuesTaken text before mid line k n 0 [] (columnsAt (d .policy) x) is e → AddsRow text mid after k x n 0 → ItemsTaken text line after k is d
-  plain-taken u t more =
-      let s : Scheme ℕ = schemeAt (d .policy) x in
-      let items : List Item = itemsAt line is in
-      taken-so d line is k x (sym (rows-counted text before k (d .rows) N)) room table s refl (unlabelled-all (d .policy) u items) (t .walked) shut wide few (plain-shaped (d .policy) u items) (walked-close (t .walked) shut)
-      (λ (f : RowFits d (wordOf line 5) items k s).
-      subst (λ (ls : List Word). Rows text after (k + 1) (d .rows ++ (record { table = x; values = map (λ w. w .bytes) (f .words); labels = map (λ w. orZero (labelOf (d .policy) w)) ls } ∷ []))) (sym (u .labels items))
-      (plain-stored line is (d .rows) (f .words) N room (f .few) (sym (u .values items) ∙ f .values) (λ short g. t .filled (plain-stop line e (no-space line e shut))) more))
+    (shut : closesAt line e ≡ true) (wide : n ≡ length (columnsAt (d .policy) x)) (few : n ≤ 16) where
+  module _ {a b : Bool} (p : leadsLabel (schemeAt (d .policy) x) ≡ a) (q : hasBrackets (schemeAt (d .policy) x) ≡ b) where
+    -- it is taken if its labels are known, its values were walked, and both are stored
+    shape-taken : {after : List ℕ} {j : ℕ} → missing (λ v. there (labelOf (d .policy) v)) (cond a (leadingName (itemsAt line is)) [] ++ cond b (bracketLabels (itemsAt line is)) []) ≡ none
+        → cond a (valuesBehindLabel (shapedValues b) (itemsAt line is)) (shapedValues b (itemsAt line is)) ≡ shapedValues b (itemsAt line j)
+        → ItemsWalked b line n (columnsAt (d .policy) x) j e → ItemsClose line is
+        → ((ws : List Word) → length ws ≤ 16 → cond a (valuesBehindLabel (shapedValues b) (itemsAt line is)) (shapedValues b (itemsAt line is)) ≡ some ws → Added text after k d x ws (cond a (leadingName (itemsAt line is)) [] ++ cond b (bracketLabels (itemsAt line is)) []))
+        → ItemsTaken text line after k is d
+    shape-taken {after} labelled shaped walked close stored =
+        taken-so d line is k x (sym (rows-counted text before k (d .rows) N)) room table (schemeAt (d .policy) x) refl (ap (missing (λ v. there (labelOf (d .policy) v))) (labels-by (schemeAt (d .policy) x) p q (itemsAt line is)) ∙ labelled) walked shut wide few (values-by (schemeAt (d .policy) x) p q (itemsAt line is) ∙ shaped) close
+        (λ (f : RowFits d (wordOf line 5) (itemsAt line is) k (schemeAt (d .policy) x)).
+        subst (λ (ls : List Word). Added text after k d x (f .words) ls) (sym (labels-by (schemeAt (d .policy) x) p q (itemsAt line is))) (stored (f .words) (f .few) (sym (values-by (schemeAt (d .policy) x) p q (itemsAt line is)) ∙ f .values)))
 
-  pub cells-taken : schemeAt (d .policy) x ≡ byCell → CellsTaken text before mid line k n (d .policy) (columnsAt (d .policy) x) is e → AddsRow text mid after k x n n → ItemsTaken text line after k is d
-  unfolding rowLabels rowValues
-  cells-taken scheme t more =
-      taken-so d line is k x (sym (rows-counted text before k (d .rows) N)) room table byCell scheme (cells-labelled (d .policy) line t shut) (t .walked) shut wide few (cells-shaped (itemsAt line is)) (walked-close (t .walked) shut)
-      (λ (f : RowFits d (wordOf line 5) (itemsAt line is) k byCell).
-      cells-stored line is (d .rows) (f .words) N room (f .few) (d .policy) (f .values) (λ short. t .filled (cells-stop line e (no-space line e shut))) more)
+  pub plain-taken : {mid after : List ℕ} → leadsLabel (schemeAt (d .policy) x) ≡ false → hasBrackets (schemeAt (d .policy) x) ≡ false → ValuesTaken text before mid line k n 0 [] (columnsAt (d .policy) x) is e → AddsRow text mid after k x n 0 → ItemsTaken text line after k is d
+  unfolding shapedValues
+  plain-taken p q t more =
+      shape-taken p q (missing-nil (λ v. there (labelOf (d .policy) v))) refl (t .walked) (walked-close (t .walked) shut)
+      (λ ws short v. plain-stored line is (d .rows) ws N room short v (λ short g. t .filled (plain-stop line e (no-space line e shut))) more)
 
-  pub led-taken : {marked : List ℕ} {j : ℕ} → schemeAt (d .policy) x ≡ byRow → LabelTaken before marked line (d .policy) k 0 is j
-      → ValuesTaken text marked mid line k n 1 (orZero (labelOf (d .policy) (wordOf line (is + 1))) ∷ []) (columnsAt (d .policy) x) j e → AddsRow text mid after k x n 1 → ItemsTaken text line after k is d
-  unfolding rowLabels rowValues wordEndAt
-  led-taken {marked} {j} scheme l t more =
-      taken-so d line is k x (sym (rows-counted text before k (d .rows) N)) room table byRow scheme (led-labelled l) (t .walked) shut wide few (led-shaped l)
-      (record { end = e; read = led-ends l ∙ t .walked .ends ∙ no-items line e shut; closed = shut })
-      (λ (f : RowFits d (wordOf line 5) (itemsAt line is) k byRow).
-      leading-stored line is (d .rows) (f .words) N room (f .few) (d .policy) (orZero (labelOf (d .policy) (wordOf line (is + 1)))) j (f .values) (l .space) refl (l .stored) (l .end)
-      (λ short g. t .filled (plain-stop line e (no-space line e shut))) more)
+  pub cells-taken : {mid after : List ℕ} → leadsLabel (schemeAt (d .policy) x) ≡ false → hasBrackets (schemeAt (d .policy) x) ≡ true → CellsTaken text before mid line k n 0 [] (d .policy) (columnsAt (d .policy) x) is e → AddsRow text mid after k x n n → ItemsTaken text line after k is d
+  unfolding shapedValues
+  cells-taken p q t more =
+      shape-taken p q (cells-labelled (d .policy) line t shut) refl (t .walked) (walked-close (t .walked) shut)
+      (λ ws short v. cells-stored line is (d .rows) ws N room short (d .policy) v (λ short. none-before (t .filled (cells-stop line e (no-space line e shut)))) more)
+
+  module _ {marked : List ℕ} {j : ℕ} (l : LabelTaken before marked line (d .policy) k 0 is j) where
+    led-close : {b : Bool} → ItemsWalked b line n (columnsAt (d .policy) x) j e → ItemsClose line is
+    led-close w = record { end = e; read = led-ends l ∙ w .ends ∙ no-items line e shut; closed = shut }
+
+    pub led-taken : {mid after : List ℕ} → leadsLabel (schemeAt (d .policy) x) ≡ true → hasBrackets (schemeAt (d .policy) x) ≡ false → ValuesTaken text marked mid line k n 1 (orZero (labelOf (d .policy) (wordOf line (is + 1))) ∷ []) (columnsAt (d .policy) x) j e
+        → AddsRow text mid after k x n 1 → ItemsTaken text line after k is d
+    unfolding shapedValues wordEndAt
+    led-taken p q t more =
+        shape-taken p q (led-labelled l [] (missing-nil (λ v. there (labelOf (d .policy) v)))) (led-shaped l false) (t .walked) (led-close (t .walked))
+        (λ ws short v. led-alone k x d (itemsAt line is) ws
+        (leading-stored line is (d .rows) ws N room short (d .policy) (orZero (labelOf (d .policy) (wordOf line (is + 1)))) j v (l .space) refl (l .stored) (l .end)
+        (λ short g. t .filled (plain-stop line e (no-space line e shut))) more))
+
+    pub nested-taken : {mid after : List ℕ} {m : ℕ} → leadsLabel (schemeAt (d .policy) x) ≡ true → hasBrackets (schemeAt (d .policy) x) ≡ true
+        → CellsTaken text marked mid line k n 1 (orZero (labelOf (d .policy) (wordOf line (is + 1))) ∷ []) (d .policy) (columnsAt (d .policy) x) j e
+        → m ≡ n + 1 → AddsRow text mid after k x n m → ItemsTaken text line after k is d
+    unfolding shapedValues wordEndAt
+    nested-taken p q t counted more =
+        shape-taken p q (led-labelled l (bracketLabels (itemsAt line is)) (ap (missing (λ v. there (labelOf (d .policy) v))) (led-brackets l) ∙ cells-labelled (d .policy) line t shut)) (led-shaped l true) (t .walked) (led-close (t .walked))
+        (λ ws short v.
+        nested-stored line is (d .rows) ws N room short (d .policy) (orZero (labelOf (d .policy) (wordOf line (is + 1)))) j v (l .space) refl (l .stored) (l .end)
+        (λ short g. t .filled (cells-stop line e (no-space line e shut))) (λ z. counted) more)
 
 -- ---- what the code looked up
 

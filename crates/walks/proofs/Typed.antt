@@ -19,10 +19,11 @@ use Rattle.document.specs.AmountFaults.{dateExists, inOrder}
 use Rattle.document.specs.Lookup.{columnsAt}
 use Rattle.document.specs.Policy.{Column, Policy}
 use Rattle.document.specs.TypeFaults.{cellHasKind, mistypedValue}
+use Rattle.document.specs.ValueFaults.{shapedValues}
 use Rattle.rows.proofs.RowChecks.{firstBroken, firstUnreal, test-on, types-on}
 use Rattle.rows.proofs.RowItems.{count-start, countFits, fits-more, width-fits}
 use Rattle.rows.proofs.RowTypes.{bracket-date, bracket-name, bracket-number, rank-there, word-kind}
-use Rattle.rows.specs.RowWords.{shapedValues, valuesAt}
+use Rattle.rows.specs.RowWords.{valuesAt}
 use Rattle.form.proofs.FormForward.{forward-item}
 use Rattle.form.proofs.PartLaws.{item-ends}
 use Rattle.form.proofs.WalkLaws.{value-unlabelled}

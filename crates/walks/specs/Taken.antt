@@ -3,14 +3,12 @@ use Prim.Native.Nat.{_+_, ℕ}
 use lib.Dec.{eqb}
 use lib.ListN.{getD, length}
 use mathlib.Core.Bool.{Bool, _&&_, cond, false, true}
-use mathlib.Core.List.{List, []}
+use mathlib.Core.List.{List}
 use mathlib.Core.Option.{some}
 use mathlib.Core.Path.{_≡_}
 use Rattle.document.specs.Meaning.{add}
-use Rattle.document.specs.NameFaults.{rowLabels}
 use Rattle.document.specs.Policy.{Doc}
-use Rattle.document.specs.ValueFaults.{plainValues, rowValues}
-use Rattle.form.specs.Form.{Form, Item, Scheme, row}
+use Rattle.form.specs.Form.{Form, row}
 use Rattle.form.specs.FormReader.{formOf, item}
 use Rattle.form.specs.Walks.{itemsAt}
 use Rattle.relations.specs.Rows.{Rows}
@@ -70,8 +68,3 @@ pub record ItemsTaken (text line after : List ℕ) (k is : ℕ) (d : Doc) : Type
 abbrev pub TakesItems : (text line after : List ℕ) → ℕ → ℕ → Doc → Bool → Type 0
 TakesItems text line after k is d true = ItemsTaken text line after k is d
 TakesItems text line after k is d false = Rows text after k (d .rows)
-
--- rows of this scheme have values without labels
-pub record NoLabels (s : Scheme ℕ) : Type 0 where
-  pub values : (is : List Item) → rowValues s is ≡ plainValues is
-  pub labels : (is : List Item) → rowLabels s is ≡ []

@@ -3,7 +3,7 @@ use Prim.Native.Nat.{_+_, ℕ}
 use lib.Dec.{eqb, leb}
 use lib.ListN.{drop, getD, length}
 use mathlib.Core.Bool.{Bool, _&&_, cond, false, true}
-use mathlib.Core.List.{List, [], map}
+use mathlib.Core.List.{List, [], _++_, map}
 use mathlib.Core.Path.{_≡_}
 use Rattle.calendar.specs.DateText.{dateOf}
 use Rattle.calendar.specs.declared.reading.DateRead.{DateRead}
@@ -14,7 +14,8 @@ use Rattle.document.specs.Lookup.{labelOf}
 use Rattle.document.specs.NameFaults.{bracketLabels}
 use Rattle.document.specs.Policy.{Column, Policy, Row}
 use Rattle.document.specs.TypeFaults.{cellHasKind, mistypedValue}
-use Rattle.rows.specs.RowWords.{shapedValues, valuesAt}
+use Rattle.document.specs.ValueFaults.{shapedValues}
+use Rattle.rows.specs.RowWords.{valuesAt}
 use Rattle.form.specs.FormReader.{item}
 use Rattle.form.specs.Walks.{cellsAt, itemsAt, plainAt}
 use Rattle.relations.specs.Rows.{LabelStored, Rows}
@@ -74,11 +75,11 @@ pub record ValuesTaken (text before after line : List ℕ) (k n m : ℕ) (ls : L
   pub walked : ItemsWalked false line n cs is e
   pub filled : plainAt line e ≡ [] → RowFilled text before after k n m (map (λ w. w .bytes) (plainAt line is)) ls
 
--- the same for n cells with a known label at each
-pub record CellsTaken (text before after line : List ℕ) (k n : ℕ) (d : Policy) (cs : List Column) (is e : ℕ) : Type 0 where
+-- the same for n cells with a known label at each, where the row has the labels ls already, m of them
+pub record CellsTaken (text before after line : List ℕ) (k n m : ℕ) (ls : List ℕ) (d : Policy) (cs : List Column) (is e : ℕ) : Type 0 where
   pub walked : ItemsWalked true line n cs is e
   pub labelled : missing (λ w. there (labelOf d w)) (bracketLabels (itemsAt line is)) ≡ missing (λ w. there (labelOf d w)) (bracketLabels (itemsAt line e))
-  pub filled : cellsAt line e ≡ [] → RowFilled text before after k n n (map (λ g. g .0 .bytes) (cellsAt line is)) (map (λ g. orZero (labelOf d (g .1))) (cellsAt line is))
+  pub filled : cellsAt line e ≡ [] → RowFilled text before after k n (m + n) (map (λ g. g .0 .bytes) (cellsAt line is)) (ls ++ map (λ g. orZero (labelOf d (g .1))) (cellsAt line is))
 
 -- the name of a known label stands behind a space and ends at e, and it is stored as label m of row k
 pub record LabelTaken (before after line : List ℕ) (d : Policy) (k m at e : ℕ) : Type 0 where
@@ -94,9 +95,9 @@ ValuesWalked text before after line k n m ls cs is Nothing = Unit {0}
 ValuesWalked text before after line k n m ls cs is (At e) = ValuesTaken text before after line k n m ls cs is e
 
 -- its answer for cells
-abbrev pub CellsWalked : (text before after line : List ℕ) → ℕ → ℕ → Policy → List Column → ℕ → End → Type 0
-CellsWalked text before after line k n d cs is Nothing = Unit {0}
-CellsWalked text before after line k n d cs is (At e) = CellsTaken text before after line k n d cs is e
+abbrev pub CellsWalked : (text before after line : List ℕ) → ℕ → ℕ → ℕ → List ℕ → Policy → List Column → ℕ → End → Type 0
+CellsWalked text before after line k n m ls d cs is Nothing = Unit {0}
+CellsWalked text before after line k n m ls d cs is (At e) = CellsTaken text before after line k n m ls d cs is e
 
 -- its answer for a label
 abbrev pub LabelWalked : (before after line : List ℕ) → Policy → ℕ → ℕ → ℕ → End → Type 0

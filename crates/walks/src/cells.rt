@@ -18,7 +18,7 @@ use workspace::found::Found;
 use workspace::layout::LABELS;
 use workspace::layout::ROW_CELLS;
 use workspace::layout::TABLE_CELLS;
-ghost use Prim.Native.Nat.{ℕ};
+ghost use Prim.Native.Nat.{_≤_, ℕ};
 ghost use mathlib.Core.List.{List};
 ghost use mathlib.Core.Path.{_≡_};
 ghost use Rattle.condition.specs.Answers.{kindOf};
@@ -145,7 +145,8 @@ pub(crate) fn take_label(
     End::At(e)
 }
 
-// Stores the n cells `(v L)` from a place of the line on as the values and labels of row k, likewise, and gives their end.
+// Stores the n cells `(v L)` from a place of the line on as the values of row k and its labels behind m of them, likewise, and gives their
+// end.
 pub(crate) fn take_cells(
     text: &[u8],
     at: usize,
@@ -158,12 +159,14 @@ pub(crate) fn take_cells(
     rows: &mut [usize; ROW_CELLS],
     k: usize,
     is: usize,
+    m: usize,
 ) -> End
-    ensures { λ r. ⌜ TakeCellsPromise (now (text .entry)) at (now (line .entry)) (now (labels .entry)) «labels_count» (now (tables .entry)) x n (now (rows .entry)) (now (rows .exit)) k is r ⌝ }
+    requires { ⌜ m ≤ 1 ⌝ }
+    ensures { λ r. ⌜ TakeCellsPromise (now (text .entry)) at (now (line .entry)) (now (labels .entry)) «labels_count» (now (tables .entry)) x n (now (rows .entry)) (now (rows .exit)) k is m r ⌝ }
 {
-    let mut m: usize = 0;
+    let mut c: usize = 0;
     let mut j = is;
-    while m < n {
+    while c < n {
         if byte_at(line, j) != b' ' {
             return End::Nothing;
         }
@@ -171,14 +174,14 @@ pub(crate) fn take_cells(
             return End::Nothing;
         }
         let v = j + 2;
-        let kind = column_kind(tables, x, m);
+        let kind = column_kind(tables, x, c);
         let r = typed_end(line, v, kind);
         let End::At(e) = r else {
             return End::Nothing;
         };
         let pos = place(text, at, v);
-        set_value(rows, k, m, pos);
-        let l = take_label(text, line, labels, labels_count, rows, k, m, e);
+        set_value(rows, k, c, pos);
+        let l = take_label(text, line, labels, labels_count, rows, k, m + c, e);
         let End::At(f) = l else {
             return End::Nothing;
         };
@@ -186,7 +189,7 @@ pub(crate) fn take_cells(
             return End::Nothing;
         }
         j = f + 1;
-        m += 1;
+        c += 1;
     }
     End::At(j)
 }

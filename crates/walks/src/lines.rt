@@ -2,9 +2,10 @@
 use crate::cells::take_cells;
 use crate::cells::take_label;
 use crate::cells::take_values;
-use form::lines::Scheme;
 use relations::rows::add_row;
 use relations::tables::find_table_to;
+use relations::tables::has_brackets;
+use relations::tables::leads_label;
 use relations::tables::table_scheme;
 use relations::tables::table_width;
 use text::bytes::byte_at;
@@ -16,9 +17,10 @@ use workspace::layout::LABELS;
 use workspace::layout::ROW_CELLS;
 use workspace::layout::ROWS;
 use workspace::layout::TABLE_CELLS;
+ghost use mathlib.Core.Bool.{false, true};
 ghost use mathlib.Core.Path.{_≡_};
 ghost use Rattle.walks.specs.Taken.{closesAt, tableEnd};
-ghost use Rattle.walks.specs.Promises.{TakeLabelledPromise, TakeLedPromise, TakePlainPromise, TakeRowPromise};
+ghost use Rattle.walks.specs.Promises.{TakePlainPromise, TakeRowPromise, TakeShapedPromise};
 
 // Where the name of the table ends in a line that begins with `(row T`.
 fn table_end(line: &[u8]) -> End
@@ -84,7 +86,7 @@ fn take_led(
     k: usize,
     is: usize,
 ) -> bool
-    ensures { λ r. ⌜ TakeLedPromise (now (text .entry)) at (now (line .entry)) (now (labels .entry)) «labels_count» (now (tables .entry)) x (now (rows .entry)) (now (rows .exit)) k is r ⌝ }
+    ensures { λ r. ⌜ TakeShapedPromise true false (now (text .entry)) at (now (line .entry)) (now (labels .entry)) «labels_count» (now (tables .entry)) x (now (rows .entry)) (now (rows .exit)) k is r ⌝ }
 {
     let l = take_label(text, line, labels, labels_count, rows, k, 0, is);
     let End::At(j) = l else {
@@ -115,7 +117,7 @@ fn take_labelled(
     k: usize,
     is: usize,
 ) -> bool
-    ensures { λ r. ⌜ TakeLabelledPromise (now (text .entry)) at (now (line .entry)) (now (labels .entry)) «labels_count» (now (tables .entry)) x (now (rows .entry)) (now (rows .exit)) k is r ⌝ }
+    ensures { λ r. ⌜ TakeShapedPromise false true (now (text .entry)) at (now (line .entry)) (now (labels .entry)) «labels_count» (now (tables .entry)) x (now (rows .entry)) (now (rows .exit)) k is r ⌝ }
 {
     let n = table_width(tables, x);
     let r = take_cells(
@@ -130,6 +132,7 @@ fn take_labelled(
         rows,
         k,
         is,
+        0,
     );
     let End::At(e) = r else {
         return false;
@@ -138,6 +141,50 @@ fn take_labelled(
         return false;
     }
     add_row(rows, k, x, n, n);
+    true
+}
+
+// Takes a row of table x with its label and then its values with a label at each, from a place of the line on.
+fn take_nested(
+    text: &[u8],
+    at: usize,
+    line: &[u8],
+    labels: &[usize; LABELS],
+    labels_count: usize,
+    tables: &[usize; TABLE_CELLS],
+    x: usize,
+    rows: &mut [usize; ROW_CELLS],
+    k: usize,
+    is: usize,
+) -> bool
+    ensures { λ r. ⌜ TakeShapedPromise true true (now (text .entry)) at (now (line .entry)) (now (labels .entry)) «labels_count» (now (tables .entry)) x (now (rows .entry)) (now (rows .exit)) k is r ⌝ }
+{
+    let l = take_label(text, line, labels, labels_count, rows, k, 0, is);
+    let End::At(j) = l else {
+        return false;
+    };
+    let n = table_width(tables, x);
+    let r = take_cells(
+        text,
+        at,
+        line,
+        labels,
+        labels_count,
+        tables,
+        x,
+        n,
+        rows,
+        k,
+        j,
+        1,
+    );
+    let End::At(e) = r else {
+        return false;
+    };
+    if !closes(line, e) {
+        return false;
+    }
+    add_row(rows, k, x, n, n + 1);
     true
 }
 
@@ -168,13 +215,15 @@ pub fn take_row(
         return false;
     };
     let scheme = table_scheme(tables, x);
-    match scheme {
-        Scheme::Unlabelled => take_plain(text, at, line, tables, x, rows, k, is),
-        Scheme::ByTable => take_plain(text, at, line, tables, x, rows, k, is),
-        Scheme::ByColumn => take_plain(text, at, line, tables, x, rows, k, is),
-        Scheme::ByRow => { take_led(text, at, line, labels, labels_count, tables, x, rows, k, is) }
-        Scheme::ByCell => {
-            take_labelled(text, at, line, labels, labels_count, tables, x, rows, k, is)
+    let bracketed = has_brackets(scheme);
+    if leads_label(scheme) {
+        if bracketed {
+            return take_nested(text, at, line, labels, labels_count, tables, x, rows, k, is);
         }
+        return take_led(text, at, line, labels, labels_count, tables, x, rows, k, is);
     }
+    if bracketed {
+        return take_labelled(text, at, line, labels, labels_count, tables, x, rows, k, is);
+    }
+    take_plain(text, at, line, tables, x, rows, k, is)
 }

@@ -37,8 +37,11 @@ pub const LABELS: usize = 64;
 
 pub const SET_WORDS: usize = 2 * LABELS * WORDS;
 
+// What labels say of a purpose: from 0 on whether each allows it, and then whether each denies it.
+pub const VERDICTS: usize = 2 * LABELS;
+
 // Tables: their names from 0, then their schemes, labels and numbers of columns, `COLUMNS` places of each kind for a table, and what
-// later lines say of them.
+// later lines say of them: whether they are public, their weak and their strong labels.
 pub const TABLES: usize = 8;
 
 pub const COLUMNS: usize = 16;
@@ -57,10 +60,14 @@ pub const COLUMN_LABELS: usize = COLUMN_KINDS + COLUMNS * TABLES;
 
 pub const TABLE_NOTES: usize = COLUMN_LABELS + COLUMNS * TABLES;
 
-pub const TABLE_CELLS: usize = TABLE_NOTES + TABLES;
+pub const TABLE_WEAK: usize = TABLE_NOTES + TABLES;
+
+pub const TABLE_STRONG: usize = TABLE_WEAK + TABLES;
+
+pub const TABLE_CELLS: usize = TABLE_STRONG + TABLES;
 
 // Rows: their tables from 0, then their numbers of values and of labels, and for each row `COLUMNS` places for values and
-// `LABEL_ROOM` for labels.
+// `LABEL_ROOM` for labels: a nest table's rows have one more than values.
 pub const ROWS: usize = 1024;
 
 pub const ROW_WIDTHS: usize = ROWS;
@@ -71,6 +78,6 @@ pub const ROW_VALUES: usize = 3 * ROWS;
 
 pub const ROW_LABELS: usize = ROW_VALUES + COLUMNS * ROWS;
 
-pub const LABEL_ROOM: usize = COLUMNS;
+pub const LABEL_ROOM: usize = COLUMNS + 1;
 
 pub const ROW_CELLS: usize = ROW_LABELS + LABEL_ROOM * ROWS;

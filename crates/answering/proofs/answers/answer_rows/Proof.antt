@@ -44,7 +44,7 @@ returns-4 : tie.Need-returns-4
 returns-4 c =
     λ d q h.
     subst (λ a. Writes a (c .before .before .before .before .before .before .before .before .before .before .before .before .before .before .before .before .args .out .now) (c .before .before .put-measured .last .0) (c .before .before .put-measured .result)) (sym (answer-is h (c .before .before .before .before .before .before .before .judge-rows .ensures d q h) (c .before .before .before .before .before .before .table-scheme .result) (c .before .before .before .before .before .before .table-scheme .ensures) (c .before .before .before .before .before .writes-gaps .ensures)))
-    (c .before .before .put-measured .ensures d (q .purpose) (h .opened) (h .rows))
+    (c .before .before .put-measured .ensures d (h .rows))
 
 pub answer-rows-spec : {M : Type 1} → statement M
 answer-rows-spec =

@@ -15,7 +15,7 @@ put-answer-requires : tie.Need-put-answer-requires
 put-answer-requires c κs = search needs
 
 returns : tie.Need-returns
-returns c = λ d p o h. size-written (c .before .put-answer .ensures d p o h)
+returns c = λ d h. size-written (c .before .put-answer .ensures d h)
 
 pub measure-answer-spec : {M : Type 1} → statement M
 measure-answer-spec =

@@ -16,7 +16,7 @@ same-length c = search needs
 returns : tie.Need-returns
 returns c =
     let a = c .before .before .before .before .before .before .before .before .before .before .before .args in
-    λ d p o h. lines-written (d .policy) p (a .text .now) (a .rows .now) (a .gaps) (a .columns .now) (a .marks .now) (a .chosen) (a .count) (a .tally) (c .before .before .before .before .before .before .before .before .before .before .before .pre .0) (c .before .before .before .before .before .before .before .before .before .before .before .pre .1) (c .before .before .before .before .before .before .before .before .before .before .before .pre .2) (c .before .before .before .before .before .before .before .before .if1 .taken) (c .before .before .before .before .before .before .put-lines .ensures d p o h) (c .before .before .put-end .ensures)
+    λ d h. lines-written (a .said .now) (a .m) (a .text .now) (a .rows .now) (a .gaps) (a .columns .now) (a .marks .now) (a .chosen) (a .count) (a .tally) (c .before .before .before .before .before .before .before .before .before .before .before .pre .0) (c .before .before .before .before .before .before .before .before .before .before .before .pre .1) (c .before .before .before .before .before .before .before .before .before .before .before .pre .2) (c .before .before .before .before .before .before .before .before .if1 .taken) (c .before .before .before .before .before .before .put-lines .ensures d h) (c .before .before .put-end .ensures)
 
 put-end-requires-2 : tie.Need-put-end-requires-2
 put-end-requires-2 c κs = search needs
@@ -27,7 +27,7 @@ same-length-2 c = search needs
 returns-2 : tie.Need-returns-2
 returns-2 c =
     let a = c .before .before .before .before .before .before .before .args in
-    λ d p o h. count-written (d .policy) p (a .text .now) (a .rows .now) (a .gaps) (a .columns .now) (a .marks .now) (a .chosen) (a .count) (a .tally) (c .before .before .before .before .before .before .before .pre .0) (c .before .before .before .before .before .before .before .pre .1) (c .before .before .before .before .before .before .before .pre .2) (c .before .before .before .before .if1 .left) (c .before .before .put-end2 .ensures)
+    λ d h. count-written (a .said .now) (a .m) (a .text .now) (a .rows .now) (a .gaps) (a .columns .now) (a .marks .now) (a .chosen) (a .count) (a .tally) (c .before .before .before .before .before .before .before .pre .0) (c .before .before .before .before .before .before .before .pre .1) (c .before .before .before .before .before .before .before .pre .2) (c .before .before .before .before .if1 .left) (c .before .before .put-end2 .ensures)
 
 pub put-answer-spec : {M : Type 1} → statement M
 put-answer-spec =

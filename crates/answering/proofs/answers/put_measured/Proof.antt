@@ -14,7 +14,7 @@ returns : tie.Need-returns
 unfolding answerMarked counted
 returns c =
     let a = c .before .before .before .before .args in
-    λ d p o h. no-room (a .out .now) (answerMarked (rowShown (d .policy) p (a .text .now) (a .rows .now) (a .gaps)) (take (a .chosen) (a .columns .now)) (a .marks .now) (a .count) (a .lines) (a .tally)) (c .before .measure-answer .ensures d p o h) (c .if1 .taken)
+    λ d h. no-room (a .out .now) (answerMarked (rowShown (a .said .now) (a .m) (a .text .now) (a .rows .now) (a .gaps)) (take (a .chosen) (a .columns .now)) (a .marks .now) (a .count) (a .lines) (a .tally)) (c .before .measure-answer .ensures d h) (c .if1 .taken)
 
 put-answer-requires : tie.Need-put-answer-requires
 put-answer-requires c κs = search needs
@@ -26,7 +26,7 @@ returns-2 : tie.Need-returns-2
 unfolding answerMarked counted
 returns-2 c =
     let a = c .before .before .before .before .before .before .before .before .args in
-    λ d p o h. written (a .out .now) (answerMarked (rowShown (d .policy) p (a .text .now) (a .rows .now) (a .gaps)) (take (a .chosen) (a .columns .now)) (a .marks .now) (a .count) (a .lines) (a .tally)) (c .before .before .before .before .before .measure-answer .ensures d p o h) (c .before .before .before .before .if1 .left) (c .before .before .put-answer .ensures d p o h)
+    λ d h. written (a .out .now) (answerMarked (rowShown (a .said .now) (a .m) (a .text .now) (a .rows .now) (a .gaps)) (take (a .chosen) (a .columns .now)) (a .marks .now) (a .count) (a .lines) (a .tally)) (c .before .before .before .before .before .measure-answer .ensures d h) (c .before .before .before .before .if1 .left) (c .before .before .put-answer .ensures d h)
 
 pub put-measured-spec : {M : Type 1} → statement M
 put-measured-spec =

@@ -1,5 +1,6 @@
 -- `answering::answers::writes_gaps` meets its contract. Assumes nothing.
 use mathlib.Core.Bool.{Bool, _&&_}
+use mathlib.Core.List.{[]}
 use mathlib.Core.Path.{_∙_, ap, sym}
 use Rattle.answering.specs.Lines.{gapsBy, labelsCells}
 use borrow.Author.Needs.{needs}
@@ -9,14 +10,14 @@ use Rattle.answering.proofs.answers.writes_gaps.Tie as tie
 leaves-gaps-requires : tie.Need-leaves-gaps-requires
 leaves-gaps-requires c κs = search needs
 
-labels-cells-requires : tie.Need-labels-cells-requires
-labels-cells-requires c κs = search needs
+has-brackets-requires : tie.Need-has-brackets-requires
+has-brackets-requires c κs = search needs
 
 returns : tie.Need-returns
 unfolding gapsBy
 returns c =
     let a = c .before .before .before .args in
-    c .labels-cells .ensures ∙ ap (λ (b : Bool). b && labelsCells (a .scheme)) (sym (c .before .if1 .taken) ∙ c .before .before .leaves-gaps .ensures)
+    c .has-brackets .ensures 0 [] ∙ ap (λ (b : Bool). b && labelsCells (a .scheme)) (sym (c .before .if1 .taken) ∙ c .before .before .leaves-gaps .ensures)
 
 returns-2 : tie.Need-returns-2
 unfolding gapsBy
@@ -26,4 +27,4 @@ returns-2 c =
 
 pub writes-gaps-spec : {M : Type 1} → statement M
 writes-gaps-spec =
-    tie.close (tie.spec leaves-gaps-requires labels-cells-requires returns returns-2)
+    tie.close (tie.spec leaves-gaps-requires has-brackets-requires returns returns-2)

@@ -16,12 +16,12 @@ same-length c = search needs
 returns : tie.Need-returns
 returns c =
     let a = c .before .before .before .before .before .before .before .before .before .args in
-    λ d p o n f. line-written d p (a .text .now) (a .rows .now) (a .gaps) (a .columns .now) (a .r) (c .before .before .before .before .before .before .before .before .before .pre) (c .before .before .before .before .before .if1 .taken) (c .before .before .before .before .row-values .ensures) (c .before .before .put-row .ensures d p o f) n
+    λ n f. line-written (a .said .now) (a .m) (a .text .now) (a .rows .now) (a .gaps) (a .columns .now) (a .r) (c .before .before .before .before .before .before .before .before .before .pre) (c .before .before .before .before .before .if1 .taken) (c .before .before .before .before .row-values .ensures) (c .before .before .put-row .ensures f) n
 
 returns-2 : tie.Need-returns-2
 returns-2 c =
     let a = c .before .before .before .before .args in
-    λ d p o n f. line-none d p (a .text .now) (a .rows .now) (a .gaps) (a .columns .now) (a .r) (a .out .now) (a .at) (c .if1 .left)
+    λ n f. line-none (a .said .now) (a .m) (a .text .now) (a .rows .now) (a .gaps) (a .columns .now) (a .r) (a .out .now) (a .at) (c .if1 .left)
 
 pub put-line-spec : {M : Type 1} → statement M
 put-line-spec =

@@ -26,7 +26,7 @@ same-length c = search needs
 
 returns : tie.Need-returns
 unfolding rowLine spacedValues
-returns c = λ d p o f. w.both (w.both (c .before .before .before .before .before .before .before .before .before .before .before .put-bytes .ensures) (c .before .before .before .before .before .before .before .put-shown .ensures d p o f)) (c .before .before .put-bytes2 .ensures)
+returns c = λ f. w.both (w.both (c .before .before .before .before .before .before .before .before .before .before .before .put-bytes .ensures) (c .before .before .before .before .before .before .before .put-shown .ensures f)) (c .before .before .put-bytes2 .ensures)
 
 pub put-row-spec : {M : Type 1} → statement M
 put-row-spec =

@@ -15,7 +15,7 @@ same-length c = search needs
 returns : tie.Need-returns
 returns c =
     let a = c .before .before .before .before .before .before .before .before .args in
-    λ d p o f. wrote-as (ap (spacedValues (a .columns .now)) (shown-gaps d p (a .text .now) (a .rows .now) (a .r) (a .width) (c .before .before .before .before .if1 .taken))) (c .before .before .put-gapped .ensures d p o f)
+    λ f. wrote-as (ap (spacedValues (a .columns .now)) (shown-gaps (a .said .now) (a .m) (a .text .now) (a .rows .now) (a .r) (a .width) (c .before .before .before .before .if1 .taken))) (c .before .before .put-gapped .ensures f)
 
 put-values-requires : tie.Need-put-values-requires
 put-values-requires c κs = c .before .before .before .before .before .pre
@@ -26,7 +26,7 @@ same-length-2 c = search needs
 returns-2 : tie.Need-returns-2
 returns-2 c =
     let a = c .before .before .before .before .before .before .before .before .args in
-    λ d p o f. wrote-as (ap (spacedValues (a .columns .now)) (shown-whole d p (a .text .now) (a .rows .now) (a .r) (a .width) (c .before .before .before .before .if1 .left))) (c .before .before .put-values .ensures)
+    λ f. wrote-as (ap (spacedValues (a .columns .now)) (shown-whole (a .said .now) (a .m) (a .text .now) (a .rows .now) (a .r) (a .width) (c .before .before .before .before .if1 .left))) (c .before .before .put-values .ensures)
 
 pub put-shown-spec : {M : Type 1} → statement M
 put-shown-spec =

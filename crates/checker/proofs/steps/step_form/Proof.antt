@@ -84,6 +84,18 @@ enum-known-form-12 c = search needs
 step-public-requires : tie.Need-step-public-requires
 step-public-requires c κs = tt
 
+enum-known-form-13 : tie.Need-enum-known-form-13
+enum-known-form-13 c = search needs
+
+step-label-note-requires : tie.Need-step-label-note-requires
+step-label-note-requires c κs = tt
+
+enum-known-form-14 : tie.Need-enum-known-form-14
+enum-known-form-14 c = search needs
+
+step-label-note-requires-2 : tie.Need-step-label-note-requires-2
+step-label-note-requires-2 c κs = tt
+
 returns : tie.Need-returns
 unfolding lineAt
 returns c =
@@ -138,6 +150,14 @@ returns-13 : tie.Need-returns-13
 unfolding lineAt Within
 returns-13 c = λ d a I U. follows-as (sym (line-form d (c .before .before .before .before .before .before .before .before .args .line .now) _ (c .before .before .before .before .before .read-line .ensures .is ∙ ap (lineAt (c .before .before .before .before .before .before .before .before .args .line .now)) (c .before .before .before .form12 .given .1)))) (c .step-public .ensures d _ _ _ _ _ _ _ _ _ (subst (Within (c .before .before .before .before .before .before .before .before .args .line .now)) (c .before .before .before .form12 .given .1) (c .before .before .before .before .before .read-line .ensures .within)) I)
 
+returns-14 : tie.Need-returns-14
+unfolding lineAt Within
+returns-14 c = λ d a I U. follows-as (sym (line-form d (c .before .before .before .before .before .before .before .before .before .before .args .line .now) _ (c .before .before .before .before .before .before .before .read-line .ensures .is ∙ ap (lineAt (c .before .before .before .before .before .before .before .before .before .before .args .line .now)) (c .before .before .before .before .before .form13 .given .1)))) (c .step-label-note .ensures d _ _ _ _ _ _ _ (subst (Within (c .before .before .before .before .before .before .before .before .before .before .args .line .now)) (c .before .before .before .before .before .form13 .given .1) (c .before .before .before .before .before .before .before .read-line .ensures .within)) I)
+
+returns-15 : tie.Need-returns-15
+unfolding lineAt Within
+returns-15 c = λ d a I U. follows-as (sym (line-form d (c .before .before .before .before .before .before .before .before .before .before .args .line .now) _ (c .before .before .before .before .before .before .before .read-line .ensures .is ∙ ap (lineAt (c .before .before .before .before .before .before .before .before .before .before .args .line .now)) (c .before .before .before .before .before .form14 .given .1)))) (c .step-label-note2 .ensures d _ _ _ _ _ _ _ (subst (Within (c .before .before .before .before .before .before .before .before .before .before .args .line .now)) (c .before .before .before .before .before .form14 .given .1) (c .before .before .before .before .before .before .before .read-line .ensures .within)) I)
+
 pub step-form-spec : {M : Type 1} → statement M
 step-form-spec =
     tie.close
@@ -168,6 +188,10 @@ step-form-spec =
     step-row-requires
     enum-known-form-12
     step-public-requires
+    enum-known-form-13
+    step-label-note-requires
+    enum-known-form-14
+    step-label-note-requires-2
     returns
     returns-2
     returns-3
@@ -180,4 +204,6 @@ step-form-spec =
     returns-10
     returns-11
     returns-12
-    returns-13)
+    returns-13
+    returns-14
+    returns-15)

@@ -67,11 +67,23 @@ is-public c = sym (c .before .is-word9 .ensures) ∙ c .if9 .taken
 not-public : (c : tie.Else9) → sameName (wordAt (c .before .before .before .before .before .before .before .before .before .before .before .before .before .before .before .before .before .before .before .before .before .before .before .before .before .before .before .before .before .args .s .now) (c .before .before .before .before .before .before .before .before .before .before .before .before .before .before .before .before .before .before .before .before .before .before .before .before .before .before .before .before .before .args .at)) (ascii "public") ≡ false
 not-public c = sym (c .before .is-word9 .ensures) ∙ c .if9 .left
 
-is-row : (c : tie.Then10) → sameName (wordAt (c .before .before .before .before .before .before .before .before .before .before .before .before .before .before .before .before .before .before .before .before .before .before .before .before .before .before .before .before .before .before .before .before .args .s .now) (c .before .before .before .before .before .before .before .before .before .before .before .before .before .before .before .before .before .before .before .before .before .before .before .before .before .before .before .before .before .before .before .before .args .at)) (ascii "row") ≡ true
-is-row c = sym (c .before .is-word10 .ensures) ∙ c .if10 .taken
+is-weak : (c : tie.Then10) → sameName (wordAt (c .before .before .before .before .before .before .before .before .before .before .before .before .before .before .before .before .before .before .before .before .before .before .before .before .before .before .before .before .before .before .before .before .args .s .now) (c .before .before .before .before .before .before .before .before .before .before .before .before .before .before .before .before .before .before .before .before .before .before .before .before .before .before .before .before .before .before .before .before .args .at)) (ascii "weak") ≡ true
+is-weak c = sym (c .before .is-word10 .ensures) ∙ c .if10 .taken
 
-not-row : (c : tie.Else10) → sameName (wordAt (c .before .before .before .before .before .before .before .before .before .before .before .before .before .before .before .before .before .before .before .before .before .before .before .before .before .before .before .before .before .before .before .before .args .s .now) (c .before .before .before .before .before .before .before .before .before .before .before .before .before .before .before .before .before .before .before .before .before .before .before .before .before .before .before .before .before .before .before .before .args .at)) (ascii "row") ≡ false
-not-row c = sym (c .before .is-word10 .ensures) ∙ c .if10 .left
+not-weak : (c : tie.Else10) → sameName (wordAt (c .before .before .before .before .before .before .before .before .before .before .before .before .before .before .before .before .before .before .before .before .before .before .before .before .before .before .before .before .before .before .before .before .args .s .now) (c .before .before .before .before .before .before .before .before .before .before .before .before .before .before .before .before .before .before .before .before .before .before .before .before .before .before .before .before .before .before .before .before .args .at)) (ascii "weak") ≡ false
+not-weak c = sym (c .before .is-word10 .ensures) ∙ c .if10 .left
+
+is-strong : (c : tie.Then11) → sameName (wordAt (c .before .before .before .before .before .before .before .before .before .before .before .before .before .before .before .before .before .before .before .before .before .before .before .before .before .before .before .before .before .before .before .before .before .before .before .args .s .now) (c .before .before .before .before .before .before .before .before .before .before .before .before .before .before .before .before .before .before .before .before .before .before .before .before .before .before .before .before .before .before .before .before .before .before .before .args .at)) (ascii "strong") ≡ true
+is-strong c = sym (c .before .is-word11 .ensures) ∙ c .if11 .taken
+
+not-strong : (c : tie.Else11) → sameName (wordAt (c .before .before .before .before .before .before .before .before .before .before .before .before .before .before .before .before .before .before .before .before .before .before .before .before .before .before .before .before .before .before .before .before .before .before .before .args .s .now) (c .before .before .before .before .before .before .before .before .before .before .before .before .before .before .before .before .before .before .before .before .before .before .before .before .before .before .before .before .before .before .before .before .before .before .before .args .at)) (ascii "strong") ≡ false
+not-strong c = sym (c .before .is-word11 .ensures) ∙ c .if11 .left
+
+is-row : (c : tie.Then12) → sameName (wordAt (c .before .before .before .before .before .before .before .before .before .before .before .before .before .before .before .before .before .before .before .before .before .before .before .before .before .before .before .before .before .before .before .before .before .before .before .before .before .before .args .s .now) (c .before .before .before .before .before .before .before .before .before .before .before .before .before .before .before .before .before .before .before .before .before .before .before .before .before .before .before .before .before .before .before .before .before .before .before .before .before .before .args .at)) (ascii "row") ≡ true
+is-row c = sym (c .before .is-word12 .ensures) ∙ c .if12 .taken
+
+not-row : (c : tie.Else12) → sameName (wordAt (c .before .before .before .before .before .before .before .before .before .before .before .before .before .before .before .before .before .before .before .before .before .before .before .before .before .before .before .before .before .before .before .before .before .before .before .before .before .before .args .s .now) (c .before .before .before .before .before .before .before .before .before .before .before .before .before .before .before .before .before .before .before .before .before .before .before .before .before .before .before .before .before .before .before .before .before .before .before .before .before .before .args .at)) (ascii "row") ≡ false
+not-row c = sym (c .before .is-word12 .ensures) ∙ c .if12 .left
 
 word-end-requires : tie.Need-word-end-requires
 word-end-requires c κs = search needs
@@ -199,16 +211,42 @@ slice-aggregate-is-word-10 c = search needs
 is-word-requires-10 : tie.Need-is-word-requires-10
 is-word-requires-10 c κs = search needs
 
-row-body-requires : tie.Need-row-body-requires
-row-body-requires c κs = search needs
+weak-body-requires : tie.Need-weak-body-requires
+weak-body-requires c κs = search needs
 
 returns-10 : tie.Need-returns-10
 unfolding lineForms among isCalled
-returns-10 c = record { is = rw (keyword-at lineForms (c .before .before .before .before .before .before .before .before .before .before .before .before .before .before .before .before .before .before .before .before .before .before .before .before .before .before .before .before .before .before .before .before .before .args .s .now) (c .before .before .before .before .before .before .before .before .before .before .before .before .before .before .before .before .before .before .before .before .before .before .before .before .before .before .before .before .before .before .before .before .before .args .at) (c .before .before .before .before .before .before .before .before .before .before .before .before .before .before .before .before .before .before .before .before .before .before .before .before .before .before .before .before .before .before .before .word-end .result) (c .before .before .before .before .before .before .before .before .before .before .before .before .before .before .before .before .before .before .before .before .before .before .before .before .before .before .before .before .before .before .before .word-end .ensures), not-purpose (c .before .before .before .before .before .before .before .before .before .before .before .before .before .before .before .before .before .before .before .before .before .before .before .before .before .before .before .before), not-role (c .before .before .before .before .before .before .before .before .before .before .before .before .before .before .before .before .before .before .before .before .before .before .before .before .before), not-attr (c .before .before .before .before .before .before .before .before .before .before .before .before .before .before .before .before .before .before .before .before .before .before), not-user (c .before .before .before .before .before .before .before .before .before .before .before .before .before .before .before .before .before .before .before), not-cond-role (c .before .before .before .before .before .before .before .before .before .before .before .before .before .before .before .before), not-grant (c .before .before .before .before .before .before .before .before .before .before .before .before .before), not-label (c .before .before .before .before .before .before .before .before .before .before), not-table (c .before .before .before .before .before .before .before), not-public (c .before .before .before .before), is-row (c .before)) (c .row-body .ensures .is); within = c .row-body .ensures .within }
+returns-10 c = record { is = rw (keyword-at lineForms (c .before .before .before .before .before .before .before .before .before .before .before .before .before .before .before .before .before .before .before .before .before .before .before .before .before .before .before .before .before .before .before .before .before .args .s .now) (c .before .before .before .before .before .before .before .before .before .before .before .before .before .before .before .before .before .before .before .before .before .before .before .before .before .before .before .before .before .before .before .before .before .args .at) (c .before .before .before .before .before .before .before .before .before .before .before .before .before .before .before .before .before .before .before .before .before .before .before .before .before .before .before .before .before .before .before .word-end .result) (c .before .before .before .before .before .before .before .before .before .before .before .before .before .before .before .before .before .before .before .before .before .before .before .before .before .before .before .before .before .before .before .word-end .ensures), not-purpose (c .before .before .before .before .before .before .before .before .before .before .before .before .before .before .before .before .before .before .before .before .before .before .before .before .before .before .before .before), not-role (c .before .before .before .before .before .before .before .before .before .before .before .before .before .before .before .before .before .before .before .before .before .before .before .before .before), not-attr (c .before .before .before .before .before .before .before .before .before .before .before .before .before .before .before .before .before .before .before .before .before .before), not-user (c .before .before .before .before .before .before .before .before .before .before .before .before .before .before .before .before .before .before .before), not-cond-role (c .before .before .before .before .before .before .before .before .before .before .before .before .before .before .before .before), not-grant (c .before .before .before .before .before .before .before .before .before .before .before .before .before), not-label (c .before .before .before .before .before .before .before .before .before .before), not-table (c .before .before .before .before .before .before .before), not-public (c .before .before .before .before), is-weak (c .before)) (c .weak-body .ensures .is); within = c .weak-body .ensures .within }
+
+slice-aggregate-is-word-11 : tie.Need-slice-aggregate-is-word-11
+slice-aggregate-is-word-11 c = search needs
+
+is-word-requires-11 : tie.Need-is-word-requires-11
+is-word-requires-11 c κs = search needs
+
+strong-body-requires : tie.Need-strong-body-requires
+strong-body-requires c κs = search needs
 
 returns-11 : tie.Need-returns-11
+unfolding lineForms among isCalled
+returns-11 c = record { is = rw (keyword-at lineForms (c .before .before .before .before .before .before .before .before .before .before .before .before .before .before .before .before .before .before .before .before .before .before .before .before .before .before .before .before .before .before .before .before .before .before .before .before .args .s .now) (c .before .before .before .before .before .before .before .before .before .before .before .before .before .before .before .before .before .before .before .before .before .before .before .before .before .before .before .before .before .before .before .before .before .before .before .before .args .at) (c .before .before .before .before .before .before .before .before .before .before .before .before .before .before .before .before .before .before .before .before .before .before .before .before .before .before .before .before .before .before .before .before .before .before .word-end .result) (c .before .before .before .before .before .before .before .before .before .before .before .before .before .before .before .before .before .before .before .before .before .before .before .before .before .before .before .before .before .before .before .before .before .before .word-end .ensures), not-purpose (c .before .before .before .before .before .before .before .before .before .before .before .before .before .before .before .before .before .before .before .before .before .before .before .before .before .before .before .before .before .before .before), not-role (c .before .before .before .before .before .before .before .before .before .before .before .before .before .before .before .before .before .before .before .before .before .before .before .before .before .before .before .before), not-attr (c .before .before .before .before .before .before .before .before .before .before .before .before .before .before .before .before .before .before .before .before .before .before .before .before .before), not-user (c .before .before .before .before .before .before .before .before .before .before .before .before .before .before .before .before .before .before .before .before .before .before), not-cond-role (c .before .before .before .before .before .before .before .before .before .before .before .before .before .before .before .before .before .before .before), not-grant (c .before .before .before .before .before .before .before .before .before .before .before .before .before .before .before .before), not-label (c .before .before .before .before .before .before .before .before .before .before .before .before .before), not-table (c .before .before .before .before .before .before .before .before .before .before), not-public (c .before .before .before .before .before .before .before), not-weak (c .before .before .before .before), is-strong (c .before)) (c .strong-body .ensures .is); within = c .strong-body .ensures .within }
+
+slice-aggregate-is-word-12 : tie.Need-slice-aggregate-is-word-12
+slice-aggregate-is-word-12 c = search needs
+
+is-word-requires-12 : tie.Need-is-word-requires-12
+is-word-requires-12 c κs = search needs
+
+row-body-requires : tie.Need-row-body-requires
+row-body-requires c κs = search needs
+
+returns-12 : tie.Need-returns-12
+unfolding lineForms among isCalled
+returns-12 c = record { is = rw (keyword-at lineForms (c .before .before .before .before .before .before .before .before .before .before .before .before .before .before .before .before .before .before .before .before .before .before .before .before .before .before .before .before .before .before .before .before .before .before .before .before .before .before .before .args .s .now) (c .before .before .before .before .before .before .before .before .before .before .before .before .before .before .before .before .before .before .before .before .before .before .before .before .before .before .before .before .before .before .before .before .before .before .before .before .before .before .before .args .at) (c .before .before .before .before .before .before .before .before .before .before .before .before .before .before .before .before .before .before .before .before .before .before .before .before .before .before .before .before .before .before .before .before .before .before .before .before .before .word-end .result) (c .before .before .before .before .before .before .before .before .before .before .before .before .before .before .before .before .before .before .before .before .before .before .before .before .before .before .before .before .before .before .before .before .before .before .before .before .before .word-end .ensures), not-purpose (c .before .before .before .before .before .before .before .before .before .before .before .before .before .before .before .before .before .before .before .before .before .before .before .before .before .before .before .before .before .before .before .before .before .before), not-role (c .before .before .before .before .before .before .before .before .before .before .before .before .before .before .before .before .before .before .before .before .before .before .before .before .before .before .before .before .before .before .before), not-attr (c .before .before .before .before .before .before .before .before .before .before .before .before .before .before .before .before .before .before .before .before .before .before .before .before .before .before .before .before), not-user (c .before .before .before .before .before .before .before .before .before .before .before .before .before .before .before .before .before .before .before .before .before .before .before .before .before), not-cond-role (c .before .before .before .before .before .before .before .before .before .before .before .before .before .before .before .before .before .before .before .before .before .before), not-grant (c .before .before .before .before .before .before .before .before .before .before .before .before .before .before .before .before .before .before .before), not-label (c .before .before .before .before .before .before .before .before .before .before .before .before .before .before .before .before), not-table (c .before .before .before .before .before .before .before .before .before .before .before .before .before), not-public (c .before .before .before .before .before .before .before .before .before .before), not-weak (c .before .before .before .before .before .before .before), not-strong (c .before .before .before .before), is-row (c .before)) (c .row-body .ensures .is); within = c .row-body .ensures .within }
+
+returns-13 : tie.Need-returns-13
 unfolding lineForms among isCalled bodyAt BodyWithin
-returns-11 c = record { is = rw (keyword-at lineForms (c .before .before .before .before .before .before .before .before .before .before .before .before .before .before .before .before .before .before .before .before .before .before .before .before .before .before .before .before .before .before .before .before .args .s .now) (c .before .before .before .before .before .before .before .before .before .before .before .before .before .before .before .before .before .before .before .before .before .before .before .before .before .before .before .before .before .before .before .before .args .at) (c .before .before .before .before .before .before .before .before .before .before .before .before .before .before .before .before .before .before .before .before .before .before .before .before .before .before .before .before .before .before .word-end .result) (c .before .before .before .before .before .before .before .before .before .before .before .before .before .before .before .before .before .before .before .before .before .before .before .before .before .before .before .before .before .before .word-end .ensures), not-purpose (c .before .before .before .before .before .before .before .before .before .before .before .before .before .before .before .before .before .before .before .before .before .before .before .before .before .before .before), not-role (c .before .before .before .before .before .before .before .before .before .before .before .before .before .before .before .before .before .before .before .before .before .before .before .before), not-attr (c .before .before .before .before .before .before .before .before .before .before .before .before .before .before .before .before .before .before .before .before .before), not-user (c .before .before .before .before .before .before .before .before .before .before .before .before .before .before .before .before .before .before), not-cond-role (c .before .before .before .before .before .before .before .before .before .before .before .before .before .before .before), not-grant (c .before .before .before .before .before .before .before .before .before .before .before .before), not-label (c .before .before .before .before .before .before .before .before .before), not-table (c .before .before .before .before .before .before), not-public (c .before .before .before), not-row c); within = tt }
+returns-13 c = record { is = rw (keyword-at lineForms (c .before .before .before .before .before .before .before .before .before .before .before .before .before .before .before .before .before .before .before .before .before .before .before .before .before .before .before .before .before .before .before .before .before .before .before .before .before .before .args .s .now) (c .before .before .before .before .before .before .before .before .before .before .before .before .before .before .before .before .before .before .before .before .before .before .before .before .before .before .before .before .before .before .before .before .before .before .before .before .before .before .args .at) (c .before .before .before .before .before .before .before .before .before .before .before .before .before .before .before .before .before .before .before .before .before .before .before .before .before .before .before .before .before .before .before .before .before .before .before .before .word-end .result) (c .before .before .before .before .before .before .before .before .before .before .before .before .before .before .before .before .before .before .before .before .before .before .before .before .before .before .before .before .before .before .before .before .before .before .before .before .word-end .ensures), not-purpose (c .before .before .before .before .before .before .before .before .before .before .before .before .before .before .before .before .before .before .before .before .before .before .before .before .before .before .before .before .before .before .before .before .before), not-role (c .before .before .before .before .before .before .before .before .before .before .before .before .before .before .before .before .before .before .before .before .before .before .before .before .before .before .before .before .before .before), not-attr (c .before .before .before .before .before .before .before .before .before .before .before .before .before .before .before .before .before .before .before .before .before .before .before .before .before .before .before), not-user (c .before .before .before .before .before .before .before .before .before .before .before .before .before .before .before .before .before .before .before .before .before .before .before .before), not-cond-role (c .before .before .before .before .before .before .before .before .before .before .before .before .before .before .before .before .before .before .before .before .before), not-grant (c .before .before .before .before .before .before .before .before .before .before .before .before .before .before .before .before .before .before), not-label (c .before .before .before .before .before .before .before .before .before .before .before .before .before .before .before), not-table (c .before .before .before .before .before .before .before .before .before .before .before .before), not-public (c .before .before .before .before .before .before .before .before .before), not-weak (c .before .before .before .before .before .before), not-strong (c .before .before .before), not-row c); within = tt }
 
 pub read-body-spec : {M : Type 1} → statement M
 read-body-spec =
@@ -253,6 +291,14 @@ read-body-spec =
     returns-9
     slice-aggregate-is-word-10
     is-word-requires-10
-    row-body-requires
+    weak-body-requires
     returns-10
-    returns-11)
+    slice-aggregate-is-word-11
+    is-word-requires-11
+    strong-body-requires
+    returns-11
+    slice-aggregate-is-word-12
+    is-word-requires-12
+    row-body-requires
+    returns-12
+    returns-13)

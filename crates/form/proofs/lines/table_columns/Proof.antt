@@ -50,6 +50,12 @@ is-cell c = sym (c .before .is-word5 .ensures) ∙ c .if5 .taken
 not-cell : (c : tie.Else5) → sameName (wordAt (c .before .before .before .before .before .before .before .before .before .before .before .before .before .before .before .before .before .args .s .now) (c .before .before .before .before .before .before .before .before .before .before .before .before .before .before .before .before .before .args .at)) (ascii "cell") ≡ false
 not-cell c = sym (c .before .is-word5 .ensures) ∙ c .if5 .left
 
+is-nest : (c : tie.Then6) → sameName (wordAt (c .before .before .before .before .before .before .before .before .before .before .before .before .before .before .before .before .before .before .before .before .args .s .now) (c .before .before .before .before .before .before .before .before .before .before .before .before .before .before .before .before .before .before .before .before .args .at)) (ascii "nest") ≡ true
+is-nest c = sym (c .before .is-word6 .ensures) ∙ c .if6 .taken
+
+not-nest : (c : tie.Else6) → sameName (wordAt (c .before .before .before .before .before .before .before .before .before .before .before .before .before .before .before .before .before .before .before .before .args .s .now) (c .before .before .before .before .before .before .before .before .before .before .before .before .before .before .before .before .before .before .before .before .args .at)) (ascii "nest") ≡ false
+not-nest c = sym (c .before .is-word6 .ensures) ∙ c .if6 .left
+
 label : (c : tie.After-n) → Behind name (wordOf (c .before .before .before .before .before .before .before .before .before .before .before .args .s .now) (c .before .before .before .before .before .before .before .before .before .word-end .result + 1)) (c .before .before .before .before .before .before .before .before .before .before .before .args .s .now) (c .before .before .before .before .before .before .before .before .before .word-end .result) (c .n .given .0 .0)
 label c = name-to (c .before .before .before .before .before .before .before .before .before .before .before .args .s .now) (c .before .before .before .before .before .before .before .before .before .word-end .result) (c .n .given .0 .0) (c .before .before .spaced-name-end .ensures) (c .n .given .1)
 
@@ -162,9 +168,27 @@ returns-6 c =
     plain-table (c .before .before .before .before .before .before .before .before .before .before .before .before .before .before .before .before .before .before .before .args .s .now) (c .before .before .before .before .before .before .before .before .before .before .before .before .before .before .before .before .before .before .before .args .at) (c .before .before .before .before .before .before .before .before .before .before .before .before .before .before .before .before .before .word-end .result) scheme.ByCell 0 (c .before .columns-end4 .result) (c .under-scheme5 .ensures) (c .before .columns-end4 .ensures) refl (omega arith) (λ t.
     rw (keyword-at (schemes t) (c .before .before .before .before .before .before .before .before .before .before .before .before .before .before .before .before .before .before .before .args .s .now) (c .before .before .before .before .before .before .before .before .before .before .before .before .before .before .before .before .before .before .before .args .at) (c .before .before .before .before .before .before .before .before .before .before .before .before .before .before .before .before .before .word-end .result) (c .before .before .before .before .before .before .before .before .before .before .before .before .before .before .before .before .before .word-end .ensures), not-none (c .before .before .before .before .before .before .before .before .before .before .before .before .before .before), not-table (c .before .before .before .before .before .before .before .before .before .before .before), not-column (c .before .before .before .before .before .before .before .before), not-row (c .before .before .before .before .before), is-cell (c .before .before)))
 
+slice-aggregate-is-word-6 : tie.Need-slice-aggregate-is-word-6
+slice-aggregate-is-word-6 c = search needs
+
+is-word-requires-6 : tie.Need-is-word-requires-6
+is-word-requires-6 c κs = search needs
+
+columns-end-requires-5 : tie.Need-columns-end-requires-5
+columns-end-requires-5 c κs = search needs
+
+under-scheme-requires-6 : tie.Need-under-scheme-requires-6
+under-scheme-requires-6 c κs = search needs
+
 returns-7 : tie.Need-returns-7
+unfolding schemes among isCalled schemeWords columnWords
+returns-7 c =
+    plain-table (c .before .before .before .before .before .before .before .before .before .before .before .before .before .before .before .before .before .before .before .before .before .before .args .s .now) (c .before .before .before .before .before .before .before .before .before .before .before .before .before .before .before .before .before .before .before .before .before .before .args .at) (c .before .before .before .before .before .before .before .before .before .before .before .before .before .before .before .before .before .before .before .before .word-end .result) scheme.Nested 0 (c .before .columns-end5 .result) (c .under-scheme6 .ensures) (c .before .columns-end5 .ensures) refl (omega arith) (λ t.
+    rw (keyword-at (schemes t) (c .before .before .before .before .before .before .before .before .before .before .before .before .before .before .before .before .before .before .before .before .before .before .args .s .now) (c .before .before .before .before .before .before .before .before .before .before .before .before .before .before .before .before .before .before .before .before .before .before .args .at) (c .before .before .before .before .before .before .before .before .before .before .before .before .before .before .before .before .before .before .before .before .word-end .result) (c .before .before .before .before .before .before .before .before .before .before .before .before .before .before .before .before .before .before .before .before .word-end .ensures), not-none (c .before .before .before .before .before .before .before .before .before .before .before .before .before .before .before .before .before), not-table (c .before .before .before .before .before .before .before .before .before .before .before .before .before .before), not-column (c .before .before .before .before .before .before .before .before .before .before .before), not-row (c .before .before .before .before .before .before .before .before), not-cell (c .before .before .before .before .before), is-nest (c .before .before)))
+
+returns-8 : tie.Need-returns-8
 unfolding schemes among isCalled tableTo ColumnsWithin
-returns-7 c = record { is = λ t. rw (keyword-at (schemes t) (c .before .before .before .before .before .before .before .before .before .before .before .before .before .before .before .before .before .args .s .now) (c .before .before .before .before .before .before .before .before .before .before .before .before .before .before .before .before .before .args .at) (c .before .before .before .before .before .before .before .before .before .before .before .before .before .before .before .word-end .result) (c .before .before .before .before .before .before .before .before .before .before .before .before .before .before .before .word-end .ensures), not-none (c .before .before .before .before .before .before .before .before .before .before .before .before), not-table (c .before .before .before .before .before .before .before .before .before), not-column (c .before .before .before .before .before .before), not-row (c .before .before .before), not-cell c); within = tt }
+returns-8 c = record { is = λ t. rw (keyword-at (schemes t) (c .before .before .before .before .before .before .before .before .before .before .before .before .before .before .before .before .before .before .before .before .args .s .now) (c .before .before .before .before .before .before .before .before .before .before .before .before .before .before .before .before .before .before .before .before .args .at) (c .before .before .before .before .before .before .before .before .before .before .before .before .before .before .before .before .before .before .word-end .result) (c .before .before .before .before .before .before .before .before .before .before .before .before .before .before .before .before .before .before .word-end .ensures), not-none (c .before .before .before .before .before .before .before .before .before .before .before .before .before .before .before), not-table (c .before .before .before .before .before .before .before .before .before .before .before .before), not-column (c .before .before .before .before .before .before .before .before .before), not-row (c .before .before .before .before .before .before), not-cell (c .before .before .before), not-nest c); within = tt }
 
 pub table-columns-spec : {M : Type 1} → statement M
 table-columns-spec =
@@ -201,4 +225,9 @@ table-columns-spec =
     columns-end-requires-4
     under-scheme-requires-5
     returns-6
-    returns-7)
+    slice-aggregate-is-word-6
+    is-word-requires-6
+    columns-end-requires-5
+    under-scheme-requires-6
+    returns-7
+    returns-8)

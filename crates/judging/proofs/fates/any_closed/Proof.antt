@@ -1,28 +1,26 @@
 -- `judging::fates::any_closed` meets its contract. The loop's invariant: whether one of the columns from i on is
 -- closed is whether one of them all is. Assumes nothing.
-use Prim.Native.Nat.{_-_, _<_, _≤_, ℕ}
+use Prim.Native.Nat.{_-_, _<_, _≤_}
+use Rattle.judging.proofs.OpenCells.{any-found, any-more, any-none}
+use Rattle.judging.specs.Marking.{openUnder}
+use Rattle.lists.specs.Lists.{anyOf}
+use Rattle.relations.specs.Rows.{labelCountIn, labelRoom, labelsIn}
 use borrow.Author.Needs.{needs}
 use lib.ListN.{drop, take}
 use mathlib.Core.Bool.{not}
 use mathlib.Core.Path.{_∙_, _≡_, ap, refl, sym}
 use native.Mathlib.Omega.{arith}
-use Rattle.judging.proofs.OpenCells.{any-found, any-more, any-none}
-use Rattle.judging.specs.Judging.{openIn}
-use Rattle.document.specs.Policy.{Policy}
-use Rattle.relations.specs.Labels.{Opened}
-use Rattle.relations.specs.Rows.{labelCountIn, labelRoom}
-use Rattle.lists.specs.Lists.{anyOf}
 use Rattle.judging.proofs.fates.any_closed.Statement.{statement}
 use Rattle.judging.proofs.fates.any_closed.Tie as tie
 
 abbrev Inv-loop : tie.InvT-loop
-Inv-loop rows opened r columns first n i₀ i = ((d : Policy) (p : ℕ) → Opened d p opened → r < 1024 → labelCountIn rows r ≤ labelRoom → anyOf (λ k. not (openIn d p rows r k)) (drop i (take n columns)) ≡ anyOf (λ k. not (openIn d p rows r k)) (drop first (take n columns)))
+Inv-loop rows said m r columns first n i₀ i = (r < 1024 → labelCountIn rows r ≤ labelRoom → anyOf (λ k. not (openUnder said m (labelsIn rows r) k)) (drop i (take n columns)) ≡ anyOf (λ k. not (openUnder said m (labelsIn rows r) k)) (drop first (take n columns)))
 
 abbrev μ-loop : tie.MeasureT-loop
-μ-loop rows opened r columns first n i₀ i = n - i
+μ-loop rows said m r columns first n i₀ i = n - i
 
 loop-holds : tie.Need-loop-holds Inv-loop μ-loop
-loop-holds c = λ d p o i f. refl
+loop-holds c = λ i f. refl
 
 mul-cell-open : tie.Need-mul-cell-open Inv-loop μ-loop
 mul-cell-open c = search needs
@@ -37,7 +35,7 @@ returns : tie.Need-returns Inv-loop μ-loop
 returns c =
     let a = c .before .before .before .before .before .before .args in
     let l = c .before .before .before .before .loop in
-    λ d p o i f. sym (any-found (λ k. not (openIn d p (a .rows .now) (a .r) k)) (a .columns .now) (a .n) (l .i) (c .before .before .before .loop-test .taken) (c .before .before .before .before .before .before .pre) (ap not (sym (c .before .cell-open .ensures d p o i f)) ∙ c .if1 .taken)) ∙ l .inv d p o i f
+    λ i f. sym (any-found (λ k. not (openUnder (a .said .now) (a .m) (labelsIn (a .rows .now) (a .r)) k)) (a .columns .now) (a .n) (l .i) (c .before .before .before .loop-test .taken) (c .before .before .before .before .before .before .pre) (ap not (sym (c .before .cell-open .ensures i f)) ∙ c .if1 .taken)) ∙ l .inv i f
 
 add-i : tie.Need-add-i Inv-loop μ-loop
 add-i c = search needs
@@ -49,12 +47,12 @@ loop-again : tie.Need-loop-again Inv-loop μ-loop
 loop-again c =
     let a = c .before .before .before .before .before .before .args in
     let l = c .before .before .before .before .loop in
-    λ d p o i f. sym (any-more (λ k. not (openIn d p (a .rows .now) (a .r) k)) (a .columns .now) (a .n) (l .i) (c .before .before .before .loop-test .taken) (c .before .before .before .before .before .before .pre) (ap not (sym (c .before .cell-open .ensures d p o i f)) ∙ c .if1 .left)) ∙ l .inv d p o i f
+    λ i f. sym (any-more (λ k. not (openUnder (a .said .now) (a .m) (labelsIn (a .rows .now) (a .r)) k)) (a .columns .now) (a .n) (l .i) (c .before .before .before .loop-test .taken) (c .before .before .before .before .before .before .pre) (ap not (sym (c .before .cell-open .ensures i f)) ∙ c .if1 .left)) ∙ l .inv i f
 
 returns-2 : tie.Need-returns-2 Inv-loop μ-loop
 returns-2 c =
     let a = c .before .before .before .args in
-    λ d p o i f. sym (any-none (λ k. not (openIn d p (a .rows .now) (a .r) k)) (a .columns .now) (a .n) (c .before .loop .i) (c .loop-test .left)) ∙ c .before .loop .inv d p o i f
+    λ i f. sym (any-none (λ k. not (openUnder (a .said .now) (a .m) (labelsIn (a .rows .now) (a .r)) k)) (a .columns .now) (a .n) (c .before .loop .i) (c .loop-test .left)) ∙ c .before .loop .inv i f
 
 pub any-closed-spec : {M : Type 1} → statement M
 any-closed-spec =

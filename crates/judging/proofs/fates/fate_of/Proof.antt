@@ -1,6 +1,6 @@
 -- `judging::fates::fate_of` meets its contract. Assumes nothing.
-use Rattle.judging.proofs.FateLaws.{fate-elsewhere, fate-tested, row-small}
 use Rattle.answer.specs.Answer.{satisfies}
+use Rattle.judging.proofs.FateLaws.{fate-elsewhere, fate-tested, row-small}
 use Rattle.query.specs.QueryForm.{modeIn}
 use borrow.Author.Needs.{needs}
 use Rattle.judging.proofs.fates.fate_of.Statement.{statement}
@@ -10,7 +10,7 @@ row-table-requires : tie.Need-row-table-requires
 row-table-requires c κs = search needs
 
 returns : tie.Need-returns
-returns c = let a = c .before .before .before .before .before .args in λ k d q jd l. fate-elsewhere (a .text .now) (a .rows .now) k (a .opened .now) (a .query .now) (a .s) (a .first) (a .scheme) (a .columns .now) (a .tests .now) d q jd (a .r) l (c .before .before .row-table .result) (c .before .before .row-table .ensures) (c .if1 .taken)
+returns c = let a = c .before .before .before .before .before .args in λ k d q jd l. fate-elsewhere (a .text .now) (a .rows .now) k (a .said .now) (a .query .now) (a .s) (a .first) (a .scheme) (a .columns .now) (a .tests .now) d q jd (a .r) l (c .before .before .row-table .result) (c .before .before .row-table .ensures) (c .if1 .taken)
 
 add-is-withheld : tie.Need-add-is-withheld
 add-is-withheld c = search needs
@@ -19,7 +19,7 @@ is-withheld-requires : tie.Need-is-withheld-requires
 is-withheld-requires c κs = search needs
 
 row-met-requires : tie.Need-row-met-requires
-row-met-requires c κs = c .before .before .before .before .before .before .before .pre .1
+row-met-requires c κs = c .before .before .before .before .before .before .before .before .pre .1
 
 fate-here-requires : tie.Need-fate-here-requires
 fate-here-requires c κs = search needs
@@ -27,9 +27,9 @@ fate-here-requires c κs = search needs
 returns-2 : tie.Need-returns-2
 unfolding satisfies
 returns-2 c =
-    let a = c .before .before .before .before .before .before .before .before .before .args in
-    λ k d q jd l. fate-tested (a .text .now) (a .rows .now) k (a .opened .now) (a .query .now) (a .s) (a .first) (a .scheme) (a .columns .now) (a .tests .now) d q jd (a .r) l (c .before .before .before .before .before .before .row-table .result) (c .before .before .before .before .before .before .row-table .ensures) (c .before .before .before .before .if1 .left) (c .before .before .is-withheld .result) (c .before .before .is-withheld .ensures) (c .before .row-met .result)
-    (c .before .row-met .ensures (modeIn (q .wanted)) (q .condition) (jd .tested) (row-small (a .text .now) (a .rows .now) k (a .opened .now) (a .query .now) (a .s) (a .first) (a .scheme) (a .columns .now) (a .tests .now) d q jd (a .r) l) (jd .rows .narrow (a .r) l)) (c .fate-here .result) (c .fate-here .ensures)
+    let a = c .before .before .before .before .before .before .before .before .before .before .args in
+    λ k d q jd l. fate-tested (a .text .now) (a .rows .now) k (a .said .now) (a .query .now) (a .s) (a .first) (a .scheme) (a .columns .now) (a .tests .now) d q jd (a .r) l (c .before .before .before .before .before .before .before .row-table .result) (c .before .before .before .before .before .before .before .row-table .ensures) (c .before .before .before .before .before .if1 .left) (c .before .before .is-withheld .result) (c .before .before .is-withheld .ensures) (c .before .row-met .result)
+    (c .before .row-met .ensures (modeIn (q .wanted)) (q .condition) (jd .tested) (row-small (a .text .now) (a .rows .now) k (a .said .now) (a .query .now) (a .s) (a .first) (a .scheme) (a .columns .now) (a .tests .now) d q jd (a .r) l) (jd .rows .narrow (a .r) l)) (c .fate-here .result) (c .fate-here .ensures)
 
 pub fate-of-spec : {M : Type 1} → statement M
 fate-of-spec =

@@ -13,10 +13,10 @@ use Rattle.judging.proofs.fates.judge_each.Statement.{statement}
 use Rattle.judging.proofs.fates.judge_each.Tie as tie
 
 abbrev Inv-loop : tie.InvT-loop
-Inv-loop text rows count opened query s first scheme columns tests marks₀ x₀ r₀ marks x r = (r ≤ count) × (length marks ≡ length marks₀) × Fewer r x × ((d : Doc) (q : Query) → Judgeable text rows count opened query s first scheme columns tests d q → JudgedTo d q (rowIn text rows) r marks x)
+Inv-loop text rows count said query s first scheme columns tests marks₀ x₀ r₀ marks x r = (r ≤ count) × (length marks ≡ length marks₀) × Fewer r x × ((d : Doc) (q : Query) → Judgeable text rows count said query s first scheme columns tests d q → JudgedTo d q (rowIn text rows) r marks x)
 
 abbrev μ-loop : tie.MeasureT-loop
-μ-loop text rows count opened query s first scheme columns tests marks₀ x₀ r₀ marks x r = count - r
+μ-loop text rows count said query s first scheme columns tests marks₀ x₀ r₀ marks x r = count - r
 
 loop-holds : tie.Need-loop-holds Inv-loop μ-loop
 loop-holds c = let a = c .before .before .before .args in (omega arith, refl, record { passed = omega arith; withheld = omega arith; unmatched = omega arith }, λ d q jd. judged-none d q (rowIn (a .text .now) (a .rows .now)) (a .marks .now))

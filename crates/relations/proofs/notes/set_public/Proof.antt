@@ -19,7 +19,7 @@ slice-write-cells c = search needs
 returns : tie.Need-returns
 returns c =
     let a = c .before .before .args in
-    let l : length (c .before .before .args .ws .now) ≡ 424 = search needs in
+    let l : length (c .before .before .args .ws .now) ≡ 440 = search needs in
     public-stored (a .ws .now) (a .t) l
 
 returns-2 : tie.Need-returns-2

@@ -24,7 +24,7 @@ mul-cells-2 c = search needs
 slice-write-cells-2 : tie.Need-slice-write-cells-2
 slice-write-cells-2 c =
     let a = c .before .before .args in
-    let l : length (c .before .before .args .ws .now) ≡ 35840 = search needs in
+    let l : length (c .before .before .args .ws .now) ≡ 36864 = search needs in
     lt-length-set (a .ws .now) (a .k) (a .table) (omega arith)
 
 add-cells-2 : tie.Need-add-cells-2
@@ -36,13 +36,13 @@ mul-cells-3 c = search needs
 slice-write-cells-3 : tie.Need-slice-write-cells-3
 slice-write-cells-3 c =
     let a = c .before .before .args in
-    let l : length (c .before .before .args .ws .now) ≡ 35840 = search needs in
+    let l : length (c .before .before .args .ws .now) ≡ 36864 = search needs in
     lt-length-set (set (a .ws .now) (a .k) (a .table)) (1024 + a .k) (a .values) (lt-length-set (a .ws .now) (a .k) (a .table) (omega arith))
 
 returns : tie.Need-returns
 returns c text rs vs ls h b f =
     let a = c .before .before .args in
-    let l : length (c .before .before .args .ws .now) ≡ 35840 = search needs in
+    let l : length (c .before .before .args .ws .now) ≡ 36864 = search needs in
     row-added (a .ws .now) (a .k) (a .table) (a .values) (a .labels) l b text rs vs ls h f
 
 returns-2 : tie.Need-returns-2

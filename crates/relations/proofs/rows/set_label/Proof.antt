@@ -25,7 +25,7 @@ slice-write-cells c = search needs
 returns : tie.Need-returns
 returns c =
     let a = c .before .before .before .args in
-    let l : length (c .before .before .before .args .ws .now) ≡ 35840 = search needs in
+    let l : length (c .before .before .before .args .ws .now) ≡ 36864 = search needs in
     label-stored (a .ws .now) (a .r) l (c .before .before .if1 .taken) (a .m) (a .label) (c .before .if2 .taken)
 
 returns-2 : tie.Need-returns-2

@@ -43,7 +43,7 @@ mul-cells-4 c = search needs
 slice-write-cells-2 : tie.Need-slice-write-cells-2
 slice-write-cells-2 c =
     let a = c .before .before .before .before .args in
-    let l : length (c .before .before .before .before .args .ws .now) ≡ 424 = search needs in
+    let l : length (c .before .before .before .before .args .ws .now) ≡ 440 = search needs in
     lt-length-set (a .ws .now) (32 + 16 * a .t + a .c) (a .pos) (omega arith)
 
 mul-cells-5 : tie.Need-mul-cells-5
@@ -61,13 +61,13 @@ mul-cells-6 c = search needs
 slice-write-cells-3 : tie.Need-slice-write-cells-3
 slice-write-cells-3 c =
     let a = c .before .before .before .before .args in
-    let l : length (c .before .before .before .before .args .ws .now) ≡ 424 = search needs in
+    let l : length (c .before .before .before .before .args .ws .now) ≡ 440 = search needs in
     lt-length-set (set (a .ws .now) (32 + 16 * a .t + a .c) (a .pos)) (160 + 16 * a .t + a .c) (c .before .kind-cell .result) (lt-length-set (a .ws .now) (32 + 16 * a .t + a .c) (a .pos) (omega arith))
 
 returns : tie.Need-returns
 returns c =
     let a = c .before .before .before .before .args in
-    let l : length (c .before .before .before .before .args .ws .now) ≡ 424 = search needs in
+    let l : length (c .before .before .before .before .args .ws .now) ≡ 440 = search needs in
     column-stored (a .ws .now) (a .t) (a .c) (a .pos) (c .before .kind-cell .result) (a .label) l (c .before .before .before .if1 .taken) (c .before .before .if2 .taken) (kindOf (a .kind)) (c .before .kind-cell .ensures)
 
 returns-2 : tie.Need-returns-2

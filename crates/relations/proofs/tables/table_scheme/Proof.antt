@@ -33,12 +33,16 @@ returns-4 c l = scheme-number (c .before .before .before .args .ws .now) (c .bef
 
 returns-5 : tie.Need-returns-5
 unfolding schemeBy schemeOfCell
-returns-5 c l =
-    let n = c .match .rest in
-    scheme-over (c .before .before .before .args .ws .now) (c .before .before .before .args .t) (n .0 .0 .0 .1) (n .0 .0 .1) (n .0 .1) (n .1)
+returns-5 c l = scheme-number (c .before .before .before .args .ws .now) (c .before .before .before .args .t) 4 (c .match .keys5)
 
 returns-6 : tie.Need-returns-6
-returns-6 c l = absurd (omega (arith, l, c .if1 .left))
+unfolding schemeBy schemeOfCell
+returns-6 c l =
+    let n = c .match .rest in
+    scheme-over (c .before .before .before .args .ws .now) (c .before .before .before .args .t) (n .0 .0 .0 .0 .1) (n .0 .0 .0 .1) (n .0 .0 .1) (n .0 .1) (n .1)
+
+returns-7 : tie.Need-returns-7
+returns-7 c l = absurd (omega (arith, l, c .if1 .left))
 
 pub table-scheme-spec : {M : Type 1} → statement M
 table-scheme-spec =
@@ -52,4 +56,5 @@ table-scheme-spec =
     returns-3
     returns-4
     returns-5
-    returns-6)
+    returns-6
+    returns-7)

@@ -15,10 +15,10 @@ opened-at-requires : tie.Need-opened-at-requires
 opened-at-requires c κs = search needs
 
 returns : tie.Need-returns
-returns c d text k p h l o = column-there text (c .before .before .before .before .before .args .tables .now) k (c .before .before .before .before .before .args .t) d p h l (c .before .before .before .before .before .args .c) (c .before .before .before .table-width .result) (c .before .before .before .table-width .ensures) (c .before .before .if1 .taken) (c .before .before .before .before .before .args .opened .now) o (c .before .column-label .result) (c .before .column-label .ensures) (c .opened-at .result) (c .opened-at .ensures)
+returns c d text k p h l o = column-there text (c .before .before .before .before .args .tables .now) k (c .before .before .before .before .args .t) d p h l (c .before .before .before .before .args .c) (c .before .before .before .table-width .result) (c .before .before .before .table-width .ensures) (c .before .before .if1 .taken) (c .before .before .before .before .args .said .now) o (c .before .column-label .result) (c .before .column-label .ensures) (c .opened-at .result) (c .opened-at .ensures)
 
 returns-2 : tie.Need-returns-2
-returns-2 c d text k p h l o = column-lacking text (c .before .before .before .args .tables .now) k (c .before .before .before .args .t) d p h l (c .before .before .before .args .c) (c .before .table-width .result) (c .before .table-width .ensures) (omega (arith, c .if1 .left))
+returns-2 c d text k p h l o = column-lacking text (c .before .before .args .tables .now) k (c .before .before .args .t) d p h l (c .before .before .args .c) (c .before .table-width .result) (c .before .table-width .ensures) (omega (arith, c .if1 .left))
 
 pub column-open-spec : {M : Type 1} → statement M
 column-open-spec =

@@ -16,10 +16,10 @@ use Rattle.resolving.proofs.openness.first_closed.Statement.{statement}
 use Rattle.resolving.proofs.openness.first_closed.Tie as tie
 
 abbrev Inv-loop : tie.InvT-loop
-Inv-loop tables t opened places n columns i₀ i = (i ≤ n) × ((d : Policy) (p : ℕ) (s : List ℕ) → Named tables t opened places n columns d p s → (j : ℕ) → j < i → openAt tables t d p (wordOf s (getD places j 0)) ≡ true)
+Inv-loop tables t said places n columns i₀ i = (i ≤ n) × ((d : Policy) (p : ℕ) (s : List ℕ) → Named tables t said places n columns d p s → (j : ℕ) → j < i → openAt tables t d p (wordOf s (getD places j 0)) ≡ true)
 
 abbrev μ-loop : tie.MeasureT-loop
-μ-loop tables t opened places n columns i₀ i = n - i
+μ-loop tables t said places n columns i₀ i = n - i
 
 loop-holds : tie.Need-loop-holds Inv-loop μ-loop
 loop-holds c = (omega arith, λ d p s g. below-none _)
@@ -47,7 +47,7 @@ shared-slice-read-t15 c = search needs
 
 returns-3 : tie.Need-returns-3 Inv-loop μ-loop
 returns-3 c d text s k p h l a b o e =
-    let g : Named (c .before .before .before .before .before .before .before .before .before .before .before .args .tables .now) (c .before .before .before .before .before .before .before .before .before .before .before .args .t) (c .before .before .before .before .before .before .before .before .before .before .before .args .opened .now) (c .before .before .before .before .before .before .before .before .before .before .before .args .places .now) (c .before .before .before .before .before .before .before .before .before .before .before .args .n) (c .before .before .before .before .before .before .before .before .before .before .before .args .columns .now) d p s = record { text = text; k = k; held = h; inside = l; longPlaces = a; longColumns = b; labels = o; are = e } in
+    let g : Named (c .before .before .before .before .before .before .before .before .before .before .args .tables .now) (c .before .before .before .before .before .before .before .before .before .before .args .t) (c .before .before .before .before .before .before .before .before .before .before .args .said .now) (c .before .before .before .before .before .before .before .before .before .before .args .places .now) (c .before .before .before .before .before .before .before .before .before .before .args .n) (c .before .before .before .before .before .before .before .before .before .before .args .columns .now) d p s = record { text = text; k = k; held = h; inside = l; longPlaces = a; longColumns = b; labels = o; are = e } in
     first-closed g (c .before .before .before .before .before .before .before .loop .i) (c .before .before .before .before .before .before .loop-test .taken) (c .before .before .before .before .before .before .before .loop .inv .1 d p s g)
     (sym (open-found g (c .before .before .before .before .before .before .before .loop .i) (c .before .before .before .before .before .before .loop-test .taken) (c .before .before .column-open .result) (c .before .before .column-open .ensures)) ∙ not-true (c .before .before .column-open .result) (c .before .if3 .taken))
 
@@ -66,7 +66,7 @@ loop-again c = (
 
 returns-4 : tie.Need-returns-4 Inv-loop μ-loop
 returns-4 c d text s k p h l a b o e =
-    let g : Named (c .before .before .before .before .before .args .tables .now) (c .before .before .before .before .before .args .t) (c .before .before .before .before .before .args .opened .now) (c .before .before .before .before .before .args .places .now) (c .before .before .before .before .before .args .n) (c .before .before .before .before .before .args .columns .now) d p s = record { text = text; k = k; held = h; inside = l; longPlaces = a; longColumns = b; labels = o; are = e } in
+    let g : Named (c .before .before .before .before .args .tables .now) (c .before .before .before .before .args .t) (c .before .before .before .before .args .said .now) (c .before .before .before .before .args .places .now) (c .before .before .before .before .args .n) (c .before .before .before .before .args .columns .now) d p s = record { text = text; k = k; held = h; inside = l; longPlaces = a; longColumns = b; labels = o; are = e } in
     none-closed g (λ j less. c .before .loop .inv .1 d p s g j (omega (arith, less, c .loop-test .left)))
 
 pub first-closed-spec : {M : Type 1} → statement M

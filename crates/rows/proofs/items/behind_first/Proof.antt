@@ -1,12 +1,13 @@
 -- `rows::items::behind_first` meets its contract. Assumes nothing.
+use Rattle.document.proofs.RowItems.{no-values-behind}
+use Rattle.document.specs.ValueFaults.{shapedValues}
+use Rattle.rows.proofs.RowItems.{behind-values}
+use Rattle.rows.specs.RowWords.{valuesAt}
+use Rattle.text.proofs.Spaces.{space-here}
+use borrow.Author.Needs.{needs}
 use mathlib.Core.Option.{Option·none-ne-some}
 use mathlib.Core.Path.{_∙_, ap, sym}
 use native.Mathlib.Omega.{arith}
-use Rattle.document.proofs.RowItems.{no-values-behind}
-use Rattle.rows.specs.RowWords.{valuesAt}
-use Rattle.text.proofs.Spaces.{space-here}
-use Rattle.rows.proofs.RowItems.{behind-values}
-use borrow.Author.Needs.{needs}
 use Rattle.rows.proofs.items.behind_first.Statement.{statement}
 use Rattle.rows.proofs.items.behind_first.Tie as tie
 
@@ -22,12 +23,12 @@ item-end-at-requires c κs = search needs
 returns : tie.Need-returns
 returns c =
     let s = c .before .before .before .before .args .line .now in
-    λ ws h. ap (valuesAt s) (c .item-end-at .ensures) ∙ behind-values s (c .before .before .before .before .args .at) (sym (c .before .before .byte-at .ensures) ∙ c .before .if1 .taken) ws h
+    λ b ws h. ap (valuesAt s) (c .item-end-at .ensures) ∙ behind-values s (c .before .before .before .before .args .at) (sym (c .before .before .byte-at .ensures) ∙ c .before .if1 .taken) b ws h
 
 returns-2 : tie.Need-returns-2
 returns-2 c =
     let s = c .before .before .before .args .line .now in
-    λ ws h. absurd (Option·none-ne-some _ (sym (no-values-behind s (c .before .before .before .args .at) (λ z. c .if1 .left (c .before .byte-at .ensures ∙ z))) ∙ h))
+    λ b ws h. absurd (Option·none-ne-some _ (sym (no-values-behind s (c .before .before .before .args .at) (shapedValues b) (λ z. c .if1 .left (c .before .byte-at .ensures ∙ z))) ∙ h))
 
 pub behind-first-spec : {M : Type 1} → statement M
 behind-first-spec =

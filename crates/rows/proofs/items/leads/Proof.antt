@@ -1,15 +1,15 @@
 -- `rows::items::leads` meets its contract. Assumes nothing.
 use Prim.Native.Nat.{_+_}
-use lib.ListN.{getD}
-use mathlib.Core.Bool.{false}
-use mathlib.Core.Path.{_∙_, _≡_, refl, sym}
-use native.Mathlib.Omega.{arith}
 use Rattle.document.proofs.RowItems.{bracket-behind, bracket-leading, led-name, led-values, no-leading, no-values-behind}
 use Rattle.lists.proofs.Tests.{true-not-false}
 use Rattle.text.proofs.CodeLaws.{word-at, word-nothing}
 use Rattle.text.proofs.Spaces.{space-here}
 use Rattle.text.specs.Names.{isName}
 use borrow.Author.Needs.{needs}
+use lib.ListN.{getD}
+use mathlib.Core.Bool.{false}
+use mathlib.Core.Path.{_∙_, _≡_, refl, sym}
+use native.Mathlib.Omega.{arith}
 use Rattle.rows.proofs.items.leads.Statement.{statement}
 use Rattle.rows.proofs.items.leads.Tie as tie
 
@@ -21,7 +21,7 @@ returns c =
     let s = c .before .before .before .args .line .now in
     let at = c .before .before .before .args .at in
     let e : getD s at 0 ≡ 32 → ⊥ = λ z. c .if1 .taken (c .before .byte-at .ensures ∙ z) in
-    (λ z. true-not-false z refl, λ z. (no-leading s at e, no-values-behind s at e))
+    (λ z. true-not-false z refl, λ z. (no-leading s at e, λ values. no-values-behind s at values e))
 
 add-byte-at : tie.Need-add-byte-at
 add-byte-at c = omega (arith, space-here (c .before .before .before .args .line .now) (c .before .before .before .args .at) _ (c .before .byte-at .ensures) (c .if1 .left) .1)
@@ -35,7 +35,7 @@ returns-2 c =
     let at = c .before .before .before .before .before .args .at in
     let e = sym (c .before .before .before .byte-at .ensures) ∙ c .before .before .if1 .left in
     let o = sym (c .before .byte-at2 .ensures) ∙ c .if2 .taken in
-    (λ z. true-not-false z refl, λ z. (bracket-leading s at e o, bracket-behind s at e o))
+    (λ z. true-not-false z refl, λ z. (bracket-leading s at e o, λ values. bracket-behind s at values e o))
 
 add-name-end : tie.Need-add-name-end
 add-name-end c = omega (arith, space-here (c .before .before .before .before .before .args .line .now) (c .before .before .before .before .before .args .at) _ (c .before .before .before .byte-at .ensures) (c .before .before .if1 .left) .1)

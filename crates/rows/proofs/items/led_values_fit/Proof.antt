@@ -1,15 +1,15 @@
 -- `rows::items::led_values_fit` meets its contract. Assumes nothing.
-use mathlib.Core.Bool.{false, true}
-use mathlib.Core.Path.{_∙_, ap, refl, sym}
-use native.Mathlib.Omega.{arith}
 use Rattle.document.proofs.RowItems.{led-values}
-use Rattle.rows.specs.RowWords.{shapedValues}
+use Rattle.document.specs.ValueFaults.{shapedValues}
 use Rattle.form.specs.Walks.{itemsAt}
 use Rattle.lists.specs.Lists.{holdsOf}
+use Rattle.rows.proofs.RowItems.{width-fits}
 use Rattle.text.proofs.Spaces.{space-here}
 use Rattle.text.specs.Walking.{wordEndAt}
-use Rattle.rows.proofs.RowItems.{width-fits}
 use borrow.Author.Needs.{needs}
+use mathlib.Core.Bool.{true}
+use mathlib.Core.Path.{_∙_, ap, refl, sym}
+use native.Mathlib.Omega.{arith}
 use Rattle.rows.proofs.items.led_values_fit.Statement.{statement}
 use Rattle.rows.proofs.items.led_values_fit.Tie as tie
 
@@ -26,18 +26,18 @@ values-fit-requires : tie.Need-values-fit-requires
 values-fit-requires c κs = search needs
 
 returns : tie.Need-returns
-unfolding shapedValues wordEndAt
+unfolding wordEndAt
 returns c =
     let s = c .before .before .before .before .before .args .line .now in
     let at = c .before .before .before .before .before .args .at in
     let l = c .before .before .before .leads .ensures .0 (c .before .before .if1 .taken) in
     c .values-fit .ensures
-    ∙ ap (λ j. width-fits (c .before .before .before .before .before .args .width) (shapedValues false (itemsAt s j))) (c .before .word-end .ensures)
-    ∙ ap (width-fits (c .before .before .before .before .before .args .width)) (sym (led-values s at (l .0) (l .1) true (l .2)))
+    ∙ ap (λ j. width-fits (c .before .before .before .before .before .args .width) (shapedValues (c .before .before .before .before .before .args .bracketed) (itemsAt s j))) (c .before .word-end .ensures)
+    ∙ ap (width-fits (c .before .before .before .before .before .args .width)) (sym (led-values s at (l .0) (l .1) true (l .2) (shapedValues (c .before .before .before .before .before .args .bracketed))))
 
 returns-2 : tie.Need-returns-2
 unfolding holdsOf
-returns-2 c = sym (ap (width-fits (c .before .before .before .args .width)) (c .before .leads .ensures .1 (c .if1 .left) .1))
+returns-2 c = sym (ap (width-fits (c .before .before .before .args .width)) (c .before .leads .ensures .1 (c .if1 .left) .1 (shapedValues (c .before .before .before .args .bracketed))))
 
 pub led-values-fit-spec : {M : Type 1} → statement M
 led-values-fit-spec =

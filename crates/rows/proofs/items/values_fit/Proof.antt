@@ -8,11 +8,11 @@ use mathlib.Core.Bool.{Bool, cond, not}
 use lib.Dec.{eqb}
 use native.Mathlib.Omega.{arith}
 use borrow.Author.Tests.{not-false, not-true}
+use Rattle.document.specs.ValueFaults.{shapedValues}
 use Rattle.lists.specs.Lists.{holdsOf}
 use Rattle.form.specs.Walks.{isLabelledAt, itemsAt}
 use Rattle.form.proofs.WalkSteps.{item-after, item-inside}
 use Rattle.text.proofs.Spaces.{space-here}
-use Rattle.rows.specs.RowWords.{shapedValues}
 use Rattle.rows.proofs.RowItems.{count-start, countFits, fits-more, fits-stop, fits-wrong}
 use Rattle.rows.proofs.items.values_fit.Statement.{statement}
 use Rattle.rows.proofs.items.values_fit.Tie as tie

@@ -1,13 +1,14 @@
 -- `rows::storing::store_by_row` meets its contract: its first item is a name. Assumes nothing.
+use Rattle.document.specs.Lookup.{labelOf}
+use Rattle.document.specs.ValueFaults.{plainValues}
+use Rattle.lists.specs.Lists.{orZero}
+use Rattle.rows.proofs.RowStored.{leading-stored}
+use Rattle.rows.proofs.StoredItems.{leading-space}
+use Rattle.text.proofs.Spaces.{space-here}
+use borrow.Author.Needs.{needs}
 use mathlib.Core.List.{[], _∷_}
 use mathlib.Core.Path.{_∙_, ap, sym}
 use native.Mathlib.Omega.{arith}
-use Rattle.document.specs.Lookup.{labelOf}
-use Rattle.lists.specs.Lists.{orZero}
-use Rattle.rows.proofs.StoredItems.{leading-space}
-use Rattle.text.proofs.Spaces.{space-here}
-use Rattle.rows.proofs.RowStored.{leading-stored}
-use borrow.Author.Needs.{needs}
 use Rattle.rows.proofs.storing.store_by_row.Statement.{statement}
 use Rattle.rows.proofs.storing.store_by_row.Tie as tie
 
@@ -43,7 +44,7 @@ returns c d sets rs ws l L N small h few =
     (λ short e. c .before .before .store-values .ensures 1 (c .before .before .before .before .before .before .before .number .result ∷ []) l small short e) (c .add-row .ensures (a .text .now))
 
 returns-2 : tie.Need-returns-2
-returns-2 c d sets rs ws l L N small h few = absurd (leading-space (c .before .before .before .before .args .line .now) (c .before .before .before .before .args .is) ws h (λ e. c .if1 .left (c .before .byte-at .ensures ∙ e)))
+returns-2 c d sets rs ws l L N small h few = absurd (leading-space plainValues (c .before .before .before .before .args .line .now) (c .before .before .before .before .args .is) ws h (λ e. c .if1 .left (c .before .byte-at .ensures ∙ e)))
 
 pub store-by-row-spec : {M : Type 1} → statement M
 store-by-row-spec =

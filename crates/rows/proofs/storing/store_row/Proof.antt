@@ -1,15 +1,13 @@
--- `rows::storing::store_row` meets its contract, by the scheme of the row's table. Assumes nothing.
-use mathlib.Core.Path.{_∙_, ap}
-use Rattle.document.specs.Lookup.{tableOf}
-use Rattle.document.specs.NameFaults.{rowLabels}
-use Rattle.document.specs.ValueFaults.{rowValues}
+-- `rows::storing::store_row` meets its contract, by the two marks of the table's scheme. Assumes nothing.
+use Rattle.document.specs.Lookup.{labelOf, tableOf}
+use Rattle.document.specs.NameFaults.{leadingName}
+use Rattle.document.specs.ValueFaults.{shapedValues}
 use Rattle.form.specs.Walks.{itemsAt}
-use Rattle.relations.specs.Tables.{schemeBy}
-use Rattle.form.specs.declared.lines.Scheme.the-variants as code
 use Rattle.lists.specs.Lists.{orZero}
-use Rattle.rows.proofs.RowStored.{row-fits, row-stored}
+use Rattle.rows.proofs.RowStored.{led-alone, shape-stored}
 use Rattle.text.specs.Words.{wordOf}
 use borrow.Author.Needs.{needs}
+use mathlib.Core.Path.{_∙_, ap, sym}
 use Rattle.rows.proofs.storing.store_row.Statement.{statement}
 use Rattle.rows.proofs.storing.store_row.Tie as tie
 
@@ -22,75 +20,51 @@ number-requires c κs = search needs
 table-scheme-requires : tie.Need-table-scheme-requires
 table-scheme-requires c κs = search needs
 
-enum-told : tie.Need-enum-told
-enum-told c = search needs
+has-brackets-requires : tie.Need-has-brackets-requires
+has-brackets-requires c κs = search needs
 
-store-plain-requires : tie.Need-store-plain-requires
-store-plain-requires c κs = search needs
+leads-label-requires : tie.Need-leads-label-requires
+leads-label-requires c κs = search needs
 
-enum-told-2 : tie.Need-enum-told-2
-enum-told-2 c = search needs
-
-store-plain-requires-2 : tie.Need-store-plain-requires-2
-store-plain-requires-2 c κs = search needs
-
-enum-told-3 : tie.Need-enum-told-3
-enum-told-3 c = search needs
-
-store-plain-requires-3 : tie.Need-store-plain-requires-3
-store-plain-requires-3 c κs = search needs
-
-enum-told-4 : tie.Need-enum-told-4
-enum-told-4 c = search needs
+store-nested-requires : tie.Need-store-nested-requires
+store-nested-requires c κs = search needs
 
 store-by-row-requires : tie.Need-store-by-row-requires
 store-by-row-requires c κs = search needs
 
-enum-told-5 : tie.Need-enum-told-5
-enum-told-5 c = search needs
-
 store-by-cell-requires : tie.Need-store-by-cell-requires
 store-by-cell-requires c κs = search needs
 
+store-plain-requires : tie.Need-store-plain-requires
+store-plain-requires c κs = search needs
+
 returns : tie.Need-returns
-unfolding schemeBy rowValues rowLabels tableOf
+unfolding shapedValues tableOf
 returns c d sets l L T N ok =
-    let a = c .before .before .before .before .before .before .before .before .before .args in
-    let n = c .before .before .before .before .before .number .ensures ∙ ap orZero (c .before .before .before .before .before .before .find-table .ensures .0 _ T) in
-    let f = row-fits d (a .line .now) (wordOf (a .line .now) (a .t)) (itemsAt (a .line .now) (a .is)) T N ok (c .before .before .before .before .before .number .result) (c .before .before .before .before .table-scheme .result) code.Unlabelled n (c .before .before .enum-told .given .1) (c .before .before .before .before .table-scheme .ensures) in
-    row-stored d (wordOf (a .line .now) (a .t)) (itemsAt (a .line .now) (a .is)) _ _ f n (c .store-plain .ensures (d .rows) (f .words) l N (f .small) (f .values) (f .few))
+    let a = c .before .before .before .before .before .before .before .before .before .before .before .args in
+    shape-stored d (a .line .now) (wordOf (a .line .now) (a .t)) (itemsAt (a .line .now) (a .is)) T N ok (c .before .before .before .before .before .before .before .number .result) (c .before .before .before .before .before .before .table-scheme .result) (c .before .before .before .before .before .before .before .number .ensures ∙ ap orZero (c .before .before .before .before .before .before .before .before .find-table .ensures .0 _ T)) (c .before .before .before .before .before .before .table-scheme .ensures)
+    (λ m ms. sym (c .before .before .before .before .leads-label .ensures m ms) ∙ c .before .before .before .if1 .taken) (λ m ms. sym (c .before .before .before .before .before .has-brackets .ensures m ms) ∙ c .before .before .if2 .taken) (λ ws small v few. c .store-nested .ensures (d .policy) sets (d .rows) ws l L N small v few)
 
 returns-2 : tie.Need-returns-2
-unfolding schemeBy rowValues rowLabels tableOf
+unfolding shapedValues tableOf
 returns-2 c d sets l L T N ok =
-    let a = c .before .before .before .before .before .before .before .before .before .args in
-    let n = c .before .before .before .before .before .number .ensures ∙ ap orZero (c .before .before .before .before .before .before .find-table .ensures .0 _ T) in
-    let f = row-fits d (a .line .now) (wordOf (a .line .now) (a .t)) (itemsAt (a .line .now) (a .is)) T N ok (c .before .before .before .before .before .number .result) (c .before .before .before .before .table-scheme .result) code.ByTable n (c .before .before .enum-told2 .given .1) (c .before .before .before .before .table-scheme .ensures) in
-    row-stored d (wordOf (a .line .now) (a .t)) (itemsAt (a .line .now) (a .is)) _ _ f n (c .store-plain2 .ensures (d .rows) (f .words) l N (f .small) (f .values) (f .few))
+    let a = c .before .before .before .before .before .before .before .before .before .before .before .args in
+    shape-stored d (a .line .now) (wordOf (a .line .now) (a .t)) (itemsAt (a .line .now) (a .is)) T N ok (c .before .before .before .before .before .before .before .number .result) (c .before .before .before .before .before .before .table-scheme .result) (c .before .before .before .before .before .before .before .number .ensures ∙ ap orZero (c .before .before .before .before .before .before .before .before .find-table .ensures .0 _ T)) (c .before .before .before .before .before .before .table-scheme .ensures)
+    (λ m ms. sym (c .before .before .before .before .leads-label .ensures m ms) ∙ c .before .before .before .if1 .taken) (λ m ms. sym (c .before .before .before .before .before .has-brackets .ensures m ms) ∙ c .before .before .if2 .left) (λ ws small v few. led-alone (a .k) (c .before .before .before .before .before .before .before .number .result) d (itemsAt (a .line .now) (a .is)) ws (c .store-by-row .ensures (d .policy) sets (d .rows) ws l L N small v few))
 
 returns-3 : tie.Need-returns-3
-unfolding schemeBy rowValues rowLabels tableOf
+unfolding shapedValues tableOf
 returns-3 c d sets l L T N ok =
-    let a = c .before .before .before .before .before .before .before .before .before .args in
-    let n = c .before .before .before .before .before .number .ensures ∙ ap orZero (c .before .before .before .before .before .before .find-table .ensures .0 _ T) in
-    let f = row-fits d (a .line .now) (wordOf (a .line .now) (a .t)) (itemsAt (a .line .now) (a .is)) T N ok (c .before .before .before .before .before .number .result) (c .before .before .before .before .table-scheme .result) code.ByColumn n (c .before .before .enum-told3 .given .1) (c .before .before .before .before .table-scheme .ensures) in
-    row-stored d (wordOf (a .line .now) (a .t)) (itemsAt (a .line .now) (a .is)) _ _ f n (c .store-plain3 .ensures (d .rows) (f .words) l N (f .small) (f .values) (f .few))
+    let a = c .before .before .before .before .before .before .before .before .before .before .before .args in
+    shape-stored d (a .line .now) (wordOf (a .line .now) (a .t)) (itemsAt (a .line .now) (a .is)) T N ok (c .before .before .before .before .before .before .before .number .result) (c .before .before .before .before .before .before .table-scheme .result) (c .before .before .before .before .before .before .before .number .ensures ∙ ap orZero (c .before .before .before .before .before .before .before .before .find-table .ensures .0 _ T)) (c .before .before .before .before .before .before .table-scheme .ensures)
+    (λ m ms. sym (c .before .before .before .before .leads-label .ensures m ms) ∙ c .before .before .before .if1 .left) (λ m ms. sym (c .before .before .before .before .before .has-brackets .ensures m ms) ∙ c .before .before .if3 .taken) (λ ws small v few. c .store-by-cell .ensures (d .policy) sets (d .rows) ws l L N small v few)
 
 returns-4 : tie.Need-returns-4
-unfolding schemeBy rowValues rowLabels tableOf
+unfolding shapedValues tableOf
 returns-4 c d sets l L T N ok =
-    let a = c .before .before .before .before .before .before .before .before .before .args in
-    let n = c .before .before .before .before .before .number .ensures ∙ ap orZero (c .before .before .before .before .before .before .find-table .ensures .0 _ T) in
-    let f = row-fits d (a .line .now) (wordOf (a .line .now) (a .t)) (itemsAt (a .line .now) (a .is)) T N ok (c .before .before .before .before .before .number .result) (c .before .before .before .before .table-scheme .result) code.ByRow n (c .before .before .enum-told4 .given .1) (c .before .before .before .before .table-scheme .ensures) in
-    row-stored d (wordOf (a .line .now) (a .t)) (itemsAt (a .line .now) (a .is)) _ _ f n (c .store-by-row .ensures (d .policy) sets (d .rows) (f .words) l L N (f .small) (f .values) (f .few))
-
-returns-5 : tie.Need-returns-5
-unfolding schemeBy rowValues rowLabels tableOf
-returns-5 c d sets l L T N ok =
-    let a = c .before .before .before .before .before .before .before .before .before .args in
-    let n = c .before .before .before .before .before .number .ensures ∙ ap orZero (c .before .before .before .before .before .before .find-table .ensures .0 _ T) in
-    let f = row-fits d (a .line .now) (wordOf (a .line .now) (a .t)) (itemsAt (a .line .now) (a .is)) T N ok (c .before .before .before .before .before .number .result) (c .before .before .before .before .table-scheme .result) code.ByCell n (c .before .before .enum-told5 .given .1) (c .before .before .before .before .table-scheme .ensures) in
-    row-stored d (wordOf (a .line .now) (a .t)) (itemsAt (a .line .now) (a .is)) _ _ f n (c .store-by-cell .ensures (d .policy) sets (d .rows) (f .words) l L N (f .small) (f .values) (f .few))
+    let a = c .before .before .before .before .before .before .before .before .before .before .before .args in
+    shape-stored d (a .line .now) (wordOf (a .line .now) (a .t)) (itemsAt (a .line .now) (a .is)) T N ok (c .before .before .before .before .before .before .before .number .result) (c .before .before .before .before .before .before .table-scheme .result) (c .before .before .before .before .before .before .before .number .ensures ∙ ap orZero (c .before .before .before .before .before .before .before .before .find-table .ensures .0 _ T)) (c .before .before .before .before .before .before .table-scheme .ensures)
+    (λ m ms. sym (c .before .before .before .before .leads-label .ensures m ms) ∙ c .before .before .before .if1 .left) (λ m ms. sym (c .before .before .before .before .before .has-brackets .ensures m ms) ∙ c .before .before .if3 .left) (λ ws small v few. c .store-plain .ensures (d .rows) ws l N small v few)
 
 pub store-row-spec : {M : Type 1} → statement M
 store-row-spec =
@@ -99,18 +73,13 @@ store-row-spec =
     find-table-requires
     number-requires
     table-scheme-requires
-    enum-told
-    store-plain-requires
-    enum-told-2
-    store-plain-requires-2
-    enum-told-3
-    store-plain-requires-3
-    enum-told-4
+    has-brackets-requires
+    leads-label-requires
+    store-nested-requires
     store-by-row-requires
-    enum-told-5
     store-by-cell-requires
+    store-plain-requires
     returns
     returns-2
     returns-3
-    returns-4
-    returns-5)
+    returns-4)

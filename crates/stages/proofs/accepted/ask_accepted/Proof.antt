@@ -109,8 +109,8 @@ returns-5 c d standing =
     ∙ granted-refused d (clockOf (a .clock)) (formAt (a .query .now) q) (c .before .before .before .before .before .before .who2 .given .0 .1 .0) (nothing-found (c .before .enum-told2 .given .1) grant))
     (c .refused-at3 .ensures)
 
-open-labels-requires : tie.Need-open-labels-requires
-open-labels-requires c κs = search needs
+say-labels-requires : tie.Need-say-labels-requires
+say-labels-requires c κs = search needs
 
 ask-granted-requires : tie.Need-ask-granted-requires
 ask-granted-requires c κs = search needs
@@ -130,12 +130,12 @@ returns-6 c d standing =
     let grant =
     c .before .before .before .before .before .before .before .before .before .before .authorising-grant .ensures (d .policy) _ (authorities standing) (acting .userBelow) closure (in-tree (standing .indexed .purposes) (acting .purposeBelow)) range
     ∙ ap (firstGrant (d .policy) (clockOf (a .clock)) (c .before .before .before .before .before .before .before .before .before .before .before .before .before .who2 .given .0 .1 .0)) (purpose-number (acting .purpose)) in
-    let opened = c .before .before .before .before .before .open-labels .ensures _ (standing .names) (d .policy) _ (standing .indexed .labels) closure in
+    let said = c .before .before .before .before .before .say-labels .ensures _ (standing .names) (d .policy) _ (standing .indexed .labels) closure in
     gives-same
     (timed-passes d (clockOf (a .clock)) (a .query .now) range ∙ read-is d (clockOf (a .clock)) (a .query .now) (read .is)
     ∙ acting-is d (clockOf (a .clock)) (formAt (a .query .now) q) acting
     ∙ granted-is d (clockOf (a .clock)) (formAt (a .query .now) q) (c .before .before .before .before .before .before .before .before .before .before .before .before .before .who2 .given .0 .1 .0) (number-found (c .before .before .before .before .before .before .before .before .found .given .1) grant))
-    (c .before .before .ask-granted .ensures d (granted standing read (acting .purpose) opened))
+    (c .before .before .ask-granted .ensures d (granted standing read (acting .purpose) said))
 
 pub ask-accepted-spec : {M : Type 1} → statement M
 ask-accepted-spec =
@@ -160,7 +160,7 @@ ask-accepted-spec =
     enum-told-2
     refused-at-requires-3
     returns-5
-    open-labels-requires
+    say-labels-requires
     ask-granted-requires
     same-length
     returns-6)

@@ -51,6 +51,9 @@ returns-2 c d held =
 enum-told-2 : tie.Need-enum-told-2
 enum-told-2 c = search needs
 
+marking-of-requires : tie.Need-marking-of-requires
+marking-of-requires c κs = search needs
+
 sought-in-requires : tie.Need-sought-in-requires
 sought-in-requires c κs = search needs
 
@@ -69,14 +72,14 @@ refused-written-requires c κs = search needs
 returns-3 : tie.Need-returns-3
 unfolding formAt tableOf
 returns-3 c d held =
-    let a = c .before .before .before .before .before .before .before .before .before .before .before .before .before .before .before .before .before .before .before .before .before .before .before .before .before .before .before .args in
-    let table = table-found (d .policy) (formAt (a .query .now) (a .q)) (c .before .before .before .before .before .before .before .before .before .before .before .before .before .before .before .before .before .before .before .before .table .given .1) (c .before .before .before .before .before .before .before .before .before .before .before .before .before .before .before .before .before .before .before .before .before .before .find-table .ensures .0 (d .policy .tables) (held .tables)) (c .before .before .before .before .before .before .before .before .before .before .before .before .before .before .before .before .before .before .before .before .before .before .find-table .ensures .1) in
-    let placed = c .before .before .before .before .before .before .before .before .before .before .before .before .before .before .before .before .named-places .ensures (held .query) in
-    let resolves = c .before .before .before .before .before .before .before .before .before .before .before .before .before .resolve-columns .ensures (d .policy) _ (held .tables) (table .inside) (placed .small) in
-    let columns = resolves-known (a .q) table placed resolves (c .before .before .before .before .before .before .before .before .before .before .before .enum-told2 .given .1) in
-    let read = c .before .before .before .before .before .before .read-tests .ensures (a .text .now) (d .policy) (comparable (a .q) (held .query) table columns (placed .tests) (c .before .before .before .before .before .before .before .before .before .before .sought-in .ensures) (held .tables)) in
-    let types = types-judged (a .q) (held .query) table columns (placed .tests) (c .before .before .before .before .mistyped-test .result) (c .before .before .before .before .before .before .before .before .before .before .sought-in .ensures) read (c .before .before .before .before .mistyped-test .ensures (a .query .now)) in
-    gives-refused (known-passes d _ _ (a .query .now) (c .before .before .before .before .before .before .before .before .before .before .before .enum-told2 .given .1) (resolves-unknown (a .q) table placed resolves) ∙ typed-refused d _ _ (a .query .now) (c .before .before .wrong .given .1) types) (c .refused-written .ensures)
+    let a = c .before .before .before .before .before .before .before .before .before .before .before .before .before .before .before .before .before .before .before .before .before .before .before .before .before .before .before .before .args in
+    let table = table-found (d .policy) (formAt (a .query .now) (a .q)) (c .before .before .before .before .before .before .before .before .before .before .before .before .before .before .before .before .before .before .before .before .before .table .given .1) (c .before .before .before .before .before .before .before .before .before .before .before .before .before .before .before .before .before .before .before .before .before .before .before .find-table .ensures .0 (d .policy .tables) (held .tables)) (c .before .before .before .before .before .before .before .before .before .before .before .before .before .before .before .before .before .before .before .before .before .before .before .find-table .ensures .1) in
+    let placed = c .before .before .before .before .before .before .before .before .before .before .before .before .before .before .before .before .before .named-places .ensures (held .query) in
+    let resolves = c .before .before .before .before .before .before .before .before .before .before .before .before .before .before .resolve-columns .ensures (d .policy) _ (held .tables) (table .inside) (placed .small) in
+    let columns = resolves-known (a .q) table placed resolves (c .before .before .before .before .before .before .before .before .before .before .before .before .enum-told2 .given .1) in
+    let read = c .before .before .before .before .before .before .read-tests .ensures (a .text .now) (d .policy) (comparable (a .q) (held .query) table columns (placed .tests) (c .before .before .before .before .before .before .before .before .before .before .before .marking-of .result) (c .before .before .before .before .before .before .before .before .before .before .sought-in .ensures) (held .tables)) in
+    let types = types-judged (a .q) (held .query) table columns (placed .tests) (c .before .before .before .before .mistyped-test .result) (c .before .before .before .before .before .before .before .before .before .before .before .marking-of .result) (c .before .before .before .before .before .before .before .before .before .before .sought-in .ensures) read (c .before .before .before .before .mistyped-test .ensures (a .query .now)) in
+    gives-refused (known-passes d _ _ (a .query .now) (c .before .before .before .before .before .before .before .before .before .before .before .before .enum-told2 .given .1) (resolves-unknown (a .q) table placed resolves) ∙ typed-refused d _ _ (a .query .now) (c .before .before .wrong .given .1) types) (c .refused-written .ensures)
 
 enum-told-3 : tie.Need-enum-told-3
 enum-told-3 c = search needs
@@ -96,15 +99,15 @@ refused-at-requires-3 c κs = search needs
 returns-4 : tie.Need-returns-4
 unfolding formAt tableOf
 returns-4 c d held =
-    let a = c .before .before .before .before .before .before .before .before .before .before .before .before .before .before .before .before .before .before .before .before .before .before .before .before .before .before .before .before .before .before .before .before .before .args in
-    let table = table-found (d .policy) (formAt (a .query .now) (a .q)) (c .before .before .before .before .before .before .before .before .before .before .before .before .before .before .before .before .before .before .before .before .before .before .before .before .before .before .table .given .1) (c .before .before .before .before .before .before .before .before .before .before .before .before .before .before .before .before .before .before .before .before .before .before .before .before .before .before .before .before .find-table .ensures .0 (d .policy .tables) (held .tables)) (c .before .before .before .before .before .before .before .before .before .before .before .before .before .before .before .before .before .before .before .before .before .before .before .before .before .before .before .before .find-table .ensures .1) in
-    let placed = c .before .before .before .before .before .before .before .before .before .before .before .before .before .before .before .before .before .before .before .before .before .before .named-places .ensures (held .query) in
-    let resolves = c .before .before .before .before .before .before .before .before .before .before .before .before .before .before .before .before .before .before .before .resolve-columns .ensures (d .policy) _ (held .tables) (table .inside) (placed .small) in
-    let columns = resolves-known (a .q) table placed resolves (c .before .before .before .before .before .before .before .before .before .before .before .before .before .before .before .before .before .enum-told2 .given .1) in
-    let read = c .before .before .before .before .before .before .before .before .before .before .before .before .read-tests .ensures (a .text .now) (d .policy) (comparable (a .q) (held .query) table columns (placed .tests) (c .before .before .before .before .before .before .before .before .before .before .before .before .before .before .before .before .sought-in .ensures) (held .tables)) in
-    let types = types-judged (a .q) (held .query) table columns (placed .tests) (c .before .before .before .before .before .before .before .before .before .before .mistyped-test .result) (c .before .before .before .before .before .before .before .before .before .before .before .before .before .before .before .before .sought-in .ensures) read (c .before .before .before .before .before .before .before .before .before .before .mistyped-test .ensures (a .query .now)) in
-    let ranges = ranges-judged d (a .q) table placed resolves (c .before .before .before .before .before .before .before .before .before .before .before .before .before .before .before .before .before .enum-told2 .given .1) (c .before .before .before .before .ranged-column .result) (c .before .before .before .before .before .before .before .takes-ranges .result) (c .before .before .before .before .before .before .before .takes-ranges .ensures ∙ verb-is (a .q) _ (c .before .before .before .before .before .before .before .before .before .before .before .before .before .before .before .before .sought-in .ensures)) (c .before .before .before .before .ranged-column .ensures d (a .query .now) (held .rows)) in
-    gives-refused (known-passes d _ _ (a .query .now) (c .before .before .before .before .before .before .before .before .before .before .before .before .before .before .before .before .before .enum-told2 .given .1) (resolves-unknown (a .q) table placed resolves) ∙ typed-passes d _ _ (a .query .now) (c .before .before .before .before .before .before .before .before .enum-told3 .given .1) types ∙ plain-refused d _ _ (a .query .now) (c .before .before .ranged .given .1) ranges) (c .refused-at3 .ensures)
+    let a = c .before .before .before .before .before .before .before .before .before .before .before .before .before .before .before .before .before .before .before .before .before .before .before .before .before .before .before .before .before .before .before .before .before .before .args in
+    let table = table-found (d .policy) (formAt (a .query .now) (a .q)) (c .before .before .before .before .before .before .before .before .before .before .before .before .before .before .before .before .before .before .before .before .before .before .before .before .before .before .before .table .given .1) (c .before .before .before .before .before .before .before .before .before .before .before .before .before .before .before .before .before .before .before .before .before .before .before .before .before .before .before .before .before .find-table .ensures .0 (d .policy .tables) (held .tables)) (c .before .before .before .before .before .before .before .before .before .before .before .before .before .before .before .before .before .before .before .before .before .before .before .before .before .before .before .before .before .find-table .ensures .1) in
+    let placed = c .before .before .before .before .before .before .before .before .before .before .before .before .before .before .before .before .before .before .before .before .before .before .before .named-places .ensures (held .query) in
+    let resolves = c .before .before .before .before .before .before .before .before .before .before .before .before .before .before .before .before .before .before .before .before .resolve-columns .ensures (d .policy) _ (held .tables) (table .inside) (placed .small) in
+    let columns = resolves-known (a .q) table placed resolves (c .before .before .before .before .before .before .before .before .before .before .before .before .before .before .before .before .before .before .enum-told2 .given .1) in
+    let read = c .before .before .before .before .before .before .before .before .before .before .before .before .read-tests .ensures (a .text .now) (d .policy) (comparable (a .q) (held .query) table columns (placed .tests) (c .before .before .before .before .before .before .before .before .before .before .before .before .before .before .before .before .before .marking-of .result) (c .before .before .before .before .before .before .before .before .before .before .before .before .before .before .before .before .sought-in .ensures) (held .tables)) in
+    let types = types-judged (a .q) (held .query) table columns (placed .tests) (c .before .before .before .before .before .before .before .before .before .before .mistyped-test .result) (c .before .before .before .before .before .before .before .before .before .before .before .before .before .before .before .before .before .marking-of .result) (c .before .before .before .before .before .before .before .before .before .before .before .before .before .before .before .before .sought-in .ensures) read (c .before .before .before .before .before .before .before .before .before .before .mistyped-test .ensures (a .query .now)) in
+    let ranges = ranges-judged d (a .q) table placed resolves (c .before .before .before .before .before .before .before .before .before .before .before .before .before .before .before .before .before .before .enum-told2 .given .1) (c .before .before .before .before .ranged-column .result) (c .before .before .before .before .before .before .before .takes-ranges .result) (c .before .before .before .before .before .before .before .takes-ranges .ensures ∙ verb-is (a .q) _ (c .before .before .before .before .before .before .before .before .before .before .before .before .before .before .before .before .before .marking-of .result) (c .before .before .before .before .before .before .before .before .before .before .before .before .before .before .before .before .sought-in .ensures)) (c .before .before .before .before .ranged-column .ensures d (a .query .now) (held .rows)) in
+    gives-refused (known-passes d _ _ (a .query .now) (c .before .before .before .before .before .before .before .before .before .before .before .before .before .before .before .before .before .before .enum-told2 .given .1) (resolves-unknown (a .q) table placed resolves) ∙ typed-passes d _ _ (a .query .now) (c .before .before .before .before .before .before .before .before .enum-told3 .given .1) types ∙ plain-refused d _ _ (a .query .now) (c .before .before .ranged .given .1) ranges) (c .refused-at3 .ensures)
 
 enum-told-4 : tie.Need-enum-told-4
 enum-told-4 c = search needs
@@ -121,16 +124,16 @@ refused-written-requires-2 c κs = search needs
 returns-5 : tie.Need-returns-5
 unfolding formAt tableOf
 returns-5 c d held =
-    let a = c .before .before .before .before .before .before .before .before .before .before .before .before .before .before .before .before .before .before .before .before .before .before .before .before .before .before .before .before .before .before .before .before .before .before .before .before .before .args in
-    let table = table-found (d .policy) (formAt (a .query .now) (a .q)) (c .before .before .before .before .before .before .before .before .before .before .before .before .before .before .before .before .before .before .before .before .before .before .before .before .before .before .before .before .before .before .table .given .1) (c .before .before .before .before .before .before .before .before .before .before .before .before .before .before .before .before .before .before .before .before .before .before .before .before .before .before .before .before .before .before .before .before .find-table .ensures .0 (d .policy .tables) (held .tables)) (c .before .before .before .before .before .before .before .before .before .before .before .before .before .before .before .before .before .before .before .before .before .before .before .before .before .before .before .before .before .before .before .before .find-table .ensures .1) in
-    let placed = c .before .before .before .before .before .before .before .before .before .before .before .before .before .before .before .before .before .before .before .before .before .before .before .before .before .before .named-places .ensures (held .query) in
-    let resolves = c .before .before .before .before .before .before .before .before .before .before .before .before .before .before .before .before .before .before .before .before .before .before .before .resolve-columns .ensures (d .policy) _ (held .tables) (table .inside) (placed .small) in
-    let columns = resolves-known (a .q) table placed resolves (c .before .before .before .before .before .before .before .before .before .before .before .before .before .before .before .before .before .before .before .before .before .enum-told2 .given .1) in
-    let read = c .before .before .before .before .before .before .before .before .before .before .before .before .before .before .before .before .read-tests .ensures (a .text .now) (d .policy) (comparable (a .q) (held .query) table columns (placed .tests) (c .before .before .before .before .before .before .before .before .before .before .before .before .before .before .before .before .before .before .before .before .sought-in .ensures) (held .tables)) in
-    let types = types-judged (a .q) (held .query) table columns (placed .tests) (c .before .before .before .before .before .before .before .before .before .before .before .before .before .before .mistyped-test .result) (c .before .before .before .before .before .before .before .before .before .before .before .before .before .before .before .before .before .before .before .before .sought-in .ensures) read (c .before .before .before .before .before .before .before .before .before .before .before .before .before .before .mistyped-test .ensures (a .query .now)) in
-    let ranges = ranges-judged d (a .q) table placed resolves (c .before .before .before .before .before .before .before .before .before .before .before .before .before .before .before .before .before .before .before .before .before .enum-told2 .given .1) (c .before .before .before .before .before .before .before .before .ranged-column .result) (c .before .before .before .before .before .before .before .before .before .before .before .takes-ranges .result) (c .before .before .before .before .before .before .before .before .before .before .before .takes-ranges .ensures ∙ verb-is (a .q) _ (c .before .before .before .before .before .before .before .before .before .before .before .before .before .before .before .before .before .before .before .before .sought-in .ensures)) (c .before .before .before .before .before .before .before .before .ranged-column .ensures d (a .query .now) (held .rows)) in
-    let dates = dates-judged (a .q) (held .query) table columns (placed .tests) (c .before .before .before .before .missing-date .result) (c .before .before .before .before .before .before .before .before .before .before .before .before .before .before .before .before .before .before .before .before .sought-in .ensures) read (c .before .before .before .before .missing-date .ensures) in
-    gives-refused (known-passes d _ _ (a .query .now) (c .before .before .before .before .before .before .before .before .before .before .before .before .before .before .before .before .before .before .before .before .before .enum-told2 .given .1) (resolves-unknown (a .q) table placed resolves) ∙ typed-passes d _ _ (a .query .now) (c .before .before .before .before .before .before .before .before .before .before .before .before .enum-told3 .given .1) types ∙ plain-passes d _ _ (a .query .now) (c .before .before .before .before .before .before .enum-told4 .given .1) ranges ∙ dated-refused d _ _ (a .query .now) (c .before .before .absent .given .1) dates) (c .refused-written2 .ensures)
+    let a = c .before .before .before .before .before .before .before .before .before .before .before .before .before .before .before .before .before .before .before .before .before .before .before .before .before .before .before .before .before .before .before .before .before .before .before .before .before .before .args in
+    let table = table-found (d .policy) (formAt (a .query .now) (a .q)) (c .before .before .before .before .before .before .before .before .before .before .before .before .before .before .before .before .before .before .before .before .before .before .before .before .before .before .before .before .before .before .before .table .given .1) (c .before .before .before .before .before .before .before .before .before .before .before .before .before .before .before .before .before .before .before .before .before .before .before .before .before .before .before .before .before .before .before .before .before .find-table .ensures .0 (d .policy .tables) (held .tables)) (c .before .before .before .before .before .before .before .before .before .before .before .before .before .before .before .before .before .before .before .before .before .before .before .before .before .before .before .before .before .before .before .before .before .find-table .ensures .1) in
+    let placed = c .before .before .before .before .before .before .before .before .before .before .before .before .before .before .before .before .before .before .before .before .before .before .before .before .before .before .before .named-places .ensures (held .query) in
+    let resolves = c .before .before .before .before .before .before .before .before .before .before .before .before .before .before .before .before .before .before .before .before .before .before .before .before .resolve-columns .ensures (d .policy) _ (held .tables) (table .inside) (placed .small) in
+    let columns = resolves-known (a .q) table placed resolves (c .before .before .before .before .before .before .before .before .before .before .before .before .before .before .before .before .before .before .before .before .before .before .enum-told2 .given .1) in
+    let read = c .before .before .before .before .before .before .before .before .before .before .before .before .before .before .before .before .read-tests .ensures (a .text .now) (d .policy) (comparable (a .q) (held .query) table columns (placed .tests) (c .before .before .before .before .before .before .before .before .before .before .before .before .before .before .before .before .before .before .before .before .before .marking-of .result) (c .before .before .before .before .before .before .before .before .before .before .before .before .before .before .before .before .before .before .before .before .sought-in .ensures) (held .tables)) in
+    let types = types-judged (a .q) (held .query) table columns (placed .tests) (c .before .before .before .before .before .before .before .before .before .before .before .before .before .before .mistyped-test .result) (c .before .before .before .before .before .before .before .before .before .before .before .before .before .before .before .before .before .before .before .before .before .marking-of .result) (c .before .before .before .before .before .before .before .before .before .before .before .before .before .before .before .before .before .before .before .before .sought-in .ensures) read (c .before .before .before .before .before .before .before .before .before .before .before .before .before .before .mistyped-test .ensures (a .query .now)) in
+    let ranges = ranges-judged d (a .q) table placed resolves (c .before .before .before .before .before .before .before .before .before .before .before .before .before .before .before .before .before .before .before .before .before .before .enum-told2 .given .1) (c .before .before .before .before .before .before .before .before .ranged-column .result) (c .before .before .before .before .before .before .before .before .before .before .before .takes-ranges .result) (c .before .before .before .before .before .before .before .before .before .before .before .takes-ranges .ensures ∙ verb-is (a .q) _ (c .before .before .before .before .before .before .before .before .before .before .before .before .before .before .before .before .before .before .before .before .before .marking-of .result) (c .before .before .before .before .before .before .before .before .before .before .before .before .before .before .before .before .before .before .before .before .sought-in .ensures)) (c .before .before .before .before .before .before .before .before .ranged-column .ensures d (a .query .now) (held .rows)) in
+    let dates = dates-judged (a .q) (held .query) table columns (placed .tests) (c .before .before .before .before .missing-date .result) (c .before .before .before .before .before .before .before .before .before .before .before .before .before .before .before .before .before .before .before .before .before .marking-of .result) (c .before .before .before .before .before .before .before .before .before .before .before .before .before .before .before .before .before .before .before .before .sought-in .ensures) read (c .before .before .before .before .missing-date .ensures) in
+    gives-refused (known-passes d _ _ (a .query .now) (c .before .before .before .before .before .before .before .before .before .before .before .before .before .before .before .before .before .before .before .before .before .before .enum-told2 .given .1) (resolves-unknown (a .q) table placed resolves) ∙ typed-passes d _ _ (a .query .now) (c .before .before .before .before .before .before .before .before .before .before .before .before .enum-told3 .given .1) types ∙ plain-passes d _ _ (a .query .now) (c .before .before .before .before .before .before .enum-told4 .given .1) ranges ∙ dated-refused d _ _ (a .query .now) (c .before .before .absent .given .1) dates) (c .refused-written2 .ensures)
 
 enum-told-5 : tie.Need-enum-told-5
 enum-told-5 c = search needs
@@ -147,17 +150,17 @@ refused-at-requires-4 c κs = search needs
 returns-6 : tie.Need-returns-6
 unfolding formAt tableOf
 returns-6 c d held =
-    let a = c .before .before .before .before .before .before .before .before .before .before .before .before .before .before .before .before .before .before .before .before .before .before .before .before .before .before .before .before .before .before .before .before .before .before .before .before .before .before .before .before .before .before .args in
-    let table = table-found (d .policy) (formAt (a .query .now) (a .q)) (c .before .before .before .before .before .before .before .before .before .before .before .before .before .before .before .before .before .before .before .before .before .before .before .before .before .before .before .before .before .before .before .before .before .before .before .table .given .1) (c .before .before .before .before .before .before .before .before .before .before .before .before .before .before .before .before .before .before .before .before .before .before .before .before .before .before .before .before .before .before .before .before .before .before .before .before .before .find-table .ensures .0 (d .policy .tables) (held .tables)) (c .before .before .before .before .before .before .before .before .before .before .before .before .before .before .before .before .before .before .before .before .before .before .before .before .before .before .before .before .before .before .before .before .before .before .before .before .before .find-table .ensures .1) in
-    let placed = c .before .before .before .before .before .before .before .before .before .before .before .before .before .before .before .before .before .before .before .before .before .before .before .before .before .before .before .before .before .before .before .named-places .ensures (held .query) in
-    let resolves = c .before .before .before .before .before .before .before .before .before .before .before .before .before .before .before .before .before .before .before .before .before .before .before .before .before .before .before .before .resolve-columns .ensures (d .policy) _ (held .tables) (table .inside) (placed .small) in
-    let columns = resolves-known (a .q) table placed resolves (c .before .before .before .before .before .before .before .before .before .before .before .before .before .before .before .before .before .before .before .before .before .before .before .before .before .before .enum-told2 .given .1) in
-    let read = c .before .before .before .before .before .before .before .before .before .before .before .before .before .before .before .before .before .before .before .before .before .read-tests .ensures (a .text .now) (d .policy) (comparable (a .q) (held .query) table columns (placed .tests) (c .before .before .before .before .before .before .before .before .before .before .before .before .before .before .before .before .before .before .before .before .before .before .before .before .before .sought-in .ensures) (held .tables)) in
-    let types = types-judged (a .q) (held .query) table columns (placed .tests) (c .before .before .before .before .before .before .before .before .before .before .before .before .before .before .before .before .before .before .before .mistyped-test .result) (c .before .before .before .before .before .before .before .before .before .before .before .before .before .before .before .before .before .before .before .before .before .before .before .before .before .sought-in .ensures) read (c .before .before .before .before .before .before .before .before .before .before .before .before .before .before .before .before .before .before .before .mistyped-test .ensures (a .query .now)) in
-    let ranges = ranges-judged d (a .q) table placed resolves (c .before .before .before .before .before .before .before .before .before .before .before .before .before .before .before .before .before .before .before .before .before .before .before .before .before .before .enum-told2 .given .1) (c .before .before .before .before .before .before .before .before .before .before .before .before .before .ranged-column .result) (c .before .before .before .before .before .before .before .before .before .before .before .before .before .before .before .before .takes-ranges .result) (c .before .before .before .before .before .before .before .before .before .before .before .before .before .before .before .before .takes-ranges .ensures ∙ verb-is (a .q) _ (c .before .before .before .before .before .before .before .before .before .before .before .before .before .before .before .before .before .before .before .before .before .before .before .before .before .sought-in .ensures)) (c .before .before .before .before .before .before .before .before .before .before .before .before .before .ranged-column .ensures d (a .query .now) (held .rows)) in
-    let dates = dates-judged (a .q) (held .query) table columns (placed .tests) (c .before .before .before .before .before .before .before .before .before .missing-date .result) (c .before .before .before .before .before .before .before .before .before .before .before .before .before .before .before .before .before .before .before .before .before .before .before .before .before .sought-in .ensures) read (c .before .before .before .before .before .before .before .before .before .missing-date .ensures) in
-    let closed = parts-judged (a .q) table placed resolves (c .before .before .before .before .before .before .before .before .before .before .before .before .before .before .before .before .before .before .before .before .before .before .before .before .before .before .enum-told2 .given .1) (c .before .before .before .before .closed-part .result) (held .opened) (c .before .before .before .before .closed-part .ensures (d .policy) (a .text .now) _ _ (held .tables) (held .notes) (table .inside)) in
-    gives-refused (known-passes d _ _ (a .query .now) (c .before .before .before .before .before .before .before .before .before .before .before .before .before .before .before .before .before .before .before .before .before .before .before .before .before .before .enum-told2 .given .1) (resolves-unknown (a .q) table placed resolves) ∙ typed-passes d _ _ (a .query .now) (c .before .before .before .before .before .before .before .before .before .before .before .before .before .before .before .before .before .enum-told3 .given .1) types ∙ plain-passes d _ _ (a .query .now) (c .before .before .before .before .before .before .before .before .before .before .before .enum-told4 .given .1) ranges ∙ dated-passes d _ _ (a .query .now) (c .before .before .before .before .before .before .before .enum-told5 .given .1) dates ∙ open-refused d _ _ (a .query .now) (c .before .before .closed .given .1) closed) (c .refused-at4 .ensures)
+    let a = c .before .before .before .before .before .before .before .before .before .before .before .before .before .before .before .before .before .before .before .before .before .before .before .before .before .before .before .before .before .before .before .before .before .before .before .before .before .before .before .before .before .before .before .args in
+    let table = table-found (d .policy) (formAt (a .query .now) (a .q)) (c .before .before .before .before .before .before .before .before .before .before .before .before .before .before .before .before .before .before .before .before .before .before .before .before .before .before .before .before .before .before .before .before .before .before .before .before .table .given .1) (c .before .before .before .before .before .before .before .before .before .before .before .before .before .before .before .before .before .before .before .before .before .before .before .before .before .before .before .before .before .before .before .before .before .before .before .before .before .before .find-table .ensures .0 (d .policy .tables) (held .tables)) (c .before .before .before .before .before .before .before .before .before .before .before .before .before .before .before .before .before .before .before .before .before .before .before .before .before .before .before .before .before .before .before .before .before .before .before .before .before .before .find-table .ensures .1) in
+    let placed = c .before .before .before .before .before .before .before .before .before .before .before .before .before .before .before .before .before .before .before .before .before .before .before .before .before .before .before .before .before .before .before .before .named-places .ensures (held .query) in
+    let resolves = c .before .before .before .before .before .before .before .before .before .before .before .before .before .before .before .before .before .before .before .before .before .before .before .before .before .before .before .before .before .resolve-columns .ensures (d .policy) _ (held .tables) (table .inside) (placed .small) in
+    let columns = resolves-known (a .q) table placed resolves (c .before .before .before .before .before .before .before .before .before .before .before .before .before .before .before .before .before .before .before .before .before .before .before .before .before .before .before .enum-told2 .given .1) in
+    let read = c .before .before .before .before .before .before .before .before .before .before .before .before .before .before .before .before .before .before .before .before .before .read-tests .ensures (a .text .now) (d .policy) (comparable (a .q) (held .query) table columns (placed .tests) (c .before .before .before .before .before .before .before .before .before .before .before .before .before .before .before .before .before .before .before .before .before .before .before .before .before .before .marking-of .result) (c .before .before .before .before .before .before .before .before .before .before .before .before .before .before .before .before .before .before .before .before .before .before .before .before .before .sought-in .ensures) (held .tables)) in
+    let types = types-judged (a .q) (held .query) table columns (placed .tests) (c .before .before .before .before .before .before .before .before .before .before .before .before .before .before .before .before .before .before .before .mistyped-test .result) (c .before .before .before .before .before .before .before .before .before .before .before .before .before .before .before .before .before .before .before .before .before .before .before .before .before .before .marking-of .result) (c .before .before .before .before .before .before .before .before .before .before .before .before .before .before .before .before .before .before .before .before .before .before .before .before .before .sought-in .ensures) read (c .before .before .before .before .before .before .before .before .before .before .before .before .before .before .before .before .before .before .before .mistyped-test .ensures (a .query .now)) in
+    let ranges = ranges-judged d (a .q) table placed resolves (c .before .before .before .before .before .before .before .before .before .before .before .before .before .before .before .before .before .before .before .before .before .before .before .before .before .before .before .enum-told2 .given .1) (c .before .before .before .before .before .before .before .before .before .before .before .before .before .ranged-column .result) (c .before .before .before .before .before .before .before .before .before .before .before .before .before .before .before .before .takes-ranges .result) (c .before .before .before .before .before .before .before .before .before .before .before .before .before .before .before .before .takes-ranges .ensures ∙ verb-is (a .q) _ (c .before .before .before .before .before .before .before .before .before .before .before .before .before .before .before .before .before .before .before .before .before .before .before .before .before .before .marking-of .result) (c .before .before .before .before .before .before .before .before .before .before .before .before .before .before .before .before .before .before .before .before .before .before .before .before .before .sought-in .ensures)) (c .before .before .before .before .before .before .before .before .before .before .before .before .before .ranged-column .ensures d (a .query .now) (held .rows)) in
+    let dates = dates-judged (a .q) (held .query) table columns (placed .tests) (c .before .before .before .before .before .before .before .before .before .missing-date .result) (c .before .before .before .before .before .before .before .before .before .before .before .before .before .before .before .before .before .before .before .before .before .before .before .before .before .before .marking-of .result) (c .before .before .before .before .before .before .before .before .before .before .before .before .before .before .before .before .before .before .before .before .before .before .before .before .before .sought-in .ensures) read (c .before .before .before .before .before .before .before .before .before .missing-date .ensures) in
+    let closed = parts-judged (a .q) table placed resolves (c .before .before .before .before .before .before .before .before .before .before .before .before .before .before .before .before .before .before .before .before .before .before .before .before .before .before .before .enum-told2 .given .1) (c .before .before .before .before .closed-part .result) (held .said) (c .before .before .before .before .closed-part .ensures (d .policy) (a .text .now) _ _ (held .tables) (held .notes) (table .inside)) in
+    gives-refused (known-passes d _ _ (a .query .now) (c .before .before .before .before .before .before .before .before .before .before .before .before .before .before .before .before .before .before .before .before .before .before .before .before .before .before .before .enum-told2 .given .1) (resolves-unknown (a .q) table placed resolves) ∙ typed-passes d _ _ (a .query .now) (c .before .before .before .before .before .before .before .before .before .before .before .before .before .before .before .before .before .enum-told3 .given .1) types ∙ plain-passes d _ _ (a .query .now) (c .before .before .before .before .before .before .before .before .before .before .before .enum-told4 .given .1) ranges ∙ dated-passes d _ _ (a .query .now) (c .before .before .before .before .before .before .before .enum-told5 .given .1) dates ∙ open-refused d _ _ (a .query .now) (c .before .before .closed .given .1) closed) (c .refused-at4 .ensures)
 
 enum-told-6 : tie.Need-enum-told-6
 enum-told-6 c = search needs
@@ -171,18 +174,18 @@ same-length c = search needs
 returns-7 : tie.Need-returns-7
 unfolding formAt tableOf
 returns-7 c d held =
-    let a = c .before .before .before .before .before .before .before .before .before .before .before .before .before .before .before .before .before .before .before .before .before .before .before .before .before .before .before .before .before .before .before .before .before .before .before .before .before .before .before .before .before .before .before .before .before .before .args in
-    let table = table-found (d .policy) (formAt (a .query .now) (a .q)) (c .before .before .before .before .before .before .before .before .before .before .before .before .before .before .before .before .before .before .before .before .before .before .before .before .before .before .before .before .before .before .before .before .before .before .before .before .before .before .before .table .given .1) (c .before .before .before .before .before .before .before .before .before .before .before .before .before .before .before .before .before .before .before .before .before .before .before .before .before .before .before .before .before .before .before .before .before .before .before .before .before .before .before .before .before .find-table .ensures .0 (d .policy .tables) (held .tables)) (c .before .before .before .before .before .before .before .before .before .before .before .before .before .before .before .before .before .before .before .before .before .before .before .before .before .before .before .before .before .before .before .before .before .before .before .before .before .before .before .before .before .find-table .ensures .1) in
-    let placed = c .before .before .before .before .before .before .before .before .before .before .before .before .before .before .before .before .before .before .before .before .before .before .before .before .before .before .before .before .before .before .before .before .before .before .before .named-places .ensures (held .query) in
-    let resolves = c .before .before .before .before .before .before .before .before .before .before .before .before .before .before .before .before .before .before .before .before .before .before .before .before .before .before .before .before .before .before .before .before .resolve-columns .ensures (d .policy) _ (held .tables) (table .inside) (placed .small) in
-    let columns = resolves-known (a .q) table placed resolves (c .before .before .before .before .before .before .before .before .before .before .before .before .before .before .before .before .before .before .before .before .before .before .before .before .before .before .before .before .before .before .enum-told2 .given .1) in
-    let read = c .before .before .before .before .before .before .before .before .before .before .before .before .before .before .before .before .before .before .before .before .before .before .before .before .before .read-tests .ensures (a .text .now) (d .policy) (comparable (a .q) (held .query) table columns (placed .tests) (c .before .before .before .before .before .before .before .before .before .before .before .before .before .before .before .before .before .before .before .before .before .before .before .before .before .before .before .before .before .sought-in .ensures) (held .tables)) in
-    let types = types-judged (a .q) (held .query) table columns (placed .tests) (c .before .before .before .before .before .before .before .before .before .before .before .before .before .before .before .before .before .before .before .before .before .before .before .mistyped-test .result) (c .before .before .before .before .before .before .before .before .before .before .before .before .before .before .before .before .before .before .before .before .before .before .before .before .before .before .before .before .before .sought-in .ensures) read (c .before .before .before .before .before .before .before .before .before .before .before .before .before .before .before .before .before .before .before .before .before .before .before .mistyped-test .ensures (a .query .now)) in
-    let ranges = ranges-judged d (a .q) table placed resolves (c .before .before .before .before .before .before .before .before .before .before .before .before .before .before .before .before .before .before .before .before .before .before .before .before .before .before .before .before .before .before .enum-told2 .given .1) (c .before .before .before .before .before .before .before .before .before .before .before .before .before .before .before .before .before .ranged-column .result) (c .before .before .before .before .before .before .before .before .before .before .before .before .before .before .before .before .before .before .before .before .takes-ranges .result) (c .before .before .before .before .before .before .before .before .before .before .before .before .before .before .before .before .before .before .before .before .takes-ranges .ensures ∙ verb-is (a .q) _ (c .before .before .before .before .before .before .before .before .before .before .before .before .before .before .before .before .before .before .before .before .before .before .before .before .before .before .before .before .before .sought-in .ensures)) (c .before .before .before .before .before .before .before .before .before .before .before .before .before .before .before .before .before .ranged-column .ensures d (a .query .now) (held .rows)) in
-    let dates = dates-judged (a .q) (held .query) table columns (placed .tests) (c .before .before .before .before .before .before .before .before .before .before .before .before .before .missing-date .result) (c .before .before .before .before .before .before .before .before .before .before .before .before .before .before .before .before .before .before .before .before .before .before .before .before .before .before .before .before .before .sought-in .ensures) read (c .before .before .before .before .before .before .before .before .before .before .before .before .before .missing-date .ensures) in
-    let closed = parts-judged (a .q) table placed resolves (c .before .before .before .before .before .before .before .before .before .before .before .before .before .before .before .before .before .before .before .before .before .before .before .before .before .before .before .before .before .before .enum-told2 .given .1) (c .before .before .before .before .before .before .before .before .closed-part .result) (held .opened) (c .before .before .before .before .before .before .before .before .closed-part .ensures (d .policy) (a .text .now) _ _ (held .tables) (held .notes) (table .inside)) in
-    gives-same (known-passes d _ _ (a .query .now) (c .before .before .before .before .before .before .before .before .before .before .before .before .before .before .before .before .before .before .before .before .before .before .before .before .before .before .before .before .before .before .enum-told2 .given .1) (resolves-unknown (a .q) table placed resolves) ∙ typed-passes d _ _ (a .query .now) (c .before .before .before .before .before .before .before .before .before .before .before .before .before .before .before .before .before .before .before .before .before .enum-told3 .given .1) types ∙ plain-passes d _ _ (a .query .now) (c .before .before .before .before .before .before .before .before .before .before .before .before .before .before .before .enum-told4 .given .1) ranges ∙ dated-passes d _ _ (a .query .now) (c .before .before .before .before .before .before .before .before .before .before .before .enum-told5 .given .1) dates ∙ open-passes d _ _ (a .query .now) (c .before .before .before .before .before .before .enum-told6 .given .1) closed)
-    (c .before .before .ask-rows .ensures d (formAt (a .query .now) (a .q)) (prepared (a .q) held table columns (placed .tests) (parts-known (a .query .now) (a .q) (c .before .before .before .before .before .before .before .before .before .before .before .before .before .before .before .before .before .before .before .before .before .before .before .before .before .before .before .before .before .before .enum-told2 .given .1) (resolves-unknown (a .q) table placed resolves) (c .before .before .before .before .before .before .enum-told6 .given .1) closed) (c .before .before .before .before .before .before .before .before .before .before .before .before .before .before .before .before .before .before .before .before .before .before .before .before .before .before .before .before .before .sought-in .ensures) read (c .before .before .before .before .before .before .before .before .before .before .before .before .before .before .before .before .before .before .before .before .before .enum-told3 .given .1) (c .before .before .before .before .before .before .before .before .before .before .before .before .before .before .before .before .before .before .before .before .before .before .before .mistyped-test .ensures (a .query .now))))
+    let a = c .before .before .before .before .before .before .before .before .before .before .before .before .before .before .before .before .before .before .before .before .before .before .before .before .before .before .before .before .before .before .before .before .before .before .before .before .before .before .before .before .before .before .before .before .before .before .before .args in
+    let table = table-found (d .policy) (formAt (a .query .now) (a .q)) (c .before .before .before .before .before .before .before .before .before .before .before .before .before .before .before .before .before .before .before .before .before .before .before .before .before .before .before .before .before .before .before .before .before .before .before .before .before .before .before .before .table .given .1) (c .before .before .before .before .before .before .before .before .before .before .before .before .before .before .before .before .before .before .before .before .before .before .before .before .before .before .before .before .before .before .before .before .before .before .before .before .before .before .before .before .before .before .find-table .ensures .0 (d .policy .tables) (held .tables)) (c .before .before .before .before .before .before .before .before .before .before .before .before .before .before .before .before .before .before .before .before .before .before .before .before .before .before .before .before .before .before .before .before .before .before .before .before .before .before .before .before .before .before .find-table .ensures .1) in
+    let placed = c .before .before .before .before .before .before .before .before .before .before .before .before .before .before .before .before .before .before .before .before .before .before .before .before .before .before .before .before .before .before .before .before .before .before .before .before .named-places .ensures (held .query) in
+    let resolves = c .before .before .before .before .before .before .before .before .before .before .before .before .before .before .before .before .before .before .before .before .before .before .before .before .before .before .before .before .before .before .before .before .before .resolve-columns .ensures (d .policy) _ (held .tables) (table .inside) (placed .small) in
+    let columns = resolves-known (a .q) table placed resolves (c .before .before .before .before .before .before .before .before .before .before .before .before .before .before .before .before .before .before .before .before .before .before .before .before .before .before .before .before .before .before .before .enum-told2 .given .1) in
+    let read = c .before .before .before .before .before .before .before .before .before .before .before .before .before .before .before .before .before .before .before .before .before .before .before .before .before .read-tests .ensures (a .text .now) (d .policy) (comparable (a .q) (held .query) table columns (placed .tests) (c .before .before .before .before .before .before .before .before .before .before .before .before .before .before .before .before .before .before .before .before .before .before .before .before .before .before .before .before .before .before .marking-of .result) (c .before .before .before .before .before .before .before .before .before .before .before .before .before .before .before .before .before .before .before .before .before .before .before .before .before .before .before .before .before .sought-in .ensures) (held .tables)) in
+    let types = types-judged (a .q) (held .query) table columns (placed .tests) (c .before .before .before .before .before .before .before .before .before .before .before .before .before .before .before .before .before .before .before .before .before .before .before .mistyped-test .result) (c .before .before .before .before .before .before .before .before .before .before .before .before .before .before .before .before .before .before .before .before .before .before .before .before .before .before .before .before .before .before .marking-of .result) (c .before .before .before .before .before .before .before .before .before .before .before .before .before .before .before .before .before .before .before .before .before .before .before .before .before .before .before .before .before .sought-in .ensures) read (c .before .before .before .before .before .before .before .before .before .before .before .before .before .before .before .before .before .before .before .before .before .before .before .mistyped-test .ensures (a .query .now)) in
+    let ranges = ranges-judged d (a .q) table placed resolves (c .before .before .before .before .before .before .before .before .before .before .before .before .before .before .before .before .before .before .before .before .before .before .before .before .before .before .before .before .before .before .before .enum-told2 .given .1) (c .before .before .before .before .before .before .before .before .before .before .before .before .before .before .before .before .before .ranged-column .result) (c .before .before .before .before .before .before .before .before .before .before .before .before .before .before .before .before .before .before .before .before .takes-ranges .result) (c .before .before .before .before .before .before .before .before .before .before .before .before .before .before .before .before .before .before .before .before .takes-ranges .ensures ∙ verb-is (a .q) _ (c .before .before .before .before .before .before .before .before .before .before .before .before .before .before .before .before .before .before .before .before .before .before .before .before .before .before .before .before .before .before .marking-of .result) (c .before .before .before .before .before .before .before .before .before .before .before .before .before .before .before .before .before .before .before .before .before .before .before .before .before .before .before .before .before .sought-in .ensures)) (c .before .before .before .before .before .before .before .before .before .before .before .before .before .before .before .before .before .ranged-column .ensures d (a .query .now) (held .rows)) in
+    let dates = dates-judged (a .q) (held .query) table columns (placed .tests) (c .before .before .before .before .before .before .before .before .before .before .before .before .before .missing-date .result) (c .before .before .before .before .before .before .before .before .before .before .before .before .before .before .before .before .before .before .before .before .before .before .before .before .before .before .before .before .before .before .marking-of .result) (c .before .before .before .before .before .before .before .before .before .before .before .before .before .before .before .before .before .before .before .before .before .before .before .before .before .before .before .before .before .sought-in .ensures) read (c .before .before .before .before .before .before .before .before .before .before .before .before .before .missing-date .ensures) in
+    let closed = parts-judged (a .q) table placed resolves (c .before .before .before .before .before .before .before .before .before .before .before .before .before .before .before .before .before .before .before .before .before .before .before .before .before .before .before .before .before .before .before .enum-told2 .given .1) (c .before .before .before .before .before .before .before .before .closed-part .result) (held .said) (c .before .before .before .before .before .before .before .before .closed-part .ensures (d .policy) (a .text .now) _ _ (held .tables) (held .notes) (table .inside)) in
+    gives-same (known-passes d _ _ (a .query .now) (c .before .before .before .before .before .before .before .before .before .before .before .before .before .before .before .before .before .before .before .before .before .before .before .before .before .before .before .before .before .before .before .enum-told2 .given .1) (resolves-unknown (a .q) table placed resolves) ∙ typed-passes d _ _ (a .query .now) (c .before .before .before .before .before .before .before .before .before .before .before .before .before .before .before .before .before .before .before .before .before .enum-told3 .given .1) types ∙ plain-passes d _ _ (a .query .now) (c .before .before .before .before .before .before .before .before .before .before .before .before .before .before .before .enum-told4 .given .1) ranges ∙ dated-passes d _ _ (a .query .now) (c .before .before .before .before .before .before .before .before .before .before .before .enum-told5 .given .1) dates ∙ open-passes d _ _ (a .query .now) (c .before .before .before .before .before .before .enum-told6 .given .1) closed)
+    (c .before .before .ask-rows .ensures d (formAt (a .query .now) (a .q)) (prepared (a .q) held table columns (placed .tests) (parts-known (a .query .now) (a .q) (c .before .before .before .before .before .before .before .before .before .before .before .before .before .before .before .before .before .before .before .before .before .before .before .before .before .before .before .before .before .before .before .enum-told2 .given .1) (resolves-unknown (a .q) table placed resolves) (c .before .before .before .before .before .before .enum-told6 .given .1) closed) (c .before .before .before .before .before .before .before .before .before .before .before .before .before .before .before .before .before .before .before .before .before .before .before .before .before .before .before .before .before .before .marking-of .result) (c .before .before .before .before .before .before .before .before .before .before .before .before .before .before .before .before .before .before .before .before .before .before .before .before .before .before .before .before .before .before .marking-of .ensures) (c .before .before .before .before .before .before .before .before .before .before .before .before .before .before .before .before .before .before .before .before .before .before .before .before .before .before .before .before .before .sought-in .ensures) read (c .before .before .before .before .before .before .before .before .before .before .before .before .before .before .before .before .before .before .before .before .before .enum-told3 .given .1) (c .before .before .before .before .before .before .before .before .before .before .before .before .before .before .before .before .before .before .before .before .before .before .before .mistyped-test .ensures (a .query .now))))
 
 pub ask-granted-spec : {M : Type 1} → statement M
 ask-granted-spec =
@@ -199,6 +202,7 @@ ask-granted-spec =
     refused-at-requires-2
     returns-2
     enum-told-2
+    marking-of-requires
     sought-in-requires
     read-tests-requires
     mistyped-test-requires

@@ -18,7 +18,7 @@ chosen-count-requires c κs = search needs
 
 returns : tie.Need-returns
 unfolding soughtIn
-returns c = λ i. record { table = c .before .before .before .before .args .t; test = c .before .before .before .before .args .q .test; tests = c .before .before .before .comparison-count .ensures i; lines = c .before .before .asks-rows .ensures i; verb = c .before .verb-in .ensures i; chosen = c .chosen-count .ensures i }
+returns c = λ i. record { table = c .before .before .before .before .args .t; marking = c .before .before .before .before .args .marking; test = c .before .before .before .before .args .q .test; tests = c .before .before .before .comparison-count .ensures i; lines = c .before .before .asks-rows .ensures i; verb = c .before .verb-in .ensures i; chosen = c .chosen-count .ensures i }
 
 pub sought-in-spec : {M : Type 1} → statement M
 sought-in-spec =

@@ -6,7 +6,7 @@ use mathlib.Core.Path.{_∙_, ap, sym}
 use Rattle.document.specs.Policy.{Label}
 use Rattle.form.specs.TableWords.{schemeWords}
 use Rattle.form.specs.Form.{schemeLabels}
-use Rattle.lists.specs.Lists.{findIndex, there}
+use Rattle.lists.specs.Lists.{findIndex, listed, there}
 use Rattle.text.specs.Offending.{leftmost, missing}
 use Rattle.text.specs.Words.{Word, isCalled}
 use Rattle.tables.proofs.table_faults.unknown_label.Statement.{statement}
@@ -37,6 +37,9 @@ enum-told-4 c = search needs
 enum-told-5 : tie.Need-enum-told-5
 enum-told-5 c = search needs
 
+enum-told-6 : tie.Need-enum-told-6
+enum-told-6 c = search needs
+
 returns : tie.Need-returns
 unfolding schemeLabels schemeWords missing leftmost
 returns c = (λ sets ls h. ap (λ sc. missing (known ls) (schemeLabels (schemeWords (c .before .before .before .before .args .line .now) sc (c .before .before .before .before .args .l) (c .before .before .before .before .args .cs)))) (sym (c .enum-told .given .1)), λ l. tt)
@@ -57,6 +60,10 @@ returns-5 : tie.Need-returns-5
 unfolding schemeLabels schemeWords missing leftmost
 returns-5 c = (λ sets ls h. ap (λ sc. missing (known ls) (schemeLabels (schemeWords (c .before .before .before .before .args .line .now) sc (c .before .before .before .before .args .l) (c .before .before .before .before .args .cs)))) (sym (c .enum-told5 .given .1)), λ l. tt)
 
+returns-6 : tie.Need-returns-6
+unfolding schemeLabels schemeWords missing leftmost listed
+returns-6 c = (λ sets ls h. ap (λ sc. missing (known ls) (schemeLabels (schemeWords (c .before .before .before .before .args .line .now) sc (c .before .before .before .before .args .l) (c .before .before .before .before .args .cs)))) (sym (c .enum-told6 .given .1)), λ l. tt)
+
 pub unknown-label-spec : {M : Type 1} → statement M
 unknown-label-spec =
     tie.close
@@ -68,8 +75,10 @@ unknown-label-spec =
     first-unknown-label-requires
     enum-told-4
     enum-told-5
+    enum-told-6
     returns
     returns-2
     returns-3
     returns-4
-    returns-5)
+    returns-5
+    returns-6)

@@ -3,13 +3,14 @@
 use Prim.Native.Nat.{_+_, _-_, _<_, _^_, _≤_, ℕ}
 use borrow.Author.Needs.{needs}
 use lib.ListN.{length}
-use mathlib.Core.List.{List}
+use mathlib.Core.List.{List, []}
 use mathlib.Core.Path.{_∙_, _≡_, sym}
 use native.Mathlib.Omega.{arith}
 use Rattle.condition.specs.Answers.{kindOf}
 use Rattle.document.specs.Lookup.{columnsAt}
 use Rattle.document.specs.Policy.{Policy}
 use Rattle.relations.specs.Labels.{Labels}
+use Rattle.relations.specs.Rows.{FillingRow}
 use Rattle.relations.specs.Tables.{Tables}
 use Rattle.walks.proofs.CellTurns.{CellsPassed, all-cells-passed, cells-turn, label-at, no-cells-passed}
 use Rattle.walks.specs.Walked.{KeepsRows}
@@ -20,23 +21,23 @@ use Rattle.walks.proofs.cells.take_cells.Statement.{statement}
 use Rattle.walks.proofs.cells.take_cells.Tie as tie
 
 abbrev Inv-loop : tie.InvT-loop
-Inv-loop text at line labels labels-count tables x n rows₀ k is m₀ j₀ rows m j =
-    (m ≤ n)
+Inv-loop text at line labels labels-count tables x n rows₀ k is m c₀ j₀ rows c j =
+    (c ≤ n)
     × (length line < 2 ^ 64)
     × KeepsRows text rows₀ rows k
-    × ((d : Policy) (count : ℕ) (sets : List ℕ) → LineAt text at line → Labels text labels sets labels-count (d .labels) → Tables text tables count (d .tables) → x < count → n ≡ length (columnsAt d x) → k < 1024 → CellsPassed text rows₀ rows line k n m d (columnsAt d x) is j)
+    × ((d : Policy) (count : ℕ) (sets ls : List ℕ) → LineAt text at line → Labels text labels sets labels-count (d .labels) → Tables text tables count (d .tables) → x < count → n ≡ length (columnsAt d x) → k < 1024 → FillingRow text rows₀ k 0 m [] ls → CellsPassed text rows₀ rows line k n m ls c d (columnsAt d x) is j)
 
 abbrev μ-loop : tie.MeasureT-loop
-μ-loop text at line labels labels-count tables x n rows₀ k is m₀ j₀ rows m j = n - m
+μ-loop text at line labels labels-count tables x n rows₀ k is m c₀ j₀ rows c j = n - c
 
 loop-holds : tie.Need-loop-holds Inv-loop μ-loop
-loop-holds c = (omega arith, omega arith, λ rs h. h, λ d count sets l N T b w small. no-cells-passed _ _ _ _ _ _ _ _)
+loop-holds c = (omega arith, omega arith, λ rs h. h, λ d count sets ls l N T b w small h. no-cells-passed h)
 
 byte-at-requires : tie.Need-byte-at-requires Inv-loop μ-loop
 byte-at-requires c κs = search needs
 
 returns : tie.Need-returns Inv-loop μ-loop
-returns c = (c .before .before .before .loop .inv .2, λ d count sets l N T b w small. tt)
+returns c = (c .before .before .before .loop .inv .2, λ d count sets ls l N T b w small h. tt)
 
 add-byte-at : tie.Need-add-byte-at Inv-loop μ-loop
 add-byte-at c = omega (arith, space-here (c .before .before .before .before .before .before .args .line .now) (c .before .before .before .loop .j) _ (c .before .byte-at .ensures) (c .if1 .left) .1)
@@ -45,7 +46,7 @@ byte-at-requires-2 : tie.Need-byte-at-requires-2 Inv-loop μ-loop
 byte-at-requires-2 c κs = search needs
 
 returns-2 : tie.Need-returns-2 Inv-loop μ-loop
-returns-2 c = (c .before .before .before .before .before .loop .inv .2, λ d count sets l N T b w small. tt)
+returns-2 c = (c .before .before .before .before .before .loop .inv .2, λ d count sets ls l N T b w small h. tt)
 
 add-v : tie.Need-add-v Inv-loop μ-loop
 add-v c = omega (arith, before-end (c .before .before .before .before .before .before .before .before .args .line .now) (c .before .before .before .before .before .loop .j + 1) (λ z. absurd (omega (arith, z, c .before .byte-at2 .ensures, c .if2 .left))))
@@ -63,13 +64,16 @@ enum-told : tie.Need-enum-told Inv-loop μ-loop
 enum-told c = search needs
 
 returns-3 : tie.Need-returns-3 Inv-loop μ-loop
-returns-3 c = (c .before .before .before .before .before .before .before .before .before .loop .inv .2, λ d count sets l N T b w small. tt)
+returns-3 c = (c .before .before .before .before .before .before .before .before .before .loop .inv .2, λ d count sets ls l N T b w small h. tt)
 
 place-requires : tie.Need-place-requires Inv-loop μ-loop
 place-requires c κs = search needs
 
 set-value-requires : tie.Need-set-value-requires Inv-loop μ-loop
 set-value-requires c κs = search needs
+
+add-take-label : tie.Need-add-take-label Inv-loop μ-loop
+add-take-label c = omega (arith, c .before .before .before .before .before .before .before .before .before .before .before .before .before .loop-test .taken, c .before .before .before .before .before .before .before .before .before .before .before .before .before .before .before .before .before .pre, c .before .before .before .before .before .before .before .before .before .before .before .before .before .before .before .before .before .fits .n)
 
 take-label-requires : tie.Need-take-label-requires Inv-loop μ-loop
 take-label-requires c κs = search needs
@@ -81,19 +85,19 @@ enum-told-2 : tie.Need-enum-told-2 Inv-loop μ-loop
 enum-told-2 c = search needs
 
 returns-4 : tie.Need-returns-4 Inv-loop μ-loop
-returns-4 c = (λ rs h. c .before .before .take-label .ensures .0 rs (c .before .before .before .before .set-value .ensures .kept _ _ rs (omega arith) (c .before .before .before .before .before .before .before .before .before .before .before .before .before .before .before .before .before .loop .inv .2 rs h)), λ d count sets l N T b w small. tt)
+returns-4 c = (λ rs h. c .before .before .take-label .ensures .0 rs (c .before .before .before .before .set-value .ensures .kept _ _ rs (omega arith) (c .before .before .before .before .before .before .before .before .before .before .before .before .before .before .before .before .before .loop .inv .2 rs h)), λ d count sets ls l N T b w small h. tt)
 
 byte-at-requires-3 : tie.Need-byte-at-requires-3 Inv-loop μ-loop
 byte-at-requires-3 c κs = search needs
 
 returns-5 : tie.Need-returns-5 Inv-loop μ-loop
-returns-5 c = (λ rs h. c .before .before .before .before .before .take-label .ensures .0 rs (c .before .before .before .before .before .before .before .set-value .ensures .kept _ _ rs (omega arith) (c .before .before .before .before .before .before .before .before .before .before .before .before .before .before .before .before .before .before .before .before .loop .inv .2 rs h)), λ d count sets l N T b w small. tt)
+returns-5 c = (λ rs h. c .before .before .before .before .before .take-label .ensures .0 rs (c .before .before .before .before .before .before .before .set-value .ensures .kept _ _ rs (omega arith) (c .before .before .before .before .before .before .before .before .before .before .before .before .before .before .before .before .before .before .before .before .loop .inv .2 rs h)), λ d count sets ls l N T b w small h. tt)
 
 add-j : tie.Need-add-j Inv-loop μ-loop
 add-j c = omega (arith, before-end (c .before .before .before .before .before .before .before .before .before .before .before .before .before .before .before .before .before .before .before .before .before .before .before .args .line .now) (c .before .before .before .l .given .0 .0) (λ z. absurd (omega (arith, z, c .before .byte-at3 .ensures, c .if3 .left))), c .before .before .before .before .before .before .before .before .before .before .before .before .before .before .before .before .before .before .before .before .loop .inv .1)
 
-add-m : tie.Need-add-m Inv-loop μ-loop
-add-m c = omega (arith, c .before .before .before .before .before .before .before .before .before .before .before .before .before .before .before .before .before .before .before .loop-test .taken, c .before .before .before .before .before .before .before .before .before .before .before .before .before .before .before .before .before .before .before .before .before .before .before .fits .n)
+add-c : tie.Need-add-c Inv-loop μ-loop
+add-c c = omega (arith, c .before .before .before .before .before .before .before .before .before .before .before .before .before .before .before .before .before .before .before .loop-test .taken, c .before .before .before .before .before .before .before .before .before .before .before .before .before .before .before .before .before .before .before .before .before .before .before .fits .n)
 
 loop-less : tie.Need-loop-less Inv-loop μ-loop
 loop-less c = omega (arith, c .before .before .before .before .before .before .before .before .before .before .before .before .before .before .before .before .before .before .before .loop-test .taken)
@@ -103,16 +107,16 @@ loop-again c = (
   omega (arith, c .before .before .before .before .before .before .before .before .before .before .before .before .before .before .before .before .before .before .before .loop-test .taken),
   c .before .before .before .before .before .before .before .before .before .before .before .before .before .before .before .before .before .before .before .before .loop .inv .1,
   λ rs h. c .before .before .before .before .before .take-label .ensures .0 rs (c .before .before .before .before .before .before .before .set-value .ensures .kept _ _ rs (omega arith) (c .before .before .before .before .before .before .before .before .before .before .before .before .before .before .before .before .before .before .before .before .loop .inv .2 rs h)),
-  λ d count sets l N T b w small.
-      cells-turn d T b w (c .before .before .before .before .before .before .before .before .before .before .before .before .before .before .before .before .before .before .before .before .before .before .before .args .is) (c .before .before .before .before .before .before .before .before .before .before .before .before .before .before .before .before .before .before .before .before .loop .j) (kindOf (c .before .before .before .before .before .before .before .before .before .before .before .before .before .before .column-kind .result)) l small (c .before .before .before .before .before .before .before .before .before .before .before .before .before .before .before .before .before .before .before .loop-test .taken) (sym (c .before .before .before .before .before .before .before .before .before .before .before .before .before .before .before .before .before .before .byte-at .ensures) ∙ c .before .before .before .before .before .before .before .before .before .before .before .before .before .before .before .before .before .if1 .left) (sym (c .before .before .before .before .before .before .before .before .before .before .before .before .before .before .before .before .byte-at2 .ensures) ∙ c .before .before .before .before .before .before .before .before .before .before .before .before .before .before .before .if2 .left) (c .before .before .before .before .before .before .before .before .before .before .before .before .before .before .column-kind .ensures)
+  λ d count sets ls l N T b w small h.
+      cells-turn d T b w ls (c .before .before .before .before .before .before .before .before .before .before .before .before .before .before .before .before .before .before .before .before .before .before .before .args .is) (c .before .before .before .before .before .before .before .before .before .before .before .before .before .before .before .before .before .before .before .before .loop .j) (kindOf (c .before .before .before .before .before .before .before .before .before .before .before .before .before .before .column-kind .result)) l small (c .before .before .before .before .before .before .before .before .before .before .before .before .before .before .before .before .before .before .before .before .before .before .before .pre) (c .before .before .before .before .before .before .before .before .before .before .before .before .before .before .before .before .before .before .before .loop-test .taken) (sym (c .before .before .before .before .before .before .before .before .before .before .before .before .before .before .before .before .before .before .byte-at .ensures) ∙ c .before .before .before .before .before .before .before .before .before .before .before .before .before .before .before .before .before .if1 .left) (sym (c .before .before .before .before .before .before .before .before .before .before .before .before .before .before .before .before .byte-at2 .ensures) ∙ c .before .before .before .before .before .before .before .before .before .before .before .before .before .before .before .if2 .left) (c .before .before .before .before .before .before .before .before .before .before .before .before .before .before .column-kind .ensures)
       (sym (c .before .before .before .before .before .before .before .before .before .before .before .before .before .typed-end .ensures) ∙ c .before .before .before .before .before .before .before .before .before .before .before .r .given .1) (c .before .before .before .before .before .before .before .before .before .place .ensures) (c .before .before .before .before .before .before .before .set-value .ensures) (label-at (c .before .before .before .l .given .1) (c .before .before .before .before .before .take-label .ensures .1 d sets N)) (sym (c .before .byte-at3 .ensures) ∙ c .if3 .left)
-      (c .before .before .before .before .before .before .before .before .before .before .before .before .before .before .before .before .before .before .before .before .loop .inv .3 d count sets l N T b w small),
+      (c .before .before .before .before .before .before .before .before .before .before .before .before .before .before .before .before .before .before .before .before .loop .inv .3 d count sets ls l N T b w small h),
 )
 
 returns-6 : tie.Need-returns-6 Inv-loop μ-loop
 returns-6 c =
-    let q : c .before .loop .m ≡ c .before .before .before .before .args .n = omega (arith, c .loop-test .left, c .before .loop .inv .0) in
-    (c .before .loop .inv .2, λ d count sets l N T b w small. all-cells-passed q (c .before .loop .inv .3 d count sets l N T b w small))
+    let q : c .before .loop .c ≡ c .before .before .before .before .args .n = omega (arith, c .loop-test .left, c .before .loop .inv .0) in
+    (c .before .loop .inv .2, λ d count sets ls l N T b w small h. all-cells-passed q (c .before .loop .inv .3 d count sets ls l N T b w small h))
 
 pub take-cells-spec : {M : Type 1} → statement M
 take-cells-spec =
@@ -134,6 +138,7 @@ take-cells-spec =
     returns-3
     place-requires
     set-value-requires
+    add-take-label
     take-label-requires
     enum-known-l
     enum-told-2
@@ -141,7 +146,7 @@ take-cells-spec =
     byte-at-requires-3
     returns-5
     add-j
-    add-m
+    add-c
     loop-less
     loop-again
     returns-6)

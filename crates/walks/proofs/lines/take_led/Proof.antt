@@ -25,7 +25,7 @@ enum-told : tie.Need-enum-told
 enum-told c = search needs
 
 returns : tie.Need-returns
-returns c d sets count l L T table inside scheme small N = c .before .before .take-label .ensures .0 (d .rows) N
+returns c d sets count l L T table inside u v small N = c .before .before .take-label .ensures .0 (d .rows) N
 
 table-width-requires : tie.Need-table-width-requires
 table-width-requires c κs = search needs
@@ -40,19 +40,19 @@ enum-told-2 : tie.Need-enum-told-2
 enum-told-2 c = search needs
 
 returns-2 : tie.Need-returns-2
-returns-2 c d sets count l L T table inside scheme small N = c .before .before .take-values .ensures .0 (d .rows) (c .before .before .before .before .before .before .before .before .take-label .ensures .0 (d .rows) N)
+returns-2 c d sets count l L T table inside u v small N = c .before .before .take-values .ensures .0 (d .rows) (c .before .before .before .before .before .before .before .before .take-label .ensures .0 (d .rows) N)
 
 closes-requires : tie.Need-closes-requires
 closes-requires c κs = search needs
 
 returns-3 : tie.Need-returns-3
-returns-3 c d sets count l L T table inside scheme small N = c .before .before .before .before .before .take-values .ensures .0 (d .rows) (c .before .before .before .before .before .before .before .before .before .before .before .take-label .ensures .0 (d .rows) N)
+returns-3 c d sets count l L T table inside u v small N = c .before .before .before .before .before .take-values .ensures .0 (d .rows) (c .before .before .before .before .before .before .before .before .before .before .before .take-label .ensures .0 (d .rows) N)
 
 add-row-requires : tie.Need-add-row-requires
 add-row-requires c κs = search needs
 
 returns-4 : tie.Need-returns-4
-returns-4 c d sets count l L T table inside scheme small N =
+returns-4 c d sets count l L T table inside u v small N =
     let a = c .before .before .before .before .before .before .before .before .before .before .before .before .before .before .before .before .before .args in
     let n : ℕ = c .before .before .before .before .before .before .before .before .before .table-width .result in
     let label : List ℕ = orZero (labelOf (d .policy) (wordOf (a .line .now) (a .is + 1))) ∷ [] in
@@ -61,7 +61,7 @@ returns-4 c d sets count l L T table inside scheme small N =
     let marked = m .stored .grown (a .text .now) 0 [] [] small (omega arith) (row-empty (a .text .now) (a .rows .now) (a .k)) in
     let t = subst (ValuesWalked (a .text .now) (c .before .before .before .before .before .before .before .before .before .before .before .before .before .take-label .last .1 .1 .1 .1 .0) (c .before .before .before .before .before .before .before .take-values .last .1 .1 .1 .1 .1 .1 .0) (a .line .now) (a .k) n 1 label (columnsAt (d .policy) (a .x)) (c .before .before .before .before .before .before .before .before .before .before .before .l .given .0 .0)) (c .before .before .before .before .before .r .given .1)
     (c .before .before .before .before .before .before .before .take-values .ensures .1 (d .policy) count 1 label l T inside wide small marked) in
-    led-taken d (a .line .now) (a .is) (c .before .before .before .before .before .r .given .0 .0) N small table (sym (c .before .before .before .closes .ensures) ∙ not-false _ (c .before .before .if1 .left)) wide (c .before .before .before .before .before .before .before .before .before .table-width .ensures .few) scheme m t (c .add-row .ensures (a .text .now))
+    led-taken d (a .line .now) (a .is) (c .before .before .before .before .before .r .given .0 .0) N small table (sym (c .before .before .before .closes .ensures) ∙ not-false _ (c .before .before .if1 .left)) wide (c .before .before .before .before .before .before .before .before .before .table-width .ensures .few) m u v t (c .add-row .ensures (a .text .now))
 
 pub take-led-spec : {M : Type 1} → statement M
 take-led-spec =

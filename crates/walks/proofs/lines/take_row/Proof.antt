@@ -1,19 +1,20 @@
--- `walks::lines::take_row` meets its contract, by the scheme of the row's table. Assumes nothing.
+-- `walks::lines::take_row` meets its contract, by the two marks of its table's scheme. Assumes nothing.
 use Prim.Native.Nat.{_<_, ℕ}
 use borrow.Author.Needs.{needs}
 use mathlib.Core.Bool.{Bool}
 use mathlib.Core.List.{List}
-use mathlib.Core.Path.{_∙_, _≡_, refl, subst, sym}
+use mathlib.Core.Path.{_∙_, _≡_, ap, refl, subst, sym}
 use Rattle.document.specs.Lookup.{tableOf}
 use Rattle.document.specs.NameFaults.{rowLabels}
 use Rattle.document.specs.Policy.{Doc}
 use Rattle.document.specs.ValueFaults.{rowValues}
+use Rattle.form.specs.Form.{hasBrackets, leadsLabel}
 use Rattle.relations.specs.Tables.{Tables, schemeBy}
 use Rattle.form.specs.declared.lines.Scheme as coded
 use Rattle.lists.proofs.Tests.{true-not-false}
 use Rattle.walks.proofs.RowLines.{line-taken, name-ends}
 use Rattle.walks.proofs.RowsTaken.{TableTold, table-told}
-use Rattle.walks.specs.Taken.{NoLabels, TakesItems, TakesRow, tableEnd}
+use Rattle.walks.specs.Taken.{TakesItems, TakesRow, tableEnd}
 use Rattle.text.specs.Walking.{wordEndAt}
 use Rattle.text.specs.Words.{wordOf}
 use Rattle.text.specs.declared.words.End.the-variants.{At}
@@ -65,55 +66,35 @@ returns-3 c = search needs
 table-scheme-requires : tie.Need-table-scheme-requires
 table-scheme-requires c κs = search needs
 
-enum-told-3 : tie.Need-enum-told-3
-enum-told-3 c = search needs
+has-brackets-requires : tie.Need-has-brackets-requires
+has-brackets-requires c κs = search needs
 
-take-plain-requires : tie.Need-take-plain-requires
-take-plain-requires c κs = search needs
+leads-label-requires : tie.Need-leads-label-requires
+leads-label-requires c κs = search needs
 
-enum-told-4 : tie.Need-enum-told-4
-enum-told-4 c = search needs
+take-nested-requires : tie.Need-take-nested-requires
+take-nested-requires c κs = search needs
 
-take-plain-requires-2 : tie.Need-take-plain-requires-2
-take-plain-requires-2 c κs = search needs
-
-enum-told-5 : tie.Need-enum-told-5
-enum-told-5 c = search needs
-
-take-plain-requires-3 : tie.Need-take-plain-requires-3
-take-plain-requires-3 c κs = search needs
-
-enum-told-6 : tie.Need-enum-told-6
-enum-told-6 c = search needs
+returns-4 : tie.Need-returns-4
+returns-4 c = (λ d sets l L T N. let g = found ((c .before .before .before .before .before .before)) d T refl in as-line ((c .before .before .before .before .before .before)) _ d (c .take-nested .result) (c .take-nested .ensures d sets _ l L T (g .table) (g .inside) (ap leadsLabel (g .scheme) ∙ sym (c .before .before .before .before .leads-label .ensures _ _) ∙ c .before .before .before .if2 .taken) (ap hasBrackets (g .scheme) ∙ sym (c .before .before .before .before .before .has-brackets .ensures _ _) ∙ c .before .before .if3 .taken) (room ((c .before .before .before .before .before .before))) N), λ e. room ((c .before .before .before .before .before .before)))
 
 take-led-requires : tie.Need-take-led-requires
 take-led-requires c κs = search needs
 
-enum-told-7 : tie.Need-enum-told-7
-enum-told-7 c = search needs
+returns-5 : tie.Need-returns-5
+returns-5 c = (λ d sets l L T N. let g = found ((c .before .before .before .before .before .before)) d T refl in as-line ((c .before .before .before .before .before .before)) _ d (c .take-led .result) (c .take-led .ensures d sets _ l L T (g .table) (g .inside) (ap leadsLabel (g .scheme) ∙ sym (c .before .before .before .before .leads-label .ensures _ _) ∙ c .before .before .before .if2 .taken) (ap hasBrackets (g .scheme) ∙ sym (c .before .before .before .before .before .has-brackets .ensures _ _) ∙ c .before .before .if3 .left) (room ((c .before .before .before .before .before .before))) N), λ e. room ((c .before .before .before .before .before .before)))
 
 take-labelled-requires : tie.Need-take-labelled-requires
 take-labelled-requires c κs = search needs
 
-returns-4 : tie.Need-returns-4
-unfolding schemeBy rowValues rowLabels
-returns-4 c = (λ d sets l L T N. let g = found (c .before .before .before .before) d T (c .before .before .enum-told3 .given .1) in as-line (c .before .before .before .before) _ d (c .take-plain .result) (c .take-plain .ensures d _ l T (g .table) (g .inside) (subst NoLabels (sym (g .scheme)) (record { values = λ is. refl; labels = λ is. refl })) (room (c .before .before .before .before)) N), λ e. room (c .before .before .before .before))
-
-returns-5 : tie.Need-returns-5
-unfolding schemeBy rowValues rowLabels
-returns-5 c = (λ d sets l L T N. let g = found (c .before .before .before .before) d T (c .before .before .enum-told4 .given .1) in as-line (c .before .before .before .before) _ d (c .take-plain2 .result) (c .take-plain2 .ensures d _ l T (g .table) (g .inside) (subst NoLabels (sym (g .scheme)) (record { values = λ is. refl; labels = λ is. refl })) (room (c .before .before .before .before)) N), λ e. room (c .before .before .before .before))
-
 returns-6 : tie.Need-returns-6
-unfolding schemeBy rowValues rowLabels
-returns-6 c = (λ d sets l L T N. let g = found (c .before .before .before .before) d T (c .before .before .enum-told5 .given .1) in as-line (c .before .before .before .before) _ d (c .take-plain3 .result) (c .take-plain3 .ensures d _ l T (g .table) (g .inside) (subst NoLabels (sym (g .scheme)) (record { values = λ is. refl; labels = λ is. refl })) (room (c .before .before .before .before)) N), λ e. room (c .before .before .before .before))
+returns-6 c = (λ d sets l L T N. let g = found ((c .before .before .before .before .before .before)) d T refl in as-line ((c .before .before .before .before .before .before)) _ d (c .take-labelled .result) (c .take-labelled .ensures d sets _ l L T (g .table) (g .inside) (ap leadsLabel (g .scheme) ∙ sym (c .before .before .before .before .leads-label .ensures _ _) ∙ c .before .before .before .if2 .left) (ap hasBrackets (g .scheme) ∙ sym (c .before .before .before .before .before .has-brackets .ensures _ _) ∙ c .before .before .if4 .taken) (room ((c .before .before .before .before .before .before))) N), λ e. room ((c .before .before .before .before .before .before)))
+
+take-plain-requires : tie.Need-take-plain-requires
+take-plain-requires c κs = search needs
 
 returns-7 : tie.Need-returns-7
-unfolding schemeBy
-returns-7 c = (λ d sets l L T N. let g = found (c .before .before .before .before) d T (c .before .before .enum-told6 .given .1) in as-line (c .before .before .before .before) _ d (c .take-led .result) (c .take-led .ensures d sets _ l L T (g .table) (g .inside) (g .scheme) (room (c .before .before .before .before)) N), λ e. room (c .before .before .before .before))
-
-returns-8 : tie.Need-returns-8
-unfolding schemeBy
-returns-8 c = (λ d sets l L T N. let g = found (c .before .before .before .before) d T (c .before .before .enum-told7 .given .1) in as-line (c .before .before .before .before) _ d (c .take-labelled .result) (c .take-labelled .ensures d sets _ l L T (g .table) (g .inside) (g .scheme) (room (c .before .before .before .before)) N), λ e. room (c .before .before .before .before))
+returns-7 c = (λ d sets l L T N. let g = found ((c .before .before .before .before .before .before)) d T refl in as-line ((c .before .before .before .before .before .before)) _ d (c .take-plain .result) (c .take-plain .ensures d _ l T (g .table) (g .inside) (ap leadsLabel (g .scheme) ∙ sym (c .before .before .before .before .leads-label .ensures _ _) ∙ c .before .before .before .if2 .left) (ap hasBrackets (g .scheme) ∙ sym (c .before .before .before .before .before .has-brackets .ensures _ _) ∙ c .before .before .if4 .left) (room ((c .before .before .before .before .before .before))) N), λ e. room ((c .before .before .before .before .before .before)))
 
 pub take-row-spec : {M : Type 1} → statement M
 take-row-spec =
@@ -129,18 +110,13 @@ take-row-spec =
     enum-told-2
     returns-3
     table-scheme-requires
-    enum-told-3
-    take-plain-requires
-    enum-told-4
-    take-plain-requires-2
-    enum-told-5
-    take-plain-requires-3
-    enum-told-6
-    take-led-requires
-    enum-told-7
-    take-labelled-requires
+    has-brackets-requires
+    leads-label-requires
+    take-nested-requires
     returns-4
+    take-led-requires
     returns-5
+    take-labelled-requires
     returns-6
-    returns-7
-    returns-8)
+    take-plain-requires
+    returns-7)
