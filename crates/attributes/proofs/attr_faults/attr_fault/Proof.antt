@@ -20,7 +20,9 @@ enum-told c = search needs
 returns-2 : tie.Need-returns-2
 returns-2 c =
     let a = c .before .before .before .before .before .before .args in
-    attr-taken (a .text .now) (a .roles .now) (a .roles-count) (a .attributes .now) (a .k) (a .users-count) (a .line .now) (a .r) (a .a) (kindOf (a .kind)) (omega arith) (c .before .before .find-attribute .result) (c .before .before .find-attribute .ensures .0) (c .enum-told .given .0 .0) (c .enum-told .given .1)
+    attr-taken (a .text .now) (a .roles .now) (a .roles-count) (a .attributes .now) (a .k) (a .users-count) (a .line .now) (a .r) (a .a)
+    (kindOf (a .kind)) (omega arith) (c .before .before .find-attribute .result) (c .before .before .find-attribute .ensures .0)
+    (c .enum-told .given .0 .0) (c .enum-told .given .1)
 
 enum-told-2 : tie.Need-enum-told-2
 enum-told-2 c = search needs
@@ -34,7 +36,10 @@ enum-told-3 c = search needs
 returns-3 : tie.Need-returns-3
 returns-3 c =
     let a = c .before .before .before .before .before .before .before .before .before .args in
-    attr-unknown (a .text .now) (a .roles .now) (a .roles-count) (a .attributes .now) (a .k) (a .users-count) (a .line .now) (a .r) (a .a) (kindOf (a .kind)) (omega arith) (c .before .before .before .before .before .find-attribute .result) (c .before .before .before .before .before .find-attribute .ensures .0) (c .before .before .before .enum-told2 .given .1) (c .before .before .find-role .result) (c .before .before .find-role .ensures .0) (c .enum-told3 .given .1)
+    attr-unknown (a .text .now) (a .roles .now) (a .roles-count) (a .attributes .now) (a .k) (a .users-count) (a .line .now) (a .r) (a .a)
+    (kindOf (a .kind)) (omega arith) (c .before .before .before .before .before .find-attribute .result)
+    (c .before .before .before .before .before .find-attribute .ensures .0) (c .before .before .before .enum-told2 .given .1)
+    (c .before .before .find-role .result) (c .before .before .find-role .ensures .0) (c .enum-told3 .given .1)
 
 enum-told-4 : tie.Need-enum-told-4
 enum-told-4 c = search needs
@@ -42,12 +47,20 @@ enum-told-4 c = search needs
 returns-4 : tie.Need-returns-4
 returns-4 c =
     let a = c .before .before .before .before .before .before .before .before .before .before .args in
-    attr-late (a .text .now) (a .roles .now) (a .roles-count) (a .attributes .now) (a .k) (a .users-count) (a .line .now) (a .r) (a .a) (kindOf (a .kind)) (omega arith) (c .before .before .before .before .before .before .find-attribute .result) (c .before .before .before .before .before .before .find-attribute .ensures .0) (c .before .before .before .before .enum-told2 .given .1) (c .before .before .before .find-role .result) (c .before .before .before .find-role .ensures .0) (c .before .enum-told4 .given .0 .0) (c .before .enum-told4 .given .1) (omega arith)
+    attr-late (a .text .now) (a .roles .now) (a .roles-count) (a .attributes .now) (a .k) (a .users-count) (a .line .now) (a .r) (a .a)
+    (kindOf (a .kind)) (omega arith) (c .before .before .before .before .before .before .find-attribute .result)
+    (c .before .before .before .before .before .before .find-attribute .ensures .0) (c .before .before .before .before .enum-told2 .given .1)
+    (c .before .before .before .find-role .result) (c .before .before .before .find-role .ensures .0) (c .before .enum-told4 .given .0 .0)
+    (c .before .enum-told4 .given .1) (omega arith)
 
 returns-5 : tie.Need-returns-5
 returns-5 c =
     let a = c .before .before .before .before .before .before .before .before .before .before .args in
-    attr-fine (a .text .now) (a .roles .now) (a .roles-count) (a .attributes .now) (a .k) (a .users-count) (a .line .now) (a .r) (a .a) (kindOf (a .kind)) (omega arith) (c .before .before .before .before .before .before .find-attribute .result) (c .before .before .before .before .before .before .find-attribute .ensures .0) (c .before .before .before .before .enum-told2 .given .1) (c .before .before .before .find-role .result) (c .before .before .before .find-role .ensures .0) (c .before .enum-told4 .given .0 .0) (c .before .enum-told4 .given .1) (omega arith)
+    attr-fine (a .text .now) (a .roles .now) (a .roles-count) (a .attributes .now) (a .k) (a .users-count) (a .line .now) (a .r) (a .a)
+    (kindOf (a .kind)) (omega arith) (c .before .before .before .before .before .before .find-attribute .result)
+    (c .before .before .before .before .before .before .find-attribute .ensures .0) (c .before .before .before .before .enum-told2 .given .1)
+    (c .before .before .before .find-role .result) (c .before .before .before .find-role .ensures .0) (c .before .enum-told4 .given .0 .0)
+    (c .before .enum-told4 .given .1) (omega arith)
 
 pub attr-fault-spec : {M : Type 1} → statement M
 attr-fault-spec =

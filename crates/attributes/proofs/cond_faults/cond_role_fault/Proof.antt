@@ -37,29 +37,31 @@ enum-told : tie.Need-enum-told
 enum-told c = search needs
 
 returns : tie.Need-returns
-returns c = record {
-  judges = λ x l k. not-both (x, l) k (condition-none (c .before .before .before .before .before .before .args .line .now) (c .before .before .before .before .before .before .args .t) (sym (c .before .before .read-places .ensures .reads) ∙ c .enum-told .given .1));
+returns c = let entry = c .before .before .before .before .before .before .args in record {
+  judges = λ x l k. not-both (x, l) k (condition-none (entry .line .now) (entry .t) (sym (c .before .before .read-places .ensures .reads) ∙ c .enum-told .given .1));
   refuses = λ z. refl;
 }
 
 returns-2 : tie.Need-returns-2
-returns-2 c = record {
+returns-2 c = let entry = c .before .before .before .before .before .before .before .before .args in record {
   judges = λ x l k. record {
-    is = λ d h. judge-bound d (c .before .before .before .before .before .before .before .before .args .line .now) (cond-form (c .before .before .before .before .before .before .before .before .args .line .now) (c .before .before .before .before .before .before .before .before .args .c) (c .before .before .before .before .before .before .before .before .args .r) x) (cond-many d (c .before .before .before .before .before .before .before .before .args .line .now) (c .before .before .before .before .before .before .before .before .args .c) (c .before .before .before .before .before .before .before .before .args .r) x (omega (arith, c .if1 .taken, conds-length (h .2))));
+    is = λ d h. judge-bound d (entry .line .now) (cond-form (entry .line .now) (entry .c) (entry .r) x) (cond-many d (entry .line .now) (entry .c) (entry .r) x (omega (arith, c .if1 .taken, conds-length (h .2))));
     roomy = tt;
     reaches = λ p. tt;
   };
-  refuses = read-there (c .before .before .before .before .before .before .before .before .args .line .now) (c .before .before .before .before .before .before .before .before .args .t) _ _ (c .before .before .before .before .read-places .result) (c .before .before .before .before .read-places .ensures .reads) (c .before .before .read .given .1);
+  refuses = read-there (entry .line .now) (entry .t) _ _ (c .before .before .before .before .read-places .result) (c .before .before .before .before .read-places .ensures .reads) (c .before .before .read .given .1);
 }
 
 returns-3 : tie.Need-returns-3
-returns-3 c = record {
+returns-3 c = let entry = c .before .before .before .before .before .before .before .before .before .args in record {
   judges = λ x l k. record {
-    is = λ d h. judge-bound d (c .before .before .before .before .before .before .before .before .before .args .line .now) (cond-form (c .before .before .before .before .before .before .before .before .before .args .line .now) (c .before .before .before .before .before .before .before .before .before .args .c) (c .before .before .before .before .before .before .before .before .before .args .r) x) (cond-wide d (c .before .before .before .before .before .before .before .before .before .args .line .now) (c .before .before .before .before .before .before .before .before .before .args .c) (c .before .before .before .before .before .before .before .before .before .args .r) x (stored-over (c .before .before .before .before .before .before .before .before .before .args .line .now) (c .before .before .before .before .before .before .before .before .before .args .t) (c .before .before .before .before .before .read-places .result) _ (c .before .before .before .before .before .read-places .ensures) _ _ (c .before .before .before .read .given .1) (c .if2 .taken) x l k));
+    is = λ d h. judge-bound d (entry .line .now) (cond-form (entry .line .now) (entry .c) (entry .r) x) (cond-wide d (entry .line .now) (entry .c)
+        (entry .r) x
+        (stored-over (entry .line .now) (entry .t) (c .before .before .before .before .before .read-places .result) _ (c .before .before .before .before .before .read-places .ensures) _ _ (c .before .before .before .read .given .1) (c .if2 .taken) x l k));
     roomy = tt;
     reaches = λ p. tt;
   };
-  refuses = read-there (c .before .before .before .before .before .before .before .before .before .args .line .now) (c .before .before .before .before .before .before .before .before .before .args .t) _ _ (c .before .before .before .before .before .read-places .result) (c .before .before .before .before .before .read-places .ensures .reads) (c .before .before .before .read .given .1);
+  refuses = read-there (entry .line .now) (entry .t) _ _ (c .before .before .before .before .before .read-places .result) (c .before .before .before .before .before .read-places .ensures .reads) (c .before .before .before .read .given .1);
 }
 
 find-cond-role-requires : tie.Need-find-cond-role-requires
@@ -69,19 +71,28 @@ enum-told-2 : tie.Need-enum-told-2
 enum-told-2 c = search needs
 
 -- no bound is exceeded
-room : (c : tie.Else2) (d : Doc) (x : Cond Compared) (l : Left) → conditionInForm (from (c .before .before .before .before .before .before .before .before .before .args .line .now) (c .before .before .before .before .before .before .before .before .before .args .t)) ≡ some (x, l) → CondRoles (d .policy) (c .before .before .before .before .before .before .before .before .before .args .text .now) (c .before .before .before .before .before .before .before .before .before .args .conds .now) (c .before .before .before .before .before .before .before .before .before .args .k) (d .policy .condRoles) → overBound d (cond-form (c .before .before .before .before .before .before .before .before .before .args .line .now) (c .before .before .before .before .before .before .before .before .before .args .c) (c .before .before .before .before .before .before .before .before .before .args .r) x) ≡ false
-room c d x l k h = cond-room d (c .before .before .before .before .before .before .before .before .before .args .line .now) (c .before .before .before .before .before .before .before .before .before .args .c) (c .before .before .before .before .before .before .before .before .before .args .r) x (omega (arith, c .before .if1 .left, conds-length h)) (stored-count (c .before .before .before .before .before .before .before .before .before .args .line .now) (c .before .before .before .before .before .before .before .before .before .args .t) (c .before .before .before .before .before .read-places .result) _ (c .before .before .before .before .before .read-places .ensures) _ _ (c .before .before .before .read .given .1) (c .if2 .left) x l k)
+room : (c : tie.Else2) (d : Doc) (x : Cond Compared) (l : Left) → conditionInForm
+    (from (c .before .before .before .before .before .before .before .before .before .args .line .now) (c .before .before .before .before .before .before .before .before .before .args .t)) ≡ some
+    (x, l) → CondRoles (d .policy) (c .before .before .before .before .before .before .before .before .before .args .text .now)
+    (c .before .before .before .before .before .before .before .before .before .args .conds .now)
+    (c .before .before .before .before .before .before .before .before .before .args .k) (d .policy .condRoles) → overBound d
+    (cond-form (c .before .before .before .before .before .before .before .before .before .args .line .now) (c .before .before .before .before .before .before .before .before .before .args .c) (c .before .before .before .before .before .before .before .before .before .args .r) x) ≡ false
+room c d x l k h = let entry = c .before .before .before .before .before .before .before .before .before .args in cond-room d (entry .line .now)
+    (entry .c) (entry .r) x (omega (arith, c .before .if1 .left, conds-length h))
+    (stored-count (entry .line .now) (entry .t) (c .before .before .before .before .before .read-places .result) _ (c .before .before .before .before .before .read-places .ensures) _ _ (c .before .before .before .read .given .1) (c .if2 .left) x l k)
 
 -- where a condition was read, the line is not refused for its form
 given : (c : tie.Else2) {A : Type 0} → conditionInForm (from (c .before .before .before .before .before .before .before .before .before .args .line .now) (c .before .before .before .before .before .before .before .before .before .args .t)) ≡ none → A
-given c {A} z = read-there (c .before .before .before .before .before .before .before .before .before .args .line .now) (c .before .before .before .before .before .before .before .before .before .args .t) _ _ (c .before .before .before .before .before .read-places .result) (c .before .before .before .before .before .read-places .ensures .reads) (c .before .before .before .read .given .1) z
+given c {A} z = let entry = c .before .before .before .before .before .before .before .before .before .args in read-there (entry .line .now)
+    (entry .t) _ _ (c .before .before .before .before .before .read-places .result)
+    (c .before .before .before .before .before .read-places .ensures .reads) (c .before .before .before .read .given .1) z
 
 returns-4 : tie.Need-returns-4
 unfolding condRoleOf
-returns-4 c = record {
+returns-4 c = let entry = c .before .before .before .before .before .before .before .before .before .before .before .before .args in record {
   judges = λ x l k. record {
-    is = λ d h. judge-taken d (c .before .before .before .before .before .before .before .before .before .before .before .before .args .line .now) (cond-form (c .before .before .before .before .before .before .before .before .before .before .before .before .args .line .now) (c .before .before .before .before .before .before .before .before .before .before .before .before .args .c) (c .before .before .before .before .before .before .before .before .before .before .before .before .args .r) x) (room (c .before .before .before) d x l k (h .2)) (wordOf (c .before .before .before .before .before .before .before .before .before .before .before .before .args .line .now) (c .before .before .before .before .before .before .before .before .before .before .before .before .args .c))
-        (cond-taken d (c .before .before .before .before .before .before .before .before .before .before .before .before .args .line .now) (c .before .before .before .before .before .before .before .before .before .before .before .before .args .c) (c .before .before .before .before .before .before .before .before .before .before .before .before .args .r) x (foundAs (c .before .before .find-cond-role .result)) _ (c .before .before .find-cond-role .ensures .0 (d .policy) (d .policy .condRoles) (h .2)) (ap foundAs (c .enum-told2 .given .1)));
+    is = λ d h. judge-taken d (entry .line .now) (cond-form (entry .line .now) (entry .c) (entry .r) x) (room (c .before .before .before) d x l k (h .2)) (wordOf (entry .line .now) (entry .c))
+        (cond-taken d (entry .line .now) (entry .c) (entry .r) x (foundAs (c .before .before .find-cond-role .result)) _ (c .before .before .find-cond-role .ensures .0 (d .policy) (d .policy .condRoles) (h .2)) (ap foundAs (c .enum-told2 .given .1)));
     roomy = tt;
     reaches = λ p. p .0;
   };
@@ -101,16 +112,24 @@ enum-told-4 : tie.Need-enum-told-4
 enum-told-4 c = search needs
 
 -- the name is new
-fresh : (c : tie.After-enum-told3) (d : Doc) (x : Cond Compared) → CondRoles (d .policy) (c .before .before .before .before .before .before .before .before .before .before .before .before .args .text .now) (c .before .before .before .before .before .before .before .before .before .before .before .before .args .conds .now) (c .before .before .before .before .before .before .before .before .before .before .before .before .args .k) (d .policy .condRoles) → taken (d .policy) (cond-form (c .before .before .before .before .before .before .before .before .before .before .before .before .args .line .now) (c .before .before .before .before .before .before .before .before .before .before .before .before .args .c) (c .before .before .before .before .before .before .before .before .before .before .before .before .args .r) x) ≡ none
+fresh : (c : tie.After-enum-told3) (d : Doc) (x : Cond Compared) → CondRoles (d .policy)
+    (c .before .before .before .before .before .before .before .before .before .before .before .before .args .text .now)
+    (c .before .before .before .before .before .before .before .before .before .before .before .before .args .conds .now)
+    (c .before .before .before .before .before .before .before .before .before .before .before .before .args .k) (d .policy .condRoles) → taken
+    (d .policy) (cond-form (c .before .before .before .before .before .before .before .before .before .before .before .before .args .line .now)
+    (c .before .before .before .before .before .before .before .before .before .before .before .before .args .c)
+    (c .before .before .before .before .before .before .before .before .before .before .before .before .args .r) x) ≡ none
 unfolding condRoleOf
-fresh c d x h = cond-new d (c .before .before .before .before .before .before .before .before .before .before .before .before .args .line .now) (c .before .before .before .before .before .before .before .before .before .before .before .before .args .c) (c .before .before .before .before .before .before .before .before .before .before .before .before .args .r) x (sym (ap foundAs (c .enum-told3 .given .1)) ∙ c .before .before .find-cond-role .ensures .0 (d .policy) (d .policy .condRoles) h)
+fresh c d x h = let entry = c .before .before .before .before .before .before .before .before .before .before .before .before .args in cond-new d
+    (entry .line .now) (entry .c) (entry .r) x
+    (sym (ap foundAs (c .enum-told3 .given .1)) ∙ c .before .before .find-cond-role .ensures .0 (d .policy) (d .policy .condRoles) h)
 
 returns-5 : tie.Need-returns-5
 unfolding roleOf
-returns-5 c = record {
+returns-5 c = let entry = c .before .before .before .before .before .before .before .before .before .before .before .before .before .before .before .args in record {
   judges = λ x l k. record {
-    is = λ d h. judge-unknown d (c .before .before .before .before .before .before .before .before .before .before .before .before .before .before .before .args .line .now) (cond-form (c .before .before .before .before .before .before .before .before .before .before .before .before .before .before .before .args .line .now) (c .before .before .before .before .before .before .before .before .before .before .before .before .before .before .before .args .c) (c .before .before .before .before .before .before .before .before .before .before .before .before .before .before .before .args .r) x) (room (c .before .before .before .before .before .before) d x l k (h .2)) (fresh (c .before .before .before) d x (h .2)) (wordOf (c .before .before .before .before .before .before .before .before .before .before .before .before .before .before .before .args .line .now) (c .before .before .before .before .before .before .before .before .before .before .before .before .before .before .before .args .r))
-        (role-unknown d (c .before .before .before .before .before .before .before .before .before .before .before .before .before .before .before .args .line .now) (c .before .before .before .before .before .before .before .before .before .before .before .before .before .before .before .args .c) (c .before .before .before .before .before .before .before .before .before .before .before .before .before .before .before .args .r) x (sym (ap foundAs (c .enum-told4 .given .1)) ∙ c .before .before .find-role .ensures .0 (d .policy .roles) (h .0)));
+    is = λ d h. judge-unknown d (entry .line .now) (cond-form (entry .line .now) (entry .c) (entry .r) x) (room (c .before .before .before .before .before .before) d x l k (h .2)) (fresh (c .before .before .before) d x (h .2)) (wordOf (entry .line .now) (entry .r))
+        (role-unknown d (entry .line .now) (entry .c) (entry .r) x (sym (ap foundAs (c .enum-told4 .given .1)) ∙ c .before .before .find-role .ensures .0 (d .policy .roles) (h .0)));
     roomy = tt;
     reaches = λ p. p .1;
   };
@@ -118,26 +137,66 @@ returns-5 c = record {
 }
 
 first-unusable-requires : tie.Need-first-unusable-requires
-first-unusable-requires c κs = (c .before .before .before .before .before .before .before .before .if2 .left, stored-many (c .before .before .before .before .before .before .before .before .before .before .before .before .before .before .before .before .before .args .line .now) (c .before .before .before .before .before .before .before .before .before .before .before .before .before .before .before .before .before .args .t) (c .before .before .before .before .before .before .before .before .before .before .before .before .before .read-places .result) _ (c .before .before .before .before .before .before .before .before .before .before .before .before .before .read-places .ensures) _ _ (c .before .before .before .before .before .before .before .before .before .before .before .read .given .1) (c .before .before .before .before .before .before .before .before .if2 .left))
+first-unusable-requires c κs = let entry = c .before .before .before .before .before .before .before .before .before .before .before .before .before .before .before .before .before .args in (
+  c .before .before .before .before .before .before .before .before .if2 .left,
+  stored-many (entry .line .now) (entry .t)
+      (c .before .before .before .before .before .before .before .before .before .before .before .before .before .read-places .result) _
+      (c .before .before .before .before .before .before .before .before .before .before .before .before .before .read-places .ensures) _ _
+      (c .before .before .before .before .before .before .before .before .before .before .before .read .given .1)
+      (c .before .before .before .before .before .before .before .before .if2 .left),
+)
 
 enum-known-unusable : tie.Need-enum-known-unusable
 enum-known-unusable c = search needs
 
 -- what is unknown is the attribute that was found
-unknowns : (c : tie.After-first-unusable) (d : Doc) (x : Cond Compared) (l : Left) → conditionInForm (from (c .before .before .before .before .before .before .before .before .before .before .before .before .before .before .before .before .before .before .args .line .now) (c .before .before .before .before .before .before .before .before .before .before .before .before .before .before .before .before .before .before .args .t)) ≡ some (x, l) → Nodes 64 (c .before .before .before .before .before .before .before .before .before .before .before .before .before .before .before .before .before .before .args .text .now) (c .before .before .before .before .before .before .before .before .before .before .before .before .before .before .before .before .before .before .args .roles .now) (c .before .before .before .before .before .before .before .before .before .before .before .before .before .before .before .before .before .before .args .m) (d .policy .roles) → Attributes (c .before .before .before .before .before .before .before .before .before .before .before .before .before .before .before .before .before .before .args .text .now) (c .before .before .before .before .before .before .before .before .before .before .before .before .before .before .before .before .before .before .args .attributes .now) (c .before .before .before .before .before .before .before .before .before .before .before .before .before .before .before .before .before .before .args .n) (d .policy .attributes)
-    → unknown (d .policy) (cond-form (c .before .before .before .before .before .before .before .before .before .before .before .before .before .before .before .before .before .before .args .line .now) (c .before .before .before .before .before .before .before .before .before .before .before .before .before .before .before .before .before .before .args .c) (c .before .before .before .before .before .before .before .before .before .before .before .before .before .before .before .before .before .before .args .r) x) ≡ offendingOf (c .before .before .before .before .before .before .before .before .before .before .before .before .before .before .before .before .before .before .args .line .now) (c .first-unusable .result)
+unknowns : (c : tie.After-first-unusable) (d : Doc) (x : Cond Compared) (l : Left) → conditionInForm (from
+    (c .before .before .before .before .before .before .before .before .before .before .before .before .before .before .before .before .before .before .args .line .now)
+    (c .before .before .before .before .before .before .before .before .before .before .before .before .before .before .before .before .before .before .args .t)) ≡ some
+    (x, l) → Nodes 64
+    (c .before .before .before .before .before .before .before .before .before .before .before .before .before .before .before .before .before .before .args .text .now)
+    (c .before .before .before .before .before .before .before .before .before .before .before .before .before .before .before .before .before .before .args .roles .now)
+    (c .before .before .before .before .before .before .before .before .before .before .before .before .before .before .before .before .before .before .args .m)
+    (d .policy .roles) → Attributes
+    (c .before .before .before .before .before .before .before .before .before .before .before .before .before .before .before .before .before .before .args .text .now)
+    (c .before .before .before .before .before .before .before .before .before .before .before .before .before .before .before .before .before .before .args .attributes .now)
+    (c .before .before .before .before .before .before .before .before .before .before .before .before .before .before .before .before .before .before .args .n)
+    (d .policy .attributes)
+    → unknown (d .policy) (cond-form
+    (c .before .before .before .before .before .before .before .before .before .before .before .before .before .before .before .before .before .before .args .line .now)
+    (c .before .before .before .before .before .before .before .before .before .before .before .before .before .before .before .before .before .before .args .c)
+    (c .before .before .before .before .before .before .before .before .before .before .before .before .before .before .before .before .before .before .args .r) x) ≡ offendingOf
+    (c .before .before .before .before .before .before .before .before .before .before .before .before .before .before .before .before .before .before .args .line .now)
+    (c .first-unusable .result)
 unfolding roleOf
 unknowns c d x l k g h =
-    unknown-stored d (c .before .before .before .before .before .before .before .before .before .before .before .before .before .before .before .before .before .before .args .line .now) (c .before .before .before .before .before .before .before .before .before .before .before .before .before .before .before .before .before .before .args .c) (c .before .before .before .before .before .before .before .before .before .before .before .before .before .before .before .before .before .before .args .r) x l (c .before .before .before .before .before .before .before .before .before .before .before .before .before .before .before .before .before .before .args .t) k (c .before .before .before .before .before .before .before .before .before .before .before .before .before .before .read-places .result) _ (c .before .before .before .before .before .before .before .before .before .before .before .before .before .before .read-places .ensures) _ _ (c .before .before .before .before .before .before .before .before .before .before .before .before .read .given .1) (c .before .before .before .before .before .before .before .before .before .if2 .left) (c .before .before .before .found .given .0 .0) (sym (ap foundAs (c .before .before .before .found .given .1)) ∙ c .before .before .before .before .before .find-role .ensures .0 (d .policy .roles) g)
+    unknown-stored d
+    (c .before .before .before .before .before .before .before .before .before .before .before .before .before .before .before .before .before .before .args .line .now)
+    (c .before .before .before .before .before .before .before .before .before .before .before .before .before .before .before .before .before .before .args .c)
+    (c .before .before .before .before .before .before .before .before .before .before .before .before .before .before .before .before .before .before .args .r) x l
+    (c .before .before .before .before .before .before .before .before .before .before .before .before .before .before .before .before .before .before .args .t) k
+    (c .before .before .before .before .before .before .before .before .before .before .before .before .before .before .read-places .result) _
+    (c .before .before .before .before .before .before .before .before .before .before .before .before .before .before .read-places .ensures) _ _
+    (c .before .before .before .before .before .before .before .before .before .before .before .before .read .given .1)
+    (c .before .before .before .before .before .before .before .before .before .if2 .left) (c .before .before .before .found .given .0 .0)
+    (sym (ap foundAs (c .before .before .before .found .given .1)) ∙ c .before .before .before .before .before .find-role .ensures .0 (d .policy .roles) g)
     ∙ sym (c .first-unusable .ensures .0 (d .policy) g h)
 
 returns-6 : tie.Need-returns-6
-returns-6 c = record {
+returns-6 c = let entry = c .before .before .before .before .before .before .before .before .before .before .before .before .before .before .before .before .before .before .before .before .before .args in record {
   judges = λ x l k. record {
-    is = λ d h. judge-unknown d (c .before .before .before .before .before .before .before .before .before .before .before .before .before .before .before .before .before .before .before .before .before .args .line .now) (cond-form (c .before .before .before .before .before .before .before .before .before .before .before .before .before .before .before .before .before .before .before .before .before .args .line .now) (c .before .before .before .before .before .before .before .before .before .before .before .before .before .before .before .before .before .before .before .before .before .args .c) (c .before .before .before .before .before .before .before .before .before .before .before .before .before .before .before .before .before .before .before .before .before .args .r) x) (room (c .before .before .before .before .before .before .before .before .before .before .before .before) d x l k (h .2)) (fresh (c .before .before .before .before .before .before .before .before .before) d x (h .2)) (wordOf (c .before .before .before .before .before .before .before .before .before .before .before .before .before .before .before .before .before .before .before .before .before .args .line .now) (c .before .unusable .given .0 .0))
-        (unknowns (c .before .before .before) d x l k (h .0) (h .1) ∙ ap (offendingOf (c .before .before .before .before .before .before .before .before .before .before .before .before .before .before .before .before .before .before .before .before .before .args .line .now)) (c .before .unusable .given .1));
+    is = λ d h. judge-unknown d (entry .line .now) (cond-form (entry .line .now) (entry .c) (entry .r) x)
+        (room (c .before .before .before .before .before .before .before .before .before .before .before .before) d x l k (h .2))
+        (fresh (c .before .before .before .before .before .before .before .before .before) d x (h .2))
+        (wordOf (entry .line .now) (c .before .unusable .given .0 .0))
+        (unknowns (c .before .before .before) d x l k (h .0) (h .1) ∙ ap (offendingOf (entry .line .now)) (c .before .unusable .given .1));
     roomy = tt;
-    reaches = λ p. subst (λ (f : Offending). Near (c .before .before .before .before .before .before .before .before .before .before .before .before .before .before .before .before .before .before .before .before .before .args .line .now) f) (c .before .unusable .given .1) (c .before .before .before .first-unusable .ensures .1 (stored-near (c .before .before .before .before .before .before .before .before .before .before .before .before .before .before .before .before .before .before .before .before .before .args .line .now) (c .before .before .before .before .before .before .before .before .before .before .before .before .before .before .before .before .before .before .before .before .before .args .t) (c .before .before .before .before .before .before .before .before .before .before .before .before .before .before .before .before .before .read-places .result) _ (c .before .before .before .before .before .before .before .before .before .before .before .before .before .before .before .before .before .read-places .ensures) _ _ (c .before .before .before .before .before .before .before .before .before .before .before .before .before .before .before .read .given .1) (c .before .before .before .before .before .before .before .before .before .before .before .before .if2 .left)));
+    reaches = λ p. subst (λ (f : Offending). Near (entry .line .now) f) (c .before .unusable .given .1)
+        (c .before .before .before .first-unusable .ensures .1 (stored-near (entry .line .now) (entry .t)
+        (c .before .before .before .before .before .before .before .before .before .before .before .before .before .before .before .before .before .read-places .result) _
+        (c .before .before .before .before .before .before .before .before .before .before .before .before .before .before .before .before .before .read-places .ensures) _ _
+        (c .before .before .before .before .before .before .before .before .before .before .before .before .before .before .before .read .given .1)
+        (c .before .before .before .before .before .before .before .before .before .before .before .before .if2 .left)));
   };
   refuses = λ z. given (c .before .before .before .before .before .before .before .before .before .before .before .before) z;
 }
@@ -146,26 +205,63 @@ enum-told-5 : tie.Need-enum-told-5
 enum-told-5 c = search needs
 
 first-mistyped-requires : tie.Need-first-mistyped-requires
-first-mistyped-requires c κs = (c .before .before .before .before .before .before .before .before .before .before .before .before .if2 .left, stored-many (c .before .before .before .before .before .before .before .before .before .before .before .before .before .before .before .before .before .before .before .before .before .args .line .now) (c .before .before .before .before .before .before .before .before .before .before .before .before .before .before .before .before .before .before .before .before .before .args .t) (c .before .before .before .before .before .before .before .before .before .before .before .before .before .before .before .before .before .read-places .result) _ (c .before .before .before .before .before .before .before .before .before .before .before .before .before .before .before .before .before .read-places .ensures) _ _ (c .before .before .before .before .before .before .before .before .before .before .before .before .before .before .before .read .given .1) (c .before .before .before .before .before .before .before .before .before .before .before .before .if2 .left))
+first-mistyped-requires c κs = let entry = c .before .before .before .before .before .before .before .before .before .before .before .before .before .before .before .before .before .before .before .before .before .args in (
+  c .before .before .before .before .before .before .before .before .before .before .before .before .if2 .left,
+  stored-many (entry .line .now)
+      (entry .t)
+      (c .before .before .before .before .before .before .before .before .before .before .before .before .before .before .before .before .before .read-places .result) _
+      (c .before .before .before .before .before .before .before .before .before .before .before .before .before .before .before .before .before .read-places .ensures) _ _
+      (c .before .before .before .before .before .before .before .before .before .before .before .before .before .before .before .read .given .1)
+      (c .before .before .before .before .before .before .before .before .before .before .before .before .if2 .left),
+)
 
 enum-known-mistyped : tie.Need-enum-known-mistyped
 enum-known-mistyped c = search needs
 
 -- what is of the wrong type is what was found
-types : (c : tie.After-first-mistyped) (d : Doc) (x : Cond Compared) (l : Left) → conditionInForm (from (c .before .before .before .before .before .before .before .before .before .before .before .before .before .before .before .before .before .before .before .before .before .before .args .line .now) (c .before .before .before .before .before .before .before .before .before .before .before .before .before .before .before .before .before .before .before .before .before .before .args .t)) ≡ some (x, l) → Attributes (c .before .before .before .before .before .before .before .before .before .before .before .before .before .before .before .before .before .before .before .before .before .before .args .text .now) (c .before .before .before .before .before .before .before .before .before .before .before .before .before .before .before .before .before .before .before .before .before .before .args .attributes .now) (c .before .before .before .before .before .before .before .before .before .before .before .before .before .before .before .before .before .before .before .before .before .before .args .n) (d .policy .attributes)
-    → wrongType (d .policy) (cond-form (c .before .before .before .before .before .before .before .before .before .before .before .before .before .before .before .before .before .before .before .before .before .before .args .line .now) (c .before .before .before .before .before .before .before .before .before .before .before .before .before .before .before .before .before .before .before .before .before .before .args .c) (c .before .before .before .before .before .before .before .before .before .before .before .before .before .before .before .before .before .before .before .before .before .before .args .r) x) ≡ offendingValue (c .before .before .before .before .before .before .before .before .before .before .before .before .before .before .before .before .before .before .before .before .before .before .args .line .now) (c .first-mistyped .result)
+types : (c : tie.After-first-mistyped) (d : Doc) (x : Cond Compared) (l : Left) → conditionInForm (from
+    (c .before .before .before .before .before .before .before .before .before .before .before .before .before .before .before .before .before .before .before .before .before .before .args .line .now)
+    (c .before .before .before .before .before .before .before .before .before .before .before .before .before .before .before .before .before .before .before .before .before .before .args .t)) ≡ some
+    (x, l) → Attributes
+    (c .before .before .before .before .before .before .before .before .before .before .before .before .before .before .before .before .before .before .before .before .before .before .args .text .now)
+    (c .before .before .before .before .before .before .before .before .before .before .before .before .before .before .before .before .before .before .before .before .before .before .args .attributes .now)
+    (c .before .before .before .before .before .before .before .before .before .before .before .before .before .before .before .before .before .before .before .before .before .before .args .n)
+    (d .policy .attributes)
+    → wrongType (d .policy) (cond-form
+    (c .before .before .before .before .before .before .before .before .before .before .before .before .before .before .before .before .before .before .before .before .before .before .args .line .now)
+    (c .before .before .before .before .before .before .before .before .before .before .before .before .before .before .before .before .before .before .before .before .before .before .args .c)
+    (c .before .before .before .before .before .before .before .before .before .before .before .before .before .before .before .before .before .before .before .before .before .before .args .r) x) ≡ offendingValue
+    (c .before .before .before .before .before .before .before .before .before .before .before .before .before .before .before .before .before .before .before .before .before .before .args .line .now)
+    (c .first-mistyped .result)
 types c d x l k h =
-    types-stored d (c .before .before .before .before .before .before .before .before .before .before .before .before .before .before .before .before .before .before .before .before .before .before .args .line .now) (c .before .before .before .before .before .before .before .before .before .before .before .before .before .before .before .before .before .before .before .before .before .before .args .c) (c .before .before .before .before .before .before .before .before .before .before .before .before .before .before .before .before .before .before .before .before .before .before .args .r) x l (c .before .before .before .before .before .before .before .before .before .before .before .before .before .before .before .before .before .before .before .before .before .before .args .t) k (c .before .before .before .before .before .before .before .before .before .before .before .before .before .before .before .before .before .before .read-places .result) _ (c .before .before .before .before .before .before .before .before .before .before .before .before .before .before .before .before .before .before .read-places .ensures) _ _ (c .before .before .before .before .before .before .before .before .before .before .before .before .before .before .before .before .read .given .1) (c .before .before .before .before .before .before .before .before .before .before .before .before .before .if2 .left)
+    types-stored d
+    (c .before .before .before .before .before .before .before .before .before .before .before .before .before .before .before .before .before .before .before .before .before .before .args .line .now)
+    (c .before .before .before .before .before .before .before .before .before .before .before .before .before .before .before .before .before .before .before .before .before .before .args .c)
+    (c .before .before .before .before .before .before .before .before .before .before .before .before .before .before .before .before .before .before .before .before .before .before .args .r) x l
+    (c .before .before .before .before .before .before .before .before .before .before .before .before .before .before .before .before .before .before .before .before .before .before .args .t) k
+    (c .before .before .before .before .before .before .before .before .before .before .before .before .before .before .before .before .before .before .read-places .result) _
+    (c .before .before .before .before .before .before .before .before .before .before .before .before .before .before .before .before .before .before .read-places .ensures) _ _
+    (c .before .before .before .before .before .before .before .before .before .before .before .before .before .before .before .before .read .given .1)
+    (c .before .before .before .before .before .before .before .before .before .before .before .before .before .if2 .left)
     ∙ sym (c .first-mistyped .ensures .0 (d .policy) h)
 
 returns-7 : tie.Need-returns-7
-returns-7 c = record {
+returns-7 c = let entry = c .before .before .before .before .before .before .before .before .before .before .before .before .before .before .before .before .before .before .before .before .before .before .before .before .before .args in record {
   judges = λ x l k. record {
-    is = λ d h. judge-type d (c .before .before .before .before .before .before .before .before .before .before .before .before .before .before .before .before .before .before .before .before .before .before .before .before .before .args .line .now) (cond-form (c .before .before .before .before .before .before .before .before .before .before .before .before .before .before .before .before .before .before .before .before .before .before .before .before .before .args .line .now) (c .before .before .before .before .before .before .before .before .before .before .before .before .before .before .before .before .before .before .before .before .before .before .before .before .before .args .c) (c .before .before .before .before .before .before .before .before .before .before .before .before .before .before .before .before .before .before .before .before .before .before .before .before .before .args .r) x) (room (c .before .before .before .before .before .before .before .before .before .before .before .before .before .before .before .before) d x l k (h .2)) (fresh (c .before .before .before .before .before .before .before .before .before .before .before .before .before) d x (h .2))
-        (unknowns (c .before .before .before .before .before .before .before) d x l k (h .0) (h .1) ∙ ap (offendingOf (c .before .before .before .before .before .before .before .before .before .before .before .before .before .before .before .before .before .before .before .before .before .before .before .before .before .args .line .now)) (c .before .before .before .before .before .enum-told5 .given .1)) (cond-root d (c .before .before .before .before .before .before .before .before .before .before .before .before .before .before .before .before .before .before .before .before .before .before .before .before .before .args .line .now) (c .before .before .before .before .before .before .before .before .before .before .before .before .before .before .before .before .before .before .before .before .before .before .before .before .before .args .c) (c .before .before .before .before .before .before .before .before .before .before .before .before .before .before .before .before .before .before .before .before .before .before .before .before .before .args .r) x) (cond-values d (c .before .before .before .before .before .before .before .before .before .before .before .before .before .before .before .before .before .before .before .before .before .before .before .before .before .args .line .now) (c .before .before .before .before .before .before .before .before .before .before .before .before .before .before .before .before .before .before .before .before .before .before .before .before .before .args .c) (c .before .before .before .before .before .before .before .before .before .before .before .before .before .before .before .before .before .before .before .before .before .before .before .before .before .args .r) x) (writtenOf (c .before .before .before .before .before .before .before .before .before .before .before .before .before .before .before .before .before .before .before .before .before .before .before .before .before .args .line .now) (c .before .mistyped .given .0 .0))
-        (types (c .before .before .before) d x l k (h .1) ∙ ap (offendingValue (c .before .before .before .before .before .before .before .before .before .before .before .before .before .before .before .before .before .before .before .before .before .before .before .before .before .args .line .now)) (c .before .mistyped .given .1));
+    is = λ d h. judge-type d (entry .line .now) (cond-form (entry .line .now) (entry .c) (entry .r) x)
+        (room (c .before .before .before .before .before .before .before .before .before .before .before .before .before .before .before .before) d x l k (h .2))
+        (fresh (c .before .before .before .before .before .before .before .before .before .before .before .before .before) d x (h .2))
+        (unknowns (c .before .before .before .before .before .before .before) d x l k (h .0) (h .1) ∙ ap (offendingOf (entry .line .now)) (c .before .before .before .before .before .enum-told5 .given .1))
+        (cond-root d (entry .line .now) (entry .c) (entry .r) x) (cond-values d (entry .line .now) (entry .c) (entry .r) x)
+        (writtenOf (entry .line .now) (c .before .mistyped .given .0 .0))
+        (types (c .before .before .before) d x l k (h .1) ∙ ap (offendingValue (entry .line .now)) (c .before .mistyped .given .1));
     roomy = tt;
-    reaches = λ p. subst (λ (f : Offending). Near (c .before .before .before .before .before .before .before .before .before .before .before .before .before .before .before .before .before .before .before .before .before .before .before .before .before .args .line .now) f) (c .before .mistyped .given .1) (c .before .before .before .first-mistyped .ensures .1 (stored-near (c .before .before .before .before .before .before .before .before .before .before .before .before .before .before .before .before .before .before .before .before .before .before .before .before .before .args .line .now) (c .before .before .before .before .before .before .before .before .before .before .before .before .before .before .before .before .before .before .before .before .before .before .before .before .before .args .t) (c .before .before .before .before .before .before .before .before .before .before .before .before .before .before .before .before .before .before .before .before .before .read-places .result) _ (c .before .before .before .before .before .before .before .before .before .before .before .before .before .before .before .before .before .before .before .before .before .read-places .ensures) _ _ (c .before .before .before .before .before .before .before .before .before .before .before .before .before .before .before .before .before .before .before .read .given .1) (c .before .before .before .before .before .before .before .before .before .before .before .before .before .before .before .before .if2 .left)));
+    reaches = λ p. subst (λ (f : Offending). Near (entry .line .now) f) (c .before .mistyped .given .1)
+        (c .before .before .before .first-mistyped .ensures .1 (stored-near (entry .line .now) (entry .t)
+        (c .before .before .before .before .before .before .before .before .before .before .before .before .before .before .before .before .before .before .before .before .before .read-places .result) _
+        (c .before .before .before .before .before .before .before .before .before .before .before .before .before .before .before .before .before .before .before .before .before .read-places .ensures) _ _
+        (c .before .before .before .before .before .before .before .before .before .before .before .before .before .before .before .before .before .before .before .read .given .1)
+        (c .before .before .before .before .before .before .before .before .before .before .before .before .before .before .before .before .if2 .left)));
   };
   refuses = λ z. given (c .before .before .before .before .before .before .before .before .before .before .before .before .before .before .before .before) z;
 }
@@ -174,11 +270,16 @@ enum-told-6 : tie.Need-enum-told-6
 enum-told-6 c = search needs
 
 returns-8 : tie.Need-returns-8
-returns-8 c = record {
+returns-8 c = let entry = c .before .before .before .before .before .before .before .before .before .before .before .before .before .before .before .before .before .before .before .before .before .before .before .before .args in record {
   judges = λ x l k. record {
-    is = λ d h. judge-fine d (c .before .before .before .before .before .before .before .before .before .before .before .before .before .before .before .before .before .before .before .before .before .before .before .before .args .line .now) (cond-form (c .before .before .before .before .before .before .before .before .before .before .before .before .before .before .before .before .before .before .before .before .before .before .before .before .args .line .now) (c .before .before .before .before .before .before .before .before .before .before .before .before .before .before .before .before .before .before .before .before .before .before .before .before .args .c) (c .before .before .before .before .before .before .before .before .before .before .before .before .before .before .before .before .before .before .before .before .before .before .before .before .args .r) x) (room (c .before .before .before .before .before .before .before .before .before .before .before .before .before .before .before) d x l k (h .2)) (fresh (c .before .before .before .before .before .before .before .before .before .before .before .before) d x (h .2))
-        (unknowns (c .before .before .before .before .before .before) d x l k (h .0) (h .1) ∙ ap (offendingOf (c .before .before .before .before .before .before .before .before .before .before .before .before .before .before .before .before .before .before .before .before .before .before .before .before .args .line .now)) (c .before .before .before .before .enum-told5 .given .1)) (cond-root d (c .before .before .before .before .before .before .before .before .before .before .before .before .before .before .before .before .before .before .before .before .before .before .before .before .args .line .now) (c .before .before .before .before .before .before .before .before .before .before .before .before .before .before .before .before .before .before .before .before .before .before .before .before .args .c) (c .before .before .before .before .before .before .before .before .before .before .before .before .before .before .before .before .before .before .before .before .before .before .before .before .args .r) x) (cond-values d (c .before .before .before .before .before .before .before .before .before .before .before .before .before .before .before .before .before .before .before .before .before .before .before .before .args .line .now) (c .before .before .before .before .before .before .before .before .before .before .before .before .before .before .before .before .before .before .before .before .before .before .before .before .args .c) (c .before .before .before .before .before .before .before .before .before .before .before .before .before .before .before .before .before .before .before .before .before .before .before .before .args .r) x)
-        (types (c .before .before) d x l k (h .1) ∙ ap (offendingValue (c .before .before .before .before .before .before .before .before .before .before .before .before .before .before .before .before .before .before .before .before .before .before .before .before .args .line .now)) (c .enum-told6 .given .1)) (cond-order d (c .before .before .before .before .before .before .before .before .before .before .before .before .before .before .before .before .before .before .before .before .before .before .before .before .args .line .now) (c .before .before .before .before .before .before .before .before .before .before .before .before .before .before .before .before .before .before .before .before .before .before .before .before .args .c) (c .before .before .before .before .before .before .before .before .before .before .before .before .before .before .before .before .before .before .before .before .before .before .before .before .args .r) x) (cond-dated d (c .before .before .before .before .before .before .before .before .before .before .before .before .before .before .before .before .before .before .before .before .before .before .before .before .args .line .now) (c .before .before .before .before .before .before .before .before .before .before .before .before .before .before .before .before .before .before .before .before .before .before .before .before .args .c) (c .before .before .before .before .before .before .before .before .before .before .before .before .before .before .before .before .before .before .before .before .before .before .before .before .args .r) x) (cond-late d (c .before .before .before .before .before .before .before .before .before .before .before .before .before .before .before .before .before .before .before .before .before .before .before .before .args .line .now) (c .before .before .before .before .before .before .before .before .before .before .before .before .before .before .before .before .before .before .before .before .before .before .before .before .args .c) (c .before .before .before .before .before .before .before .before .before .before .before .before .before .before .before .before .before .before .before .before .before .before .before .before .args .r) x) (cond-placed d (c .before .before .before .before .before .before .before .before .before .before .before .before .before .before .before .before .before .before .before .before .before .before .before .before .args .line .now) (c .before .before .before .before .before .before .before .before .before .before .before .before .before .before .before .before .before .before .before .before .before .before .before .before .args .c) (c .before .before .before .before .before .before .before .before .before .before .before .before .before .before .before .before .before .before .before .before .before .before .before .before .args .r) x);
+    is = λ d h. judge-fine d (entry .line .now) (cond-form (entry .line .now) (entry .c) (entry .r) x)
+        (room (c .before .before .before .before .before .before .before .before .before .before .before .before .before .before .before) d x l k (h .2))
+        (fresh (c .before .before .before .before .before .before .before .before .before .before .before .before) d x (h .2))
+        (unknowns (c .before .before .before .before .before .before) d x l k (h .0) (h .1) ∙ ap (offendingOf (entry .line .now)) (c .before .before .before .before .enum-told5 .given .1))
+        (cond-root d (entry .line .now) (entry .c) (entry .r) x) (cond-values d (entry .line .now) (entry .c) (entry .r) x)
+        (types (c .before .before) d x l k (h .1) ∙ ap (offendingValue (entry .line .now)) (c .enum-told6 .given .1))
+        (cond-order d (entry .line .now) (entry .c) (entry .r) x) (cond-dated d (entry .line .now) (entry .c) (entry .r) x)
+        (cond-late d (entry .line .now) (entry .c) (entry .r) x) (cond-placed d (entry .line .now) (entry .c) (entry .r) x);
     roomy = c .before .before .before .before .before .before .before .before .before .before .before .before .before .before .before .before .if1 .left;
     reaches = λ p. tt;
   };

@@ -48,21 +48,39 @@ enum-known-w : tie.Need-enum-known-w Inv-loop μ-loop
 enum-known-w c = search needs
 
 -- what the code found is what is wrong with the comparison
-found : (c : tie.After-wrong-type Inv-loop μ-loop) (d : Policy) → Attributes (c .before .before .before .before .before .before .before .before .args .text .now) (c .before .before .before .before .before .before .before .before .args .attributes .now) (c .before .before .before .before .before .before .before .before .args .n) (d .attributes) → offendingValue (c .before .before .before .before .before .before .before .before .args .line .now) (c .wrong-type .result) ≡ mistyped (attributeKind d (wordOf (c .before .before .before .before .before .before .before .before .args .line .now) (nextWord (c .before .before .before .before .before .before .before .before .args .line .now) (getD (c .before .before .before .before .before .before .before .before .args .ops .now) (c .before .before .before .before .before .loop .j) 0)))) (comparedAt (c .before .before .before .before .before .before .before .before .args .line .now) (getD (c .before .before .before .before .before .before .before .before .args .ops .now) (c .before .before .before .before .before .loop .j) 0))
+found : (c : tie.After-wrong-type Inv-loop μ-loop) (d : Policy) → Attributes
+    (c .before .before .before .before .before .before .before .before .args .text .now)
+    (c .before .before .before .before .before .before .before .before .args .attributes .now)
+    (c .before .before .before .before .before .before .before .before .args .n) (d .attributes) → offendingValue
+    (c .before .before .before .before .before .before .before .before .args .line .now) (c .wrong-type .result) ≡ mistyped (attributeKind d (wordOf
+    (c .before .before .before .before .before .before .before .before .args .line .now)
+    (nextWord (c .before .before .before .before .before .before .before .before .args .line .now) (getD (c .before .before .before .before .before .before .before .before .args .ops .now) (c .before .before .before .before .before .loop .j) 0))))
+    (comparedAt (c .before .before .before .before .before .before .before .before .args .line .now) (getD
+    (c .before .before .before .before .before .before .before .before .args .ops .now) (c .before .before .before .before .before .loop .j) 0))
 found c d h =
     let s = c .before .before .before .before .before .before .before .before .args .line .now in
-    let kind : kindOf (c .before .kind-named .result) ≡ attributeKind d (wordOf s (nextWord s (getD (c .before .before .before .before .before .before .before .before .args .ops .now) (c .before .before .before .before .before .loop .j) 0))) = c .before .kind-named .ensures d h ∙ ap (λ p. attributeKind d (wordOf s p)) (c .before .before .next-word .ensures) in
+    let kind : kindOf (c .before .kind-named .result) ≡ attributeKind d
+    (wordOf s (nextWord s (getD (c .before .before .before .before .before .before .before .before .args .ops .now) (c .before .before .before .before .before .loop .j) 0))) = c .before .kind-named .ensures d h ∙ ap
+    (λ p. attributeKind d (wordOf s p)) (c .before .before .next-word .ensures) in
     c .wrong-type .ensures ∙ ap (λ k. mistyped k (comparedAt s (getD (c .before .before .before .before .before .before .before .before .args .ops .now) (c .before .before .before .before .before .loop .j) 0))) kind
 
 returns : tie.Need-returns Inv-loop μ-loop
 returns c =
     let s = c .before .before .before .before .before .before .before .before .before .before .before .args .line .now in
-    let many : c .before .before .before .before .before .before .before .before .before .before .before .args .count ≤ length (c .before .before .before .before .before .before .before .before .before .before .before .args .ops .now) = c .before .before .before .before .before .before .before .before .before .before .before .pre .1 in
+    let many : c .before .before .before .before .before .before .before .before .before .before .before .args .count ≤ length
+    (c .before .before .before .before .before .before .before .before .before .before .before .args .ops .now) = c .before .before .before .before .before .before .before .before .before .before .before .pre .1 in
     let op = getD (c .before .before .before .before .before .before .before .before .before .before .before .args .ops .now) (c .before .before .before .before .before .before .before .before .loop .j) 0 in (
       (λ d h.
-          sym (first-of (λ p. mistyped (attributeKind d (wordOf s (nextWord s p))) (comparedAt s p)) (c .before .before .before .before .before .before .before .before .before .before .before .args .ops .now) (c .before .before .before .before .before .before .before .before .before .before .before .args .count) (c .before .before .before .before .before .before .before .before .loop .j) (writtenOf s (c .before .w .given .0 .0)) many (c .before .before .before .before .before .before .before .loop-test .taken) (c .before .before .before .before .before .before .before .before .loop .inv .1 d h)
+          sym (first-of (λ p. mistyped (attributeKind d (wordOf s (nextWord s p))) (comparedAt s p))
+          (c .before .before .before .before .before .before .before .before .before .before .before .args .ops .now)
+          (c .before .before .before .before .before .before .before .before .before .before .before .args .count)
+          (c .before .before .before .before .before .before .before .before .loop .j) (writtenOf s (c .before .w .given .0 .0)) many
+          (c .before .before .before .before .before .before .before .loop-test .taken)
+          (c .before .before .before .before .before .before .before .before .loop .inv .1 d h)
           (sym (found (c .before .before .before) d h) ∙ ap (offendingValue s) (c .before .w .given .1)))),
-      (λ near. mistyped-near s (kindOf (c .before .before .before .before .kind-named .result)) op (c .before .w .given .0 .0) (near (c .before .before .before .before .before .before .before .before .loop .j) (c .before .before .before .before .before .before .before .loop-test .taken)) (sym (ap (offendingValue s) (c .before .w .given .1)) ∙ c .before .before .before .wrong-type .ensures)),
+      (λ near. mistyped-near s (kindOf (c .before .before .before .before .kind-named .result)) op (c .before .w .given .0 .0)
+          (near (c .before .before .before .before .before .before .before .before .loop .j) (c .before .before .before .before .before .before .before .loop-test .taken))
+          (sym (ap (offendingValue s) (c .before .w .given .1)) ∙ c .before .before .before .wrong-type .ensures)),
     )
 
 enum-told : tie.Need-enum-told Inv-loop μ-loop
@@ -77,7 +95,9 @@ loop-less c = omega (arith, c .before .before .before .before .before .before .l
 loop-again : tie.Need-loop-again Inv-loop μ-loop
 loop-again c = (
   omega (arith, c .before .before .before .before .before .before .loop-test .taken),
-  (λ d h. below-more _ (c .before .before .before .before .before .before .before .loop .j) (c .before .before .before .before .before .before .before .loop .inv .1 d h) (sym (found (c .before .before) d h) ∙ ap (offendingValue (c .before .before .before .before .before .before .before .before .before .before .args .line .now)) (c .enum-told .given .1))),
+  (λ d h. below-more _ (c .before .before .before .before .before .before .before .loop .j)
+      (c .before .before .before .before .before .before .before .loop .inv .1 d h)
+      (sym (found (c .before .before) d h) ∙ ap (offendingValue (c .before .before .before .before .before .before .before .before .before .before .args .line .now)) (c .enum-told .given .1))),
 )
 
 returns-2 : tie.Need-returns-2 Inv-loop μ-loop

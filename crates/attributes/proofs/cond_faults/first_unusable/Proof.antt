@@ -47,9 +47,14 @@ returns c =
     let at : c .before .before .next-word .result ≡ nextWord s (getD (c .before .before .before .before .before .before .before .before .args .ops .now) (c .before .before .before .before .before .loop .j) 0) = c .before .before .next-word .ensures in (
       (λ d g h.
           ap (λ p. some (wordOf s p)) at
-          ∙ sym (first-missing (usableFor d (c .before .before .before .before .before .before .before .before .args .role)) (λ p. wordOf s (nextWord s p)) (c .before .before .before .before .before .before .before .before .args .ops .now) (c .before .before .before .before .before .before .before .before .args .count) (c .before .before .before .before .before .loop .j) many (c .before .before .before .before .loop-test .taken) (c .before .before .before .before .before .loop .inv .1 d g h)
+          ∙ sym (first-missing (usableFor d (c .before .before .before .before .before .before .before .before .args .role))
+          (λ p. wordOf s (nextWord s p)) (c .before .before .before .before .before .before .before .before .args .ops .now)
+          (c .before .before .before .before .before .before .before .before .args .count)
+          (c .before .before .before .before .before .loop .j) many (c .before .before .before .before .loop-test .taken)
+          (c .before .before .before .before .before .loop .inv .1 d g h)
           (ap (λ p. usableFor d (c .before .before .before .before .before .before .before .before .args .role) (wordOf s p)) (sym at) ∙ sym (c .before .usable .ensures d g h) ∙ not-true (c .before .usable .result) (c .if1 .taken)))),
-      (λ near. omega (arith, at, next-within s (getD (c .before .before .before .before .before .before .before .before .args .ops .now) (c .before .before .before .before .before .loop .j) 0) (near (c .before .before .before .before .before .loop .j) (c .before .before .before .before .loop-test .taken)))),
+      (λ near. omega
+          (arith, at, next-within s (getD (c .before .before .before .before .before .before .before .before .args .ops .now) (c .before .before .before .before .before .loop .j) 0) (near (c .before .before .before .before .before .loop .j) (c .before .before .before .before .loop-test .taken)))),
     )
 
 add-j : tie.Need-add-j Inv-loop μ-loop
@@ -63,14 +68,17 @@ loop-again c =
     let s = c .before .before .before .before .before .before .before .before .args .line .now in
     let at : c .before .before .next-word .result ≡ nextWord s (getD (c .before .before .before .before .before .before .before .before .args .ops .now) (c .before .before .before .before .before .loop .j) 0) = c .before .before .next-word .ensures in (
       omega (arith, c .before .before .before .before .loop-test .taken),
-      (λ d g h. below-more _ (c .before .before .before .before .before .loop .j) (c .before .before .before .before .before .loop .inv .1 d g h) (ap (λ p. usableFor d (c .before .before .before .before .before .before .before .before .args .role) (wordOf s p)) (sym at) ∙ sym (c .before .usable .ensures d g h) ∙ not-false (c .before .usable .result) (c .if1 .left))),
+      (λ d g h. below-more _ (c .before .before .before .before .before .loop .j) (c .before .before .before .before .before .loop .inv .1 d g h)
+          (ap (λ p. usableFor d (c .before .before .before .before .before .before .before .before .args .role) (wordOf s p)) (sym at) ∙ sym (c .before .usable .ensures d g h) ∙ not-false (c .before .usable .result) (c .if1 .left))),
     )
 
 returns-2 : tie.Need-returns-2 Inv-loop μ-loop
 returns-2 c =
     let s = c .before .before .before .before .args .line .now in
     let many : c .before .before .before .before .args .count ≤ length (c .before .before .before .before .args .ops .now) = c .before .before .before .before .pre .1 in (
-      (λ d g h. sym (none-missing (usableFor d (c .before .before .before .before .args .role)) (λ p. wordOf s (nextWord s p)) (c .before .before .before .before .args .ops .now) (c .before .before .before .before .args .count) many (λ i l. c .before .loop .inv .1 d g h i (omega (arith, l, c .loop-test .left))))),
+      (λ d g h. sym (none-missing (usableFor d (c .before .before .before .before .args .role)) (λ p. wordOf s (nextWord s p))
+          (c .before .before .before .before .args .ops .now) (c .before .before .before .before .args .count) many
+          (λ i l. c .before .loop .inv .1 d g h i (omega (arith, l, c .loop-test .left))))),
       (λ near. tt),
     )
 

@@ -22,13 +22,17 @@ enum-told c = search needs
 
 returns : tie.Need-returns
 unfolding attributeOf
-returns c d h = sym (kind-none d (wordOf (c .before .before .before .before .before .args .line .now) (c .before .before .before .before .before .args .at)) (named-none d (wordOf (c .before .before .before .before .before .args .line .now) (c .before .before .before .before .before .args .at)) (sym (ap foundAs (c .enum-told .given .1)) ∙ c .before .before .find-attribute .ensures .0 (d .attributes) h)))
+returns c d h = let entry = c .before .before .before .before .before .args in sym
+    (kind-none d (wordOf (entry .line .now) (entry .at)) (named-none d (wordOf (entry .line .now) (entry .at)) (sym (ap foundAs (c .enum-told .given .1)) ∙ c .before .before .find-attribute .ensures .0 (d .attributes) h)))
 
 attribute-kind-requires : tie.Need-attribute-kind-requires
 attribute-kind-requires c κs = search needs
 
 -- the attribute that was found
-found : (c : tie.After-known-told) (d : Policy) → Attributes (c .before .before .before .before .before .before .args .text .now) (c .before .before .before .before .before .before .args .attributes .now) (c .before .before .before .before .before .before .args .n) (d .attributes) → some (c .before .f .given .0 .0) ≡ attributeOf d (wordOf (c .before .before .before .before .before .before .args .line .now) (c .before .before .before .before .before .before .args .at))
+found : (c : tie.After-known-told) (d : Policy) → Attributes (c .before .before .before .before .before .before .args .text .now)
+    (c .before .before .before .before .before .before .args .attributes .now) (c .before .before .before .before .before .before .args .n)
+    (d .attributes) → some (c .before .f .given .0 .0) ≡ attributeOf d
+    (wordOf (c .before .before .before .before .before .before .args .line .now) (c .before .before .before .before .before .before .args .at))
 unfolding attributeOf
 found c d h = sym (ap foundAs (c .before .f .given .1)) ∙ c .before .before .before .find-attribute .ensures .0 (d .attributes) h
 

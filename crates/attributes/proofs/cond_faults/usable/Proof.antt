@@ -22,7 +22,8 @@ enum-told c = search needs
 
 returns : tie.Need-returns
 unfolding attributeOf
-returns c d g h = sym (usable-none d (wordOf (c .before .before .before .before .before .args .line .now) (c .before .before .before .before .before .args .at)) (c .before .before .before .before .before .args .role) (named-none d (wordOf (c .before .before .before .before .before .args .line .now) (c .before .before .before .before .before .args .at)) (sym (ap foundAs (c .enum-told .given .1)) ∙ c .before .before .find-attribute .ensures .0 (d .attributes) h)))
+returns c d g h = let entry = c .before .before .before .before .before .args in sym
+    (usable-none d (wordOf (entry .line .now) (entry .at)) (entry .role) (named-none d (wordOf (entry .line .now) (entry .at)) (sym (ap foundAs (c .enum-told .given .1)) ∙ c .before .before .find-attribute .ensures .0 (d .attributes) h)))
 
 attribute-role-requires : tie.Need-attribute-role-requires
 attribute-role-requires c κs = search needs
@@ -37,7 +38,10 @@ enum-told-2 : tie.Need-enum-told-2
 enum-told-2 c = search needs
 
 -- the attribute that was found
-found : (c : tie.After-known-told) (d : Policy) → Attributes (c .before .before .before .before .before .before .args .text .now) (c .before .before .before .before .before .before .args .attributes .now) (c .before .before .before .before .before .before .args .n) (d .attributes) → some (c .before .f .given .0 .0) ≡ attributeOf d (wordOf (c .before .before .before .before .before .before .args .line .now) (c .before .before .before .before .before .before .args .at))
+found : (c : tie.After-known-told) (d : Policy) → Attributes (c .before .before .before .before .before .before .args .text .now)
+    (c .before .before .before .before .before .before .args .attributes .now) (c .before .before .before .before .before .before .args .n)
+    (d .attributes) → some (c .before .f .given .0 .0) ≡ attributeOf d
+    (wordOf (c .before .before .before .before .before .before .args .line .now) (c .before .before .before .before .before .before .args .at))
 unfolding attributeOf
 found c d h = sym (ap foundAs (c .before .f .given .1)) ∙ c .before .before .before .find-attribute .ensures .0 (d .attributes) h
 
@@ -46,13 +50,16 @@ returns-2 c d g h =
     let w = wordOf (c .before .before .before .before .before .before .before .before .before .before .before .args .line .now) (c .before .before .before .before .before .before .before .before .before .before .before .args .at) in
     let a = named d w (c .before .before .before .before .before .before .f .given .0 .0) (found (c .before .before .before .before .before) d h) in
     c .role-below .ensures (c .before .before .before .before .before .before .before .before .before .before .before .args .text .now) (d .roles) g
-    ∙ sym (usable-role d w (c .before .before .before .before .before .before .before .before .before .before .before .args .role) (a .0) (c .before .before .o .given .0 .0) (a .2) (sym (ap foundAs (c .before .before .o .given .1)) ∙ c .before .before .before .before .attribute-role .ensures (c .before .before .before .before .before .before .before .before .before .before .before .args .text .now) (d .attributes) (a .0) h (a .1)))
+    ∙ sym (usable-role d w (c .before .before .before .before .before .before .before .before .before .before .before .args .role) (a .0)
+    (c .before .before .o .given .0 .0) (a .2)
+    (sym (ap foundAs (c .before .before .o .given .1)) ∙ c .before .before .before .before .attribute-role .ensures (c .before .before .before .before .before .before .before .before .before .before .before .args .text .now) (d .attributes) (a .0) h (a .1)))
 
 returns-3 : tie.Need-returns-3
 returns-3 c d g h =
     let w = wordOf (c .before .before .before .before .before .before .before .before .before .args .line .now) (c .before .before .before .before .before .before .before .before .before .args .at) in
     let a = named d w (c .before .before .before .before .f .given .0 .0) (found (c .before .before .before) d h) in
-    sym (usable-clock d w (c .before .before .before .before .before .before .before .before .before .args .role) (a .0) (a .2) (sym (ap foundAs (c .enum-told2 .given .1)) ∙ c .before .before .attribute-role .ensures (c .before .before .before .before .before .before .before .before .before .args .text .now) (d .attributes) (a .0) h (a .1)))
+    sym (usable-clock d w (c .before .before .before .before .before .before .before .before .before .args .role) (a .0) (a .2)
+    (sym (ap foundAs (c .enum-told2 .given .1)) ∙ c .before .before .attribute-role .ensures (c .before .before .before .before .before .before .before .before .before .args .text .now) (d .attributes) (a .0) h (a .1)))
 
 pub usable-spec : {M : Type 1} → statement M
 usable-spec =

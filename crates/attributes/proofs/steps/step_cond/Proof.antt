@@ -28,7 +28,8 @@ add-next c = omega (arith, has-room (cond-judges (c .before .before .before .bef
 returns-2 : tie.Need-returns-2
 returns-2 c = λ d ps′ us′ gs′ ls′ ms′ ts′ ws′ is a w I.
     let p = passes (cond-judges (c .before .before .before .before .cond-role-fault .ensures) (c .before .before .enum-told .given .1)) (c .before .before .enum-told .given .1) d (I .roles, I .attributes, I .conds) in
-    follows-as (cond-line (c .before .before .before .before .cond-role-fault .ensures) is (c .before .before .enum-told .given .1) d) (follows-goes (record { doc = _; is = p; held = grow-cond I _ _ _ _ (c .store-cond-role .ensures d a (I .roles) (I .conds) p (cond-read (c .before .before .before .before .cond-role-fault .ensures) (c .before .before .enum-told .given .1)) (w .0)) }))
+    follows-as (cond-line (c .before .before .before .before .cond-role-fault .ensures) is (c .before .before .enum-told .given .1) d)
+    (follows-goes (record { doc = _; is = p; held = grow-cond I _ _ _ _ (c .store-cond-role .ensures d a (I .roles) (I .conds) p (cond-read (c .before .before .before .before .cond-role-fault .ensures) (c .before .before .enum-told .given .1)) (w .0)) }))
 
 pub step-cond-spec : {M : Type 1} → statement M
 step-cond-spec =

@@ -30,7 +30,9 @@ returns : tie.Need-returns Inv-loop μ-loop
 returns c small =
     let I = c .before .before .before .loop .inv in
     loads-refused _
-    (text-fits _ small ∙ I .rest ∙ turn-open (c .before .before .before .before .before .args .text .now) (c .before .before .before .loop .at) (c .before .line-end .result) (c .before .line-end .ensures) (I .doc) (c .before .before .before .loop .n) (c .before .before .loop-test .taken) (omega (arith, c .if1 .taken)))
+    (text-fits _ small ∙ I .rest ∙ turn-open (c .before .before .before .before .before .args .text .now) (c .before .before .before .loop .at)
+    (c .before .line-end .result) (c .before .line-end .ensures) (I .doc) (c .before .before .before .loop .n)
+    (c .before .before .loop-test .taken) (omega (arith, c .if1 .taken)))
     (open-moved (c .before .before .before .before .before .args .text .now) (c .before .before .before .loop .at) (c .before .line-end .result) (c .before .line-end .ensures) (I .within))
 
 sub-line : tie.Need-sub-line Inv-loop μ-loop
@@ -49,21 +51,64 @@ enum-known-s : tie.Need-enum-known-s Inv-loop μ-loop
 enum-known-s c = search needs
 
 -- the line has its line feed
-fed : (c : tie.After-step-line Inv-loop μ-loop) → c .before .before .before .before .before .before .before .before .before .before .before .before .before .line-end .result < length (c .before .before .before .before .before .before .before .before .before .before .before .before .before .before .before .before .before .args .text .now)
-fed c = omega (arith, c .before .before .before .before .before .before .before .before .before .before .before .before .if1 .left, c .before .before .before .before .before .before .before .before .before .before .before .before .before .line-end .ensures .within (c .before .before .before .before .before .before .before .before .before .before .before .before .before .before .before .loop .inv .within))
+fed :
+    (c : tie.After-step-line Inv-loop μ-loop) → c .before .before .before .before .before .before .before .before .before .before .before .before .before .line-end .result < length
+    (c .before .before .before .before .before .before .before .before .before .before .before .before .before .before .before .before .before .args .text .now)
+fed c = omega (
+  arith,
+  c .before .before .before .before .before .before .before .before .before .before .before .before .if1 .left,
+  c .before .before .before .before .before .before .before .before .before .before .before .before .before .line-end .ensures .within
+      (c .before .before .before .before .before .before .before .before .before .before .before .before .before .before .before .loop .inv .within),
+)
 
 refusal-of-requires : tie.Need-refusal-of-requires Inv-loop μ-loop
 refusal-of-requires c κs =
     let I = c .before .before .before .before .before .before .before .before .before .before .before .before .before .before .before .before .before .before .loop .inv in
-    let F = c .before .before .before .step-line .ensures (I .doc) (line-placed (c .before .before .before .before .before .before .before .before .before .before .before .before .before .before .before .before .before .before .before .before .args .text .now) (c .before .before .before .before .before .before .before .before .before .before .before .before .before .before .before .before .before .before .loop .at) (c .before .before .before .before .before .before .before .before .before .before .before .before .before .before .before .before .line-end .result) (c .before .before .before .before .before .before .before .before .before .before .before .before .before .before .before .before .line-end .ensures) (fed (c .before .before .before))) (I .held) (I .unique) in
-    (omega (arith, line-length (c .before .before .before .before .before .before .before .before .before .before .before .before .before .before .before .before .before .before .before .before .args .text .now) (c .before .before .before .before .before .before .before .before .before .before .before .before .before .before .before .before .before .before .loop .at) (c .before .before .before .before .before .before .before .before .before .before .before .before .before .before .before .before .line-end .result) (c .before .before .before .before .before .before .before .before .before .before .before .before .before .before .before .before .line-end .ensures) (I .within), line-from (c .before .before .before .before .before .before .before .before .before .before .before .before .before .before .before .before .before .before .before .before .args .text .now) (c .before .before .before .before .before .before .before .before .before .before .before .before .before .before .before .before .before .before .loop .at) (c .before .before .before .before .before .before .before .before .before .before .before .before .before .before .before .before .line-end .result) (c .before .before .before .before .before .before .before .before .before .before .before .before .before .before .before .before .line-end .ensures), fed (c .before .before .before), c .before .before .before .before .before .before .before .before .before .before .before .before .before .before .before .before .before .before .before .before .good .0 .0), F .fails _ (c .before .s .given .1) .reaches)
+    let F = c .before .before .before .step-line .ensures (I .doc) (line-placed
+    (c .before .before .before .before .before .before .before .before .before .before .before .before .before .before .before .before .before .before .before .before .args .text .now)
+    (c .before .before .before .before .before .before .before .before .before .before .before .before .before .before .before .before .before .before .loop .at)
+    (c .before .before .before .before .before .before .before .before .before .before .before .before .before .before .before .before .line-end .result)
+    (c .before .before .before .before .before .before .before .before .before .before .before .before .before .before .before .before .line-end .ensures)
+    (fed (c .before .before .before))) (I .held) (I .unique) in (
+      omega (
+        arith,
+        line-length
+            (c .before .before .before .before .before .before .before .before .before .before .before .before .before .before .before .before .before .before .before .before .args .text .now)
+            (c .before .before .before .before .before .before .before .before .before .before .before .before .before .before .before .before .before .before .loop .at)
+            (c .before .before .before .before .before .before .before .before .before .before .before .before .before .before .before .before .line-end .result)
+            (c .before .before .before .before .before .before .before .before .before .before .before .before .before .before .before .before .line-end .ensures)
+            (I .within),
+        line-from
+            (c .before .before .before .before .before .before .before .before .before .before .before .before .before .before .before .before .before .before .before .before .args .text .now)
+            (c .before .before .before .before .before .before .before .before .before .before .before .before .before .before .before .before .before .before .loop .at)
+            (c .before .before .before .before .before .before .before .before .before .before .before .before .before .before .before .before .line-end .result)
+            (c .before .before .before .before .before .before .before .before .before .before .before .before .before .before .before .before .line-end .ensures),
+        fed
+            (c .before .before .before),
+        c .before .before .before .before .before .before .before .before .before .before .before .before .before .before .before .before .before .before .before .before .good .0 .0,
+      ),
+      F .fails _
+          (c .before .s .given .1) .reaches,
+    )
 
 returns-2 : tie.Need-returns-2 Inv-loop μ-loop
 returns-2 c small =
     let I = c .before .before .before .before .before .before .before .before .before .before .before .before .before .before .before .before .before .before .before .loop .inv in
-    let F = c .before .before .before .before .step-line .ensures (I .doc) (line-placed (c .before .before .before .before .before .before .before .before .before .before .before .before .before .before .before .before .before .before .before .before .before .args .text .now) (c .before .before .before .before .before .before .before .before .before .before .before .before .before .before .before .before .before .before .before .loop .at) (c .before .before .before .before .before .before .before .before .before .before .before .before .before .before .before .before .before .line-end .result) (c .before .before .before .before .before .before .before .before .before .before .before .before .before .before .before .before .before .line-end .ensures) (fed (c .before .before .before .before))) (I .held) (I .unique) in
+    let F = c .before .before .before .before .step-line .ensures (I .doc) (line-placed
+    (c .before .before .before .before .before .before .before .before .before .before .before .before .before .before .before .before .before .before .before .before .before .args .text .now)
+    (c .before .before .before .before .before .before .before .before .before .before .before .before .before .before .before .before .before .before .before .loop .at)
+    (c .before .before .before .before .before .before .before .before .before .before .before .before .before .before .before .before .before .line-end .result)
+    (c .before .before .before .before .before .before .before .before .before .before .before .before .before .before .before .before .before .line-end .ensures)
+    (fed (c .before .before .before .before))) (I .held) (I .unique) in
     loads-refused (c .refusal-of .result)
-    (text-fits _ small ∙ I .rest ∙ turn-fails (c .before .before .before .before .before .before .before .before .before .before .before .before .before .before .before .before .before .before .before .before .before .args .text .now) (c .before .before .before .before .before .before .before .before .before .before .before .before .before .before .before .before .before .before .before .loop .at) (c .before .before .before .before .before .before .before .before .before .before .before .before .before .before .before .before .before .line-end .result) (c .before .before .before .before .before .before .before .before .before .before .before .before .before .before .before .before .before .line-end .ensures) (I .doc) (c .before .before .before .before .before .before .before .before .before .before .before .before .before .before .before .before .before .before .before .loop .n) (fed (c .before .before .before .before)) _ (F .fails _ (c .before .before .s .given .1) .is))
+    (text-fits _ small ∙ I .rest ∙ turn-fails
+    (c .before .before .before .before .before .before .before .before .before .before .before .before .before .before .before .before .before .before .before .before .before .args .text .now)
+    (c .before .before .before .before .before .before .before .before .before .before .before .before .before .before .before .before .before .before .before .loop .at)
+    (c .before .before .before .before .before .before .before .before .before .before .before .before .before .before .before .before .before .line-end .result)
+    (c .before .before .before .before .before .before .before .before .before .before .before .before .before .before .before .before .before .line-end .ensures)
+    (I .doc)
+    (c .before .before .before .before .before .before .before .before .before .before .before .before .before .before .before .before .before .before .before .loop .n)
+    (fed (c .before .before .before .before)) _ (F .fails _ (c .before .before .s .given .1) .is))
     (c .refusal-of .ensures)
 
 enum-known-s-2 : tie.Need-enum-known-s-2 Inv-loop μ-loop
@@ -76,13 +121,30 @@ add-n : tie.Need-add-n Inv-loop μ-loop
 add-n c = omega (arith, c .before .before .before .before .before .before .before .before .before .before .before .before .before .before .before .before .before .before .loop .inv .few, c .before .before .before .before .before .before .before .before .before .before .before .before .before .before .before .before .before .loop-test .taken, c .before .before .before .before .before .before .before .before .before .before .before .before .before .before .before .before .before .before .before .before .good .0 .0)
 
 loop-less : tie.Need-loop-less Inv-loop μ-loop
-loop-less c = omega (arith, line-from (c .before .before .before .before .before .before .before .before .before .before .before .before .before .before .before .before .before .before .before .before .args .text .now) (c .before .before .before .before .before .before .before .before .before .before .before .before .before .before .before .before .before .before .loop .at) (c .before .before .before .before .before .before .before .before .before .before .before .before .before .before .before .before .line-end .result) (c .before .before .before .before .before .before .before .before .before .before .before .before .before .before .before .before .line-end .ensures), fed (c .before .before .before))
+loop-less c = omega (
+  arith,
+  line-from
+      (c .before .before .before .before .before .before .before .before .before .before .before .before .before .before .before .before .before .before .before .before .args .text .now)
+      (c .before .before .before .before .before .before .before .before .before .before .before .before .before .before .before .before .before .before .loop .at)
+      (c .before .before .before .before .before .before .before .before .before .before .before .before .before .before .before .before .line-end .result)
+      (c .before .before .before .before .before .before .before .before .before .before .before .before .before .before .before .before .line-end .ensures),
+  fed
+      (c .before .before .before),
+)
 
 loop-again : tie.Need-loop-again Inv-loop μ-loop
 loop-again c =
     let I = c .before .before .before .before .before .before .before .before .before .before .before .before .before .before .before .before .before .before .loop .inv in
-    let F = c .before .before .before .step-line .ensures (I .doc) (line-placed (c .before .before .before .before .before .before .before .before .before .before .before .before .before .before .before .before .before .before .before .before .args .text .now) (c .before .before .before .before .before .before .before .before .before .before .before .before .before .before .before .before .before .before .loop .at) (c .before .before .before .before .before .before .before .before .before .before .before .before .before .before .before .before .line-end .result) (c .before .before .before .before .before .before .before .before .before .before .before .before .before .before .before .before .line-end .ensures) (fed (c .before .before .before))) (I .held) (I .unique) in
-    goes-on (c .before .before .before .before .before .before .before .before .before .before .before .before .before .before .before .before .line-end .result) I (c .before .before .before .before .before .before .before .before .before .before .before .before .before .before .before .before .line-end .ensures) (fed (c .before .before .before)) (F .goes _ (c .before .s2 .given .1))
+    let F = c .before .before .before .step-line .ensures (I .doc) (line-placed
+    (c .before .before .before .before .before .before .before .before .before .before .before .before .before .before .before .before .before .before .before .before .args .text .now)
+    (c .before .before .before .before .before .before .before .before .before .before .before .before .before .before .before .before .before .before .loop .at)
+    (c .before .before .before .before .before .before .before .before .before .before .before .before .before .before .before .before .line-end .result)
+    (c .before .before .before .before .before .before .before .before .before .before .before .before .before .before .before .before .line-end .ensures)
+    (fed (c .before .before .before))) (I .held) (I .unique) in
+    goes-on
+    (c .before .before .before .before .before .before .before .before .before .before .before .before .before .before .before .before .line-end .result) I
+    (c .before .before .before .before .before .before .before .before .before .before .before .before .before .before .before .before .line-end .ensures)
+    (fed (c .before .before .before)) (F .goes _ (c .before .s2 .given .1))
 
 returns-3 : tie.Need-returns-3 Inv-loop μ-loop
 returns-3 c small =

@@ -36,7 +36,8 @@ step-other-requires c κs = tt
 
 returns-2 : tie.Need-returns-2
 returns-2 c = λ d a I U.
-    c .step-other .ensures d a (keep-rows I _ (left _ _ _ _ d _ (c .before .before .before .before .before .before .before .before .before .before .before .if1 .left) (c .before .before .before .before .before .before .before .before .before .before .before .before .take-row .ensures .0 d _ a (I .labels) (I .tables) (I .rows)))) U
+    c .step-other .ensures d a (keep-rows I _
+    (left _ _ _ _ d _ (c .before .before .before .before .before .before .before .before .before .before .before .if1 .left) (c .before .before .before .before .before .before .before .before .before .before .before .before .take-row .ensures .0 d _ a (I .labels) (I .tables) (I .rows)))) U
 
 pub step-line-spec : {M : Type 1} → statement M
 step-line-spec =

@@ -37,7 +37,8 @@ step-form-requires c κs = tt
 
 returns-2 : tie.Need-returns-2
 returns-2 c = λ d a I U.
-    c .step-form .ensures d a (keep-purposes I _ (left _ _ _ _ d _ (c .before .before .before .before .before .before .before .before .before .before .before .if1 .left) (c .before .before .before .before .before .before .before .before .before .before .before .before .take-purpose .ensures .0 d a (I .purposes)))) U
+    c .step-form .ensures d a
+    (keep-purposes I _ (left _ _ _ _ d _ (c .before .before .before .before .before .before .before .before .before .before .before .if1 .left) (c .before .before .before .before .before .before .before .before .before .before .before .before .take-purpose .ensures .0 d a (I .purposes)))) U
 
 pub step-other-spec : {M : Type 1} → statement M
 step-other-spec =

@@ -60,7 +60,9 @@ returns : tie.Need-returns
 returns c =
     let a = c .before .before .before .before .before .before .before .before .args in
     let s = a .query .now in
-    number-read (a .kind) (writtenAt s (a .at)) (c .before .before .before .before .before .enum-told .given .1) _ (c .rank-number .result) (written-rank s (a .at) ∙ amount-is (rank (wordAt s (a .at))) _ (sym (c .before .before .before .before .rank-at .ensures) ∙ c .before .before .n .given .1)) (c .rank-number .ensures)
+    number-read (a .kind) (writtenAt s (a .at)) (c .before .before .before .before .before .enum-told .given .1) _ (c .rank-number .result)
+    (written-rank s (a .at) ∙ amount-is (rank (wordAt s (a .at))) _ (sym (c .before .before .before .before .rank-at .ensures) ∙ c .before .before .n .given .1))
+    (c .rank-number .ensures)
 
 returns-2 : tie.Need-returns-2
 returns-2 c =

@@ -35,7 +35,9 @@ returns : tie.Need-returns Inv-loop μ-loop
 returns c =
     let a = c .before .before .before .before .before .before .args in
     let l = c .before .before .before .before .loop in
-    λ i f. sym (any-found (λ k. not (openUnder (a .said .now) (a .m) (labelsIn (a .rows .now) (a .r)) k)) (a .columns .now) (a .n) (l .i) (c .before .before .before .loop-test .taken) (c .before .before .before .before .before .before .pre) (ap not (sym (c .before .cell-open .ensures i f)) ∙ c .if1 .taken)) ∙ l .inv i f
+    λ i f. sym (any-found (λ k. not (openUnder (a .said .now) (a .m) (labelsIn (a .rows .now) (a .r)) k)) (a .columns .now) (a .n) (l .i)
+    (c .before .before .before .loop-test .taken) (c .before .before .before .before .before .before .pre)
+    (ap not (sym (c .before .cell-open .ensures i f)) ∙ c .if1 .taken)) ∙ l .inv i f
 
 add-i : tie.Need-add-i Inv-loop μ-loop
 add-i c = search needs
@@ -47,7 +49,9 @@ loop-again : tie.Need-loop-again Inv-loop μ-loop
 loop-again c =
     let a = c .before .before .before .before .before .before .args in
     let l = c .before .before .before .before .loop in
-    λ i f. sym (any-more (λ k. not (openUnder (a .said .now) (a .m) (labelsIn (a .rows .now) (a .r)) k)) (a .columns .now) (a .n) (l .i) (c .before .before .before .loop-test .taken) (c .before .before .before .before .before .before .pre) (ap not (sym (c .before .cell-open .ensures i f)) ∙ c .if1 .left)) ∙ l .inv i f
+    λ i f. sym (any-more (λ k. not (openUnder (a .said .now) (a .m) (labelsIn (a .rows .now) (a .r)) k)) (a .columns .now) (a .n) (l .i)
+    (c .before .before .before .loop-test .taken) (c .before .before .before .before .before .before .pre)
+    (ap not (sym (c .before .cell-open .ensures i f)) ∙ c .if1 .left)) ∙ l .inv i f
 
 returns-2 : tie.Need-returns-2 Inv-loop μ-loop
 returns-2 c =

@@ -10,7 +10,9 @@ row-table-requires : tie.Need-row-table-requires
 row-table-requires c κs = search needs
 
 returns : tie.Need-returns
-returns c = let a = c .before .before .before .before .before .args in λ k d q jd l. fate-elsewhere (a .text .now) (a .rows .now) k (a .said .now) (a .query .now) (a .s) (a .first) (a .scheme) (a .columns .now) (a .tests .now) d q jd (a .r) l (c .before .before .row-table .result) (c .before .before .row-table .ensures) (c .if1 .taken)
+returns c = let a = c .before .before .before .before .before .args in λ k d q jd l. fate-elsewhere (a .text .now) (a .rows .now) k (a .said .now)
+    (a .query .now) (a .s) (a .first) (a .scheme) (a .columns .now) (a .tests .now) d q jd (a .r) l (c .before .before .row-table .result)
+    (c .before .before .row-table .ensures) (c .if1 .taken)
 
 add-is-withheld : tie.Need-add-is-withheld
 add-is-withheld c = search needs
@@ -28,8 +30,12 @@ returns-2 : tie.Need-returns-2
 unfolding satisfies
 returns-2 c =
     let a = c .before .before .before .before .before .before .before .before .before .before .args in
-    λ k d q jd l. fate-tested (a .text .now) (a .rows .now) k (a .said .now) (a .query .now) (a .s) (a .first) (a .scheme) (a .columns .now) (a .tests .now) d q jd (a .r) l (c .before .before .before .before .before .before .before .row-table .result) (c .before .before .before .before .before .before .before .row-table .ensures) (c .before .before .before .before .before .if1 .left) (c .before .before .is-withheld .result) (c .before .before .is-withheld .ensures) (c .before .row-met .result)
-    (c .before .row-met .ensures (modeIn (q .wanted)) (q .condition) (jd .tested) (row-small (a .text .now) (a .rows .now) k (a .said .now) (a .query .now) (a .s) (a .first) (a .scheme) (a .columns .now) (a .tests .now) d q jd (a .r) l) (jd .rows .narrow (a .r) l)) (c .fate-here .result) (c .fate-here .ensures)
+    λ k d q jd l. fate-tested (a .text .now) (a .rows .now) k (a .said .now) (a .query .now) (a .s) (a .first) (a .scheme) (a .columns .now)
+    (a .tests .now) d q jd (a .r) l (c .before .before .before .before .before .before .before .row-table .result)
+    (c .before .before .before .before .before .before .before .row-table .ensures) (c .before .before .before .before .before .if1 .left)
+    (c .before .before .is-withheld .result) (c .before .before .is-withheld .ensures) (c .before .row-met .result)
+    (c .before .row-met .ensures (modeIn (q .wanted)) (q .condition) (jd .tested) (row-small (a .text .now) (a .rows .now) k (a .said .now) (a .query .now) (a .s) (a .first) (a .scheme) (a .columns .now) (a .tests .now) d q jd (a .r) l) (jd .rows .narrow (a .r) l))
+    (c .fate-here .result) (c .fate-here .ensures)
 
 pub fate-of-spec : {M : Type 1} → statement M
 fate-of-spec =

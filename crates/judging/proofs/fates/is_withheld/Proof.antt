@@ -47,13 +47,23 @@ returns-3 : tie.Need-returns-3
 returns-3 c = λ d p l ls ns o h i f. withheld-none d p l ls (c .before .before .args .rows .now) (drop (c .before .before .args .first) (take (c .before .before .args .n) (c .before .before .args .columns .now))) ns (c .before .before .args .r) _ (inr (inr (c .enum-told3 .given .1)))
 
 returns-4 : tie.Need-returns-4
-returns-4 c = λ d p l ls ns o h i f. withheld-row d p l ls (c .before .before .before .args .rows .now) (drop (c .before .before .before .args .first) (take (c .before .before .before .args .n) (c .before .before .before .args .columns .now))) ns (c .before .before .before .args .r) (c .before .before .before .args .said .now) o _ (c .before .enum-told4 .given .1) (c .label-open .result) (c .label-open .ensures i f)
+returns-4 c = λ d p l ls ns o h i f. withheld-row d p l ls (c .before .before .before .args .rows .now)
+    (drop (c .before .before .before .args .first) (take (c .before .before .before .args .n) (c .before .before .before .args .columns .now))) ns
+    (c .before .before .before .args .r) (c .before .before .before .args .said .now) o _ (c .before .enum-told4 .given .1) (c .label-open .result)
+    (c .label-open .ensures i f)
 
 returns-5 : tie.Need-returns-5
-returns-5 c = λ d p l ls ns o h i f. withheld-cell d p l ls (c .before .before .before .before .args .rows .now) (drop (c .before .before .before .before .args .first) (take (c .before .before .before .before .args .n) (c .before .before .before .before .args .columns .now))) ns (c .before .before .before .before .args .r) (c .before .before .before .before .args .said .now) o _ (c .before .before .before .before .args .m) (c .before .before .enum-told5 .given .1) h (c .any-closed .result) (c .any-closed .ensures i f)
+returns-5 c = λ d p l ls ns o h i f. withheld-cell d p l ls (c .before .before .before .before .args .rows .now)
+    (drop (c .before .before .before .before .args .first) (take (c .before .before .before .before .args .n) (c .before .before .before .before .args .columns .now))) ns
+    (c .before .before .before .before .args .r) (c .before .before .before .before .args .said .now) o _ (c .before .before .before .before .args .m)
+    (c .before .before .enum-told5 .given .1) h (c .any-closed .result) (c .any-closed .ensures i f)
 
 returns-6 : tie.Need-returns-6
-returns-6 c = λ d p l ls ns o h i f. withheld-nest d p l ls (c .before .before .before .before .before .args .rows .now) (drop (c .before .before .before .before .before .args .first) (take (c .before .before .before .before .before .args .n) (c .before .before .before .before .before .args .columns .now))) ns (c .before .before .before .before .before .args .r) (c .before .before .before .before .before .args .said .now) o _ (c .before .before .before .before .before .args .m) (c .before .before .under-row .result) (c .before .before .before .enum-told6 .given .1) h (c .before .before .under-row .ensures i f) (c .any-closed2 .result) (c .any-closed2 .ensures i f)
+returns-6 c = λ d p l ls ns o h i f. withheld-nest d p l ls (c .before .before .before .before .before .args .rows .now)
+    (drop (c .before .before .before .before .before .args .first) (take (c .before .before .before .before .before .args .n) (c .before .before .before .before .before .args .columns .now))) ns
+    (c .before .before .before .before .before .args .r) (c .before .before .before .before .before .args .said .now) o _
+    (c .before .before .before .before .before .args .m) (c .before .before .under-row .result) (c .before .before .before .enum-told6 .given .1) h
+    (c .before .before .under-row .ensures i f) (c .any-closed2 .result) (c .any-closed2 .ensures i f)
 
 pub is-withheld-spec : {M : Type 1} → statement M
 is-withheld-spec =

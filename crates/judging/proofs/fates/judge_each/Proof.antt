@@ -42,8 +42,17 @@ loop-less c = omega arith
 loop-again : tie.Need-loop-again Inv-loop μ-loop
 loop-again c =
     let a = c .before .before .before .before .before .before .before .before .args in
-    let l = c .before .before .before .before .loop in
-    (omega arith, length-set (l .marks) (l .r) _ ∙ l .inv .1, fewer-more (l .r) (l .x) _ (c .before .before .fate-of .result) (l .inv .2) (c .count-row .ensures), λ d q jd. judged-more d q (rowIn (a .text .now) (a .rows .now)) (l .r) (l .marks) (l .x) (omega (arith, c .before .before .before .before .loop .inv .1, c .before .before .before .before .before .before .before .before .pre .3)) (l .inv .3 d q jd) (c .before .before .fate-of .result) (c .before .before .fate-of .ensures (a .count) d q jd (c .before .before .before .loop-test .taken)) (c .before .is-passed .result) (c .before .is-passed .ensures) _ (c .count-row .ensures))
+    let l = c .before .before .before .before .loop in (
+      omega arith,
+      length-set (l .marks) (l .r) _ ∙ l .inv .1,
+      fewer-more (l .r) (l .x) _ (c .before .before .fate-of .result) (l .inv .2)
+          (c .count-row .ensures),
+      λ d q jd. judged-more d q (rowIn (a .text .now) (a .rows .now)) (l .r) (l .marks) (l .x)
+          (omega (arith, c .before .before .before .before .loop .inv .1, c .before .before .before .before .before .before .before .before .pre .3))
+          (l .inv .3 d q jd) (c .before .before .fate-of .result)
+          (c .before .before .fate-of .ensures (a .count) d q jd (c .before .before .before .loop-test .taken)) (c .before .is-passed .result)
+          (c .before .is-passed .ensures) _ (c .count-row .ensures),
+    )
 
 same-length : tie.Need-same-length Inv-loop μ-loop
 same-length c = c .before .loop .inv .1

@@ -14,7 +14,12 @@ nest-open-requires : tie.Need-nest-open-requires
 nest-open-requires c κs = search needs
 
 returns : tie.Need-returns
-returns c small f = c .nest-open .ensures ∙ ap (λ v. openBy (c .before .before .before .before .before .args .m .strong) (over (c .before .before .before .before .before .args .m .weak) v)) (c .before .cell-said .ensures small f) ∙ open-nested (c .before .before .before .before .before .args .said .now) (c .before .before .before .before .before .args .m) (labelsIn (c .before .before .before .before .before .args .rows .now) (c .before .before .before .before .before .args .r)) (c .before .before .before .before .if1 .taken) (c .before .before .before .before .before .args .c)
+returns c small f = c .nest-open .ensures ∙ ap
+    (λ v. openBy (c .before .before .before .before .before .args .m .strong) (over (c .before .before .before .before .before .args .m .weak) v))
+    (c .before .cell-said .ensures small f) ∙ open-nested (c .before .before .before .before .before .args .said .now)
+    (c .before .before .before .before .before .args .m)
+    (labelsIn (c .before .before .before .before .before .args .rows .now) (c .before .before .before .before .before .args .r))
+    (c .before .before .before .before .if1 .taken) (c .before .before .before .before .before .args .c)
 
 label-open-requires : tie.Need-label-open-requires
 label-open-requires c κs = search needs

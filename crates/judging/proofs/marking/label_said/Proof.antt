@@ -15,7 +15,9 @@ said-at-requires : tie.Need-said-at-requires
 said-at-requires c κs = search needs
 
 returns : tie.Need-returns
-returns c = said-there (c .before .before .before .before .args .said .now) (c .before .before .before .before .args .rows .now) (c .before .before .before .before .args .r) (c .before .before .before .before .args .i) _ (c .before .before .before .row-labels .ensures) (c .before .before .if1 .taken) (c .before .row-label .result) (c .before .row-label .ensures) (c .said-at .result) (c .said-at .ensures)
+returns c = said-there (c .before .before .before .before .args .said .now) (c .before .before .before .before .args .rows .now)
+    (c .before .before .before .before .args .r) (c .before .before .before .before .args .i) _ (c .before .before .before .row-labels .ensures)
+    (c .before .before .if1 .taken) (c .before .row-label .result) (c .before .row-label .ensures) (c .said-at .result) (c .said-at .ensures)
 
 returns-2 : tie.Need-returns-2
 unfolding silent

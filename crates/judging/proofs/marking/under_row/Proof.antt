@@ -14,7 +14,10 @@ merged-over-requires : tie.Need-merged-over-requires
 merged-over-requires c κs = search needs
 
 returns : tie.Need-returns
-returns c small f = under-nested (c .before .before .before .before .before .args .said .now) (c .before .before .before .before .before .args .m) (labelsIn (c .before .before .before .before .before .args .rows .now) (c .before .before .before .before .before .args .r)) (c .before .before .before .before .if1 .taken) (c .merged-over .result) (c .merged-over .ensures ∙ ap (over (c .before .before .before .before .before .args .m .weak)) (c .before .label-said .ensures small f))
+returns c small f = under-nested (c .before .before .before .before .before .args .said .now) (c .before .before .before .before .before .args .m)
+    (labelsIn (c .before .before .before .before .before .args .rows .now) (c .before .before .before .before .before .args .r))
+    (c .before .before .before .before .if1 .taken) (c .merged-over .result)
+    (c .merged-over .ensures ∙ ap (over (c .before .before .before .before .before .args .m .weak)) (c .before .label-said .ensures small f))
 
 returns-2 : tie.Need-returns-2
 returns-2 c small f = under-own (c .before .args .said .now) (c .before .args .m) (labelsIn (c .before .args .rows .now) (c .before .args .r)) (c .if1 .left)

@@ -55,7 +55,8 @@ returns c =
       sized = λ fits. record {
         size = omega (arith, c .before .before .before .before .before .before .word-end .ensures);
         ranked = λ e. c .before .read-constant .ensures .ranked (sym typed ∙ e);
-        plain = λ e. name-written s (c .before .before .before .before .before .before .before .next-word2 .result) (ap (λ k. hasKind k (writtenAt s (c .before .before .before .before .before .before .before .next-word2 .result))) (sym (sym typed ∙ e)) ∙ sym (c .before .read-constant .ensures .fits) ∙ fits);
+        plain = λ e. name-written s (c .before .before .before .before .before .before .before .next-word2 .result)
+            (ap (λ k. hasKind k (writtenAt s (c .before .before .before .before .before .before .before .next-word2 .result))) (sym (sym typed ∙ e)) ∙ sym (c .before .read-constant .ensures .fits) ∙ fits);
         dated = λ e. c .before .read-constant .ensures .dated (sym typed ∙ e);
       };
       hit = refl;

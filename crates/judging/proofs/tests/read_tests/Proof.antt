@@ -20,7 +20,9 @@ returns-2 c = λ text d pr. absurd (omega (arith, pr .few, c .if2 .taken))
 returns-3 : tie.Need-returns-3
 returns-3 c =
     let a = c .before .before .before .before .before .before .before .before .before .before .before .before .before .before .before .args in
-    λ text d pr. tests-read text (a .tables .now) (a .query .now) (a .s) (a .ops .now) (a .columns .now) d pr (omega (arith, pr .few, c .before .before .before .before .before .store-tests-arg .given .0)) _ _ _ _ (c .store-tests .ensures) (c .before .before .before .before .before .before .store-program .ensures)
+    λ text d pr. tests-read text (a .tables .now) (a .query .now) (a .s) (a .ops .now) (a .columns .now) d pr
+    (omega (arith, pr .few, c .before .before .before .before .before .store-tests-arg .given .0)) _ _ _ _ (c .store-tests .ensures)
+    (c .before .before .before .before .before .before .store-program .ensures)
 
 pub read-tests-spec : {M : Type 1} → statement M
 read-tests-spec =

@@ -74,14 +74,20 @@ loop-again c =
     let l = c .before .before .before .before .before .before .before .before .before .before .loop in
     let x = c .before .before .read-test in (
       omega (arith, c .before .before .before .before .before .before .before .before .before .loop-test .taken),
-      read-more (a .tables .now) (a .s .table) (a .query .now) (a .ops .now) (a .columns .now) (a .s .chosen) (a .trues .now) (a .falses .now) (a .flips .now) (modeBy (c .before .before .before .before .before .before .before .before .before .before .before .is-certain .result)) (l .tests) _ (l .j) (x .result) (l .inv .1)
-          (subst (λ (m : Mode). TestOf (a .tables .now) (a .s .table) (a .query .now) (getD (a .ops .now) (l .j) 0) (getD (a .columns .now) (a .s .chosen + l .j) 0) (getD (a .trues .now) (l .j) 0) (getD (a .falses .now) (l .j) 0) m (x .result)) (c .before .before .before .asked-certain .ensures) (x .ensures)) (c .store-test .ensures),
+      read-more (a .tables .now) (a .s .table) (a .query .now) (a .ops .now) (a .columns .now) (a .s .chosen) (a .trues .now) (a .falses .now)
+          (a .flips .now) (modeBy (c .before .before .before .before .before .before .before .before .before .before .before .is-certain .result))
+          (l .tests) _ (l .j) (x .result) (l .inv .1)
+          (subst
+          (λ (m : Mode). TestOf (a .tables .now) (a .s .table) (a .query .now) (getD (a .ops .now) (l .j) 0) (getD (a .columns .now) (a .s .chosen + l .j) 0) (getD (a .trues .now) (l .j) 0) (getD (a .falses .now) (l .j) 0) m (x .result))
+          (c .before .before .before .asked-certain .ensures) (x .ensures)) (c .store-test .ensures),
     )
 
 returns : tie.Need-returns Inv-loop μ-loop
 returns c =
     let a = c .before .before .before .before .before .args in
-    λ j l. subst (λ (m : Mode). Reads (a .tables .now) (a .s .table) (a .query .now) (a .ops .now) (a .columns .now) (a .s .chosen) (a .trues .now) (a .falses .now) (a .flips .now) m j (testIn (c .before .loop .tests) j)) (c .before .before .is-certain .ensures) (c .before .loop .inv .1 .each j (omega (arith, l)))
+    λ j l. subst
+    (λ (m : Mode). Reads (a .tables .now) (a .s .table) (a .query .now) (a .ops .now) (a .columns .now) (a .s .chosen) (a .trues .now) (a .falses .now) (a .flips .now) m j (testIn (c .before .loop .tests) j))
+    (c .before .before .is-certain .ensures) (c .before .loop .inv .1 .each j (omega (arith, l)))
 
 pub store-tests-spec : {M : Type 1} → statement M
 store-tests-spec =

@@ -40,7 +40,9 @@ returns-2 c =
     let l = c .before .before .before .before .before .loop in
     let x = c .before .before .test-at in
     let q = c .before .is-missing-date in
-    λ small. sym (first-below (λ i. missingBy (a .query .now) (testIn (a .tests .now) i)) (a .m) (l .j) (writtenOf (a .query .now) (x .result .place)) (c .before .before .before .before .loop-test .taken) (l .inv .1) (ap (missingBy (a .query .now)) (sym (x .ensures)) ∙ missing-here (a .query .now) (x .result) (q .result) (q .ensures) (c .if2 .taken)))
+    λ small. sym (first-below (λ i. missingBy (a .query .now) (testIn (a .tests .now) i)) (a .m) (l .j) (writtenOf (a .query .now) (x .result .place))
+    (c .before .before .before .before .loop-test .taken) (l .inv .1)
+    (ap (missingBy (a .query .now)) (sym (x .ensures)) ∙ missing-here (a .query .now) (x .result) (q .result) (q .ensures) (c .if2 .taken)))
 
 add-j : tie.Need-add-j Inv-loop μ-loop
 add-j c = search needs

@@ -38,7 +38,12 @@ enum-known-w c = search needs
 
 returns-2 : tie.Need-returns-2 Inv-loop μ-loop
 unfolding firstWrong
-returns-2 c = λ s small. sym (first-below (λ i. wrongBy s (testIn (c .before .before .before .before .before .before .before .before .args .tests .now) i)) (c .before .before .before .before .before .before .before .before .args .m) (c .before .before .before .before .before .before .before .loop .j) (writtenOf s (c .before .w .given .0 .0)) (c .before .before .before .before .before .before .loop-test .taken) (c .before .before .before .before .before .before .before .loop .inv .1 s) (sym (ap (offendingValue s) (sym (c .before .w .given .1)) ∙ c .before .before .before .wrong-test .ensures s ∙ ap (wrongBy s) (c .before .before .before .before .test-at .ensures))))
+returns-2 c = λ s small. sym (first-below
+    (λ i. wrongBy s (testIn (c .before .before .before .before .before .before .before .before .args .tests .now) i))
+    (c .before .before .before .before .before .before .before .before .args .m) (c .before .before .before .before .before .before .before .loop .j)
+    (writtenOf s (c .before .w .given .0 .0)) (c .before .before .before .before .before .before .loop-test .taken)
+    (c .before .before .before .before .before .before .before .loop .inv .1 s)
+    (sym (ap (offendingValue s) (sym (c .before .w .given .1)) ∙ c .before .before .before .wrong-test .ensures s ∙ ap (wrongBy s) (c .before .before .before .before .test-at .ensures))))
 
 enum-told : tie.Need-enum-told Inv-loop μ-loop
 enum-told c = search needs
@@ -50,7 +55,12 @@ loop-less : tie.Need-loop-less Inv-loop μ-loop
 loop-less c = omega arith
 
 loop-again : tie.Need-loop-again Inv-loop μ-loop
-loop-again c = (omega arith, λ s. below-more _ (c .before .before .before .before .before .before .loop .j) (c .before .before .before .before .before .before .loop .inv .1 s) (sym (ap (offendingValue s) (sym (c .enum-told .given .1)) ∙ c .before .before .wrong-test .ensures s ∙ ap (wrongBy s) (c .before .before .before .test-at .ensures))))
+loop-again c = (
+  omega arith,
+  λ s. below-more _ (c .before .before .before .before .before .before .loop .j)
+      (c .before .before .before .before .before .before .loop .inv .1 s)
+      (sym (ap (offendingValue s) (sym (c .enum-told .given .1)) ∙ c .before .before .wrong-test .ensures s ∙ ap (wrongBy s) (c .before .before .before .test-at .ensures))),
+)
 
 returns-3 : tie.Need-returns-3 Inv-loop μ-loop
 unfolding firstWrong

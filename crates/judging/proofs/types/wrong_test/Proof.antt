@@ -21,10 +21,14 @@ returns : tie.Need-returns
 returns c = λ s. wrong-operator s (c .before .before .before .before .args .x) (c .before .takes-op .result) (c .before .takes-op .ensures ∙ (λ i. takes (c .before .before .before .kind-by .ensures i) (c .before .before .op-by .ensures i))) (not-true (c .before .takes-op .result) (c .if1 .taken))
 
 returns-2 : tie.Need-returns-2
-returns-2 c = λ s. wrong-nothing s (c .before .before .before .before .before .before .args .x) (c .before .before .before .takes-op .result) (c .before .before .before .takes-op .ensures ∙ (λ i. takes (c .before .before .before .before .before .kind-by .ensures i) (c .before .before .before .before .op-by .ensures i))) (not-false (c .before .before .before .takes-op .result) (c .before .before .if1 .left)) (c .if2 .taken)
+returns-2 c = λ s. wrong-nothing s (c .before .before .before .before .before .before .args .x) (c .before .before .before .takes-op .result)
+    (c .before .before .before .takes-op .ensures ∙ (λ i. takes (c .before .before .before .before .before .kind-by .ensures i) (c .before .before .before .before .op-by .ensures i)))
+    (not-false (c .before .before .before .takes-op .result) (c .before .before .if1 .left)) (c .if2 .taken)
 
 returns-3 : tie.Need-returns-3
-returns-3 c = λ s. wrong-value s (c .before .before .before .before .before .before .args .x) (c .before .before .before .takes-op .result) (c .before .before .before .takes-op .ensures ∙ (λ i. takes (c .before .before .before .before .before .kind-by .ensures i) (c .before .before .before .before .op-by .ensures i))) (not-false (c .before .before .before .takes-op .result) (c .before .before .if1 .left)) (c .if2 .left)
+returns-3 c = λ s. wrong-value s (c .before .before .before .before .before .before .args .x) (c .before .before .before .takes-op .result)
+    (c .before .before .before .takes-op .ensures ∙ (λ i. takes (c .before .before .before .before .before .kind-by .ensures i) (c .before .before .before .before .op-by .ensures i)))
+    (not-false (c .before .before .before .takes-op .result) (c .before .before .if1 .left)) (c .if2 .left)
 
 pub wrong-test-spec : {M : Type 1} → statement M
 wrong-test-spec =

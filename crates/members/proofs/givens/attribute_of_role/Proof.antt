@@ -23,7 +23,9 @@ enum-told c = search needs
 
 returns : tie.Need-returns
 unfolding hasAttribute holdsOf
-returns c = λ text d a m h e. c .role-below .ensures text (d .roles) m ∙ ap (holdsOf (descends (treeOf (d .roles)) (c .before .before .before .before .before .args .role))) (sym (ap foundAs (c .before .before .at .given .1)) ∙ c .before .before .before .before .attribute-role .ensures text (d .attributes) a h e)
+returns c = λ text d a m h e. c .role-below .ensures text (d .roles) m ∙ ap
+    (holdsOf (descends (treeOf (d .roles)) (c .before .before .before .before .before .args .role)))
+    (sym (ap foundAs (c .before .before .at .given .1)) ∙ c .before .before .before .before .attribute-role .ensures text (d .attributes) a h e)
 
 returns-2 : tie.Need-returns-2
 unfolding hasAttribute holdsOf

@@ -43,19 +43,42 @@ value-fits-requires : tie.Need-value-fits-requires Inv-loop μ-loop
 value-fits-requires c κs = search needs
 
 returns : tie.Need-returns Inv-loop μ-loop
-returns c = (λ d h. sym (typed-here d (c .before .before .before .before .before .before .before .before .before .args .line .now) (c .before .before .before .before .before .before .loop .j) (c .before .before .before .first-in .result) (c .before .before .second-in .result) (sym (c .before .before .before .before .before .byte-at .ensures) ∙ c .before .before .before .before .if1 .taken) (c .before .before .before .first-in .ensures) (c .before .before .second-in .ensures) (sym (c .before .value-fits .ensures d h) ∙ not-true _ (c .if2 .taken))) ∙ c .before .before .before .before .before .before .loop .inv d h, omega (arith, second-near (c .before .before .before .before .before .before .before .before .before .args .line .now) (c .before .before .before .before .before .before .loop .j) (sym (c .before .before .before .before .before .byte-at .ensures) ∙ c .before .before .before .before .if1 .taken), (c .before .before .second-in .ensures)))
+returns c = let entry = c .before .before .before .before .before .before .before .before .before .args in (
+  λ d h. sym (typed-here d
+      (entry .line .now) (c .before .before .before .before .before .before .loop .j) (c .before .before .before .first-in .result)
+      (c .before .before .second-in .result)
+      (sym (c .before .before .before .before .before .byte-at .ensures) ∙ c .before .before .before .before .if1 .taken)
+      (c .before .before .before .first-in .ensures) (c .before .before .second-in .ensures)
+      (sym (c .before .value-fits .ensures d h) ∙ not-true _ (c .if2 .taken))) ∙ c .before .before .before .before .before .before .loop .inv d h,
+  omega (
+    arith,
+    second-near (entry .line .now) (c .before .before .before .before .before .before .loop .j)
+        (sym (c .before .before .before .before .before .byte-at .ensures) ∙ c .before .before .before .before .if1 .taken),
+    (c .before .before .second-in .ensures),
+  ),
+)
 
 add-pair-end : tie.Need-add-pair-end Inv-loop μ-loop
-add-pair-end c = omega (arith, space-here (c .before .before .before .before .before .before .before .before .before .args .line .now) (c .before .before .before .before .before .before .loop .j) (sym (c .before .before .before .before .before .byte-at .ensures) ∙ c .before .before .before .before .if1 .taken))
+add-pair-end c = omega
+    (arith, space-here (c .before .before .before .before .before .before .before .before .before .args .line .now) (c .before .before .before .before .before .before .loop .j) (sym (c .before .before .before .before .before .byte-at .ensures) ∙ c .before .before .before .before .if1 .taken))
 
 pair-end-requires : tie.Need-pair-end-requires Inv-loop μ-loop
 pair-end-requires c κs = search needs
 
 loop-less : tie.Need-loop-less Inv-loop μ-loop
-loop-less c = pair-less (c .before .before .before .before .before .before .before .before .before .before .args .line .now) (c .before .before .before .before .before .before .before .loop .j) (sym (c .before .before .before .before .before .before .byte-at .ensures) ∙ c .before .before .before .before .before .if1 .taken) (c .pair-end .result) (c .pair-end .ensures)
+loop-less c = pair-less (c .before .before .before .before .before .before .before .before .before .before .args .line .now)
+    (c .before .before .before .before .before .before .before .loop .j)
+    (sym (c .before .before .before .before .before .before .byte-at .ensures) ∙ c .before .before .before .before .before .if1 .taken)
+    (c .pair-end .result) (c .pair-end .ensures)
 
 loop-again : tie.Need-loop-again Inv-loop μ-loop
-loop-again c = λ d h. typed-onward d (c .before .before .before .before .before .before .before .before .before .before .args .line .now) (c .before .before .before .before .before .before .before .loop .j) (c .before .before .before .before .first-in .result) (c .before .before .before .second-in .result) (sym (c .before .before .before .before .before .before .byte-at .ensures) ∙ c .before .before .before .before .before .if1 .taken) (c .before .before .before .before .first-in .ensures) (c .before .before .before .second-in .ensures) (c .pair-end .result) (c .pair-end .ensures) (sym (c .before .before .value-fits .ensures d h) ∙ not-false _ (c .before .if2 .left)) ∙ c .before .before .before .before .before .before .before .loop .inv d h
+loop-again c = λ d h. typed-onward d (c .before .before .before .before .before .before .before .before .before .before .args .line .now)
+    (c .before .before .before .before .before .before .before .loop .j) (c .before .before .before .before .first-in .result)
+    (c .before .before .before .second-in .result)
+    (sym (c .before .before .before .before .before .before .byte-at .ensures) ∙ c .before .before .before .before .before .if1 .taken)
+    (c .before .before .before .before .first-in .ensures) (c .before .before .before .second-in .ensures) (c .pair-end .result)
+    (c .pair-end .ensures)
+    (sym (c .before .before .value-fits .ensures d h) ∙ not-false _ (c .before .if2 .left)) ∙ c .before .before .before .before .before .before .before .loop .inv d h
 
 returns-2 : tie.Need-returns-2 Inv-loop μ-loop
 returns-2 c = (λ d h. sym (typed-over d (c .before .before .before .before .before .args .line .now) (c .before .before .loop .j) (λ e. c .if1 .left (c .before .byte-at .ensures ∙ e))) ∙ c .before .before .loop .inv d h, tt)

@@ -37,7 +37,18 @@ attribute-known-requires : tie.Need-attribute-known-requires Inv-loop μ-loop
 attribute-known-requires c κs = search needs
 
 returns : tie.Need-returns Inv-loop μ-loop
-returns c = (λ d h. sym (missing-found (λ w. there (attributeOf d w)) (c .before .before .before .before .before .before .before .before .args .line .now) (c .before .before .before .before .before .loop .j) (c .before .before .first-in .result) (sym (c .before .before .before .before .byte-at .ensures) ∙ c .before .before .before .if1 .taken) (c .before .before .first-in .ensures) (sym (c .before .attribute-known .ensures d h) ∙ not-true _ (c .if2 .taken))) ∙ c .before .before .before .before .before .loop .inv d h, omega (arith, first-near (c .before .before .before .before .before .before .before .before .args .line .now) (c .before .before .before .before .before .loop .j) (sym (c .before .before .before .before .byte-at .ensures) ∙ c .before .before .before .if1 .taken), (c .before .before .first-in .ensures)))
+returns c = let entry = c .before .before .before .before .before .before .before .before .args in (
+  λ d h. sym (missing-found
+      (λ w. there (attributeOf d w)) (entry .line .now) (c .before .before .before .before .before .loop .j) (c .before .before .first-in .result)
+      (sym (c .before .before .before .before .byte-at .ensures) ∙ c .before .before .before .if1 .taken) (c .before .before .first-in .ensures)
+      (sym (c .before .attribute-known .ensures d h) ∙ not-true _ (c .if2 .taken))) ∙ c .before .before .before .before .before .loop .inv d h,
+  omega (
+    arith,
+    first-near (entry .line .now) (c .before .before .before .before .before .loop .j)
+        (sym (c .before .before .before .before .byte-at .ensures) ∙ c .before .before .before .if1 .taken),
+    (c .before .before .first-in .ensures),
+  ),
+)
 
 add-pair-end : tie.Need-add-pair-end Inv-loop μ-loop
 add-pair-end c = omega (arith, space-here (c .before .before .before .before .before .before .before .before .args .line .now) (c .before .before .before .before .before .loop .j) (sym (c .before .before .before .before .byte-at .ensures) ∙ c .before .before .before .if1 .taken))
@@ -46,10 +57,18 @@ pair-end-requires : tie.Need-pair-end-requires Inv-loop μ-loop
 pair-end-requires c κs = search needs
 
 loop-less : tie.Need-loop-less Inv-loop μ-loop
-loop-less c = pair-less (c .before .before .before .before .before .before .before .before .before .args .line .now) (c .before .before .before .before .before .before .loop .j) (sym (c .before .before .before .before .before .byte-at .ensures) ∙ c .before .before .before .before .if1 .taken) (c .pair-end .result) (c .pair-end .ensures)
+loop-less c = pair-less (c .before .before .before .before .before .before .before .before .before .args .line .now)
+    (c .before .before .before .before .before .before .loop .j)
+    (sym (c .before .before .before .before .before .byte-at .ensures) ∙ c .before .before .before .before .if1 .taken) (c .pair-end .result)
+    (c .pair-end .ensures)
 
 loop-again : tie.Need-loop-again Inv-loop μ-loop
-loop-again c = λ d h. missing-onward (λ w. there (attributeOf d w)) (c .before .before .before .before .before .before .before .before .before .args .line .now) (c .before .before .before .before .before .before .loop .j) (c .before .before .before .first-in .result) (sym (c .before .before .before .before .before .byte-at .ensures) ∙ c .before .before .before .before .if1 .taken) (c .before .before .before .first-in .ensures) (c .pair-end .result) (c .pair-end .ensures) (sym (c .before .before .attribute-known .ensures d h) ∙ not-false _ (c .before .if2 .left)) ∙ c .before .before .before .before .before .before .loop .inv d h
+loop-again c = λ d h. missing-onward (λ w. there (attributeOf d w))
+    (c .before .before .before .before .before .before .before .before .before .args .line .now)
+    (c .before .before .before .before .before .before .loop .j) (c .before .before .before .first-in .result)
+    (sym (c .before .before .before .before .before .byte-at .ensures) ∙ c .before .before .before .before .if1 .taken)
+    (c .before .before .before .first-in .ensures) (c .pair-end .result) (c .pair-end .ensures)
+    (sym (c .before .before .attribute-known .ensures d h) ∙ not-false _ (c .before .if2 .left)) ∙ c .before .before .before .before .before .before .loop .inv d h
 
 returns-2 : tie.Need-returns-2 Inv-loop μ-loop
 returns-2 c = (λ d h. sym (missing-over (λ w. there (attributeOf d w)) (c .before .before .before .before .before .args .line .now) (c .before .before .loop .j) (λ e. c .if1 .left (c .before .byte-at .ensures ∙ e))) ∙ c .before .before .loop .inv d h, tt)

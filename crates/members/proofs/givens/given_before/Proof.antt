@@ -25,7 +25,8 @@ byte-at-requires : tie.Need-byte-at-requires Inv-loop μ-loop
 byte-at-requires c κs = search needs
 
 returns : tie.Need-returns Inv-loop μ-loop
-returns c = sym (among-over (sameWord (wordOf (c .before .before .before .before .before .args .line .now) (c .before .before .before .before .before .args .w))) (c .before .before .before .before .before .args .line .now) (c .before .before .before .loop .j) (c .before .before .before .before .before .args .n - c .before .before .before .loop .i) (λ e. c .if1 .taken (c .before .byte-at .ensures ∙ e))) ∙ c .before .before .before .loop .inv .1
+returns c = let entry = c .before .before .before .before .before .args in sym
+    (among-over (sameWord (wordOf (entry .line .now) (entry .w))) (entry .line .now) (c .before .before .before .loop .j) (entry .n - c .before .before .before .loop .i) (λ e. c .if1 .taken (c .before .byte-at .ensures ∙ e))) ∙ c .before .before .before .loop .inv .1
 
 add-first-in : tie.Need-add-first-in Inv-loop μ-loop
 add-first-in c = omega (arith, space-here (c .before .before .before .before .before .args .line .now) (c .before .before .before .loop .j) (sym (c .before .byte-at .ensures) ∙ c .if1 .left))
@@ -38,7 +39,11 @@ same-name-requires c κs = search needs
 
 returns-2 : tie.Need-returns-2 Inv-loop μ-loop
 unfolding isCalled
-returns-2 c = sym (among-here (sameWord (wordOf (c .before .before .before .before .before .before .before .before .args .line .now) (c .before .before .before .before .before .before .before .before .args .w))) (c .before .before .before .before .before .before .before .before .args .line .now) (c .before .before .before .before .before .before .loop .j) (c .before .before .first-in .result) (c .before .before .before .before .before .before .before .before .args .n) (c .before .before .before .before .before .before .loop .i) (sym (c .before .before .before .before .byte-at .ensures) ∙ c .before .before .before .if1 .left) (c .before .before .first-in .ensures) (omega arith) (sym (c .before .same-name .ensures) ∙ c .if2 .taken)) ∙ c .before .before .before .before .before .before .loop .inv .1
+returns-2 c = let entry = c .before .before .before .before .before .before .before .before .args in sym (among-here
+    (sameWord (wordOf (entry .line .now) (entry .w))) (entry .line .now) (c .before .before .before .before .before .before .loop .j)
+    (c .before .before .first-in .result) (entry .n) (c .before .before .before .before .before .before .loop .i)
+    (sym (c .before .before .before .before .byte-at .ensures) ∙ c .before .before .before .if1 .left) (c .before .before .first-in .ensures)
+    (omega arith) (sym (c .before .same-name .ensures) ∙ c .if2 .taken)) ∙ c .before .before .before .before .before .before .loop .inv .1
 
 add-pair-end : tie.Need-add-pair-end Inv-loop μ-loop
 add-pair-end c = omega (arith, space-here (c .before .before .before .before .before .before .before .before .args .line .now) (c .before .before .before .before .before .before .loop .j) (sym (c .before .before .before .before .byte-at .ensures) ∙ c .before .before .before .if1 .left))
@@ -54,10 +59,18 @@ loop-less c = omega arith
 
 loop-again : tie.Need-loop-again Inv-loop μ-loop
 unfolding isCalled
-loop-again c = (omega arith, among-onward (sameWord (wordOf (c .before .before .before .before .before .before .before .before .before .args .line .now) (c .before .before .before .before .before .before .before .before .before .args .w))) (c .before .before .before .before .before .before .before .before .before .args .line .now) (c .before .before .before .before .before .before .before .loop .j) (c .before .before .before .first-in .result) (c .before .before .before .before .before .before .before .before .before .args .n) (c .before .before .before .before .before .before .before .loop .i) (sym (c .before .before .before .before .before .byte-at .ensures) ∙ c .before .before .before .before .if1 .left) (c .before .before .before .first-in .ensures) (omega arith) (c .pair-end .result) (c .pair-end .ensures) (sym (c .before .before .same-name .ensures) ∙ c .before .if2 .left) ∙ c .before .before .before .before .before .before .before .loop .inv .1)
+loop-again c = let entry = c .before .before .before .before .before .before .before .before .before .args in (
+  omega arith,
+  among-onward
+      (sameWord (wordOf (entry .line .now) (entry .w))) (entry .line .now) (c .before .before .before .before .before .before .before .loop .j)
+      (c .before .before .before .first-in .result) (entry .n) (c .before .before .before .before .before .before .before .loop .i)
+      (sym (c .before .before .before .before .before .byte-at .ensures) ∙ c .before .before .before .before .if1 .left)
+      (c .before .before .before .first-in .ensures) (omega arith) (c .pair-end .result) (c .pair-end .ensures)
+      (sym (c .before .before .same-name .ensures) ∙ c .before .if2 .left) ∙ c .before .before .before .before .before .before .before .loop .inv .1,
+)
 
 returns-3 : tie.Need-returns-3 Inv-loop μ-loop
-returns-3 c = sym (among-none (sameWord (wordOf (c .before .before .before .args .line .now) (c .before .before .before .args .w))) (givenNames (c .before .before .before .args .line .now) (c .before .loop .j)) (c .before .before .before .args .n - c .before .loop .i) (omega arith)) ∙ c .before .loop .inv .1
+returns-3 c = let entry = c .before .before .before .args in sym (among-none (sameWord (wordOf (entry .line .now) (entry .w))) (givenNames (entry .line .now) (c .before .loop .j)) (entry .n - c .before .loop .i) (omega arith)) ∙ c .before .loop .inv .1
 
 pub given-before-spec : {M : Type 1} → statement M
 given-before-spec =

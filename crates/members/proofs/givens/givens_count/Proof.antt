@@ -35,7 +35,12 @@ loop-less : tie.Need-loop-less Inv-loop μ-loop
 loop-less c = pair-less (c .before .before .before .before .before .args .line .now) (c .before .before .before .loop .j) (sym (c .before .before .byte-at .ensures) ∙ c .before .if1 .taken) (c .pair-end .result) (c .pair-end .ensures)
 
 loop-again : tie.Need-loop-again Inv-loop μ-loop
-loop-again c = (omega (arith, (c .pair-end .ensures), pair-after (c .before .before .before .before .before .args .line .now) (c .before .before .before .loop .j)), omega (arith, ap (λ x. length (givensAt (c .before .before .before .before .before .args .line .now) x)) (c .pair-end .ensures), ap length (givens-more (c .before .before .before .before .before .args .line .now) (c .before .before .before .loop .j) (sym (c .before .before .byte-at .ensures) ∙ c .before .if1 .taken))))
+loop-again c = let entry = c .before .before .before .before .before .args in (
+  omega
+      (arith, (c .pair-end .ensures), pair-after (entry .line .now) (c .before .before .before .loop .j)),
+  omega
+      (arith, ap (λ x. length (givensAt (entry .line .now) x)) (c .pair-end .ensures), ap length (givens-more (entry .line .now) (c .before .before .before .loop .j) (sym (c .before .before .byte-at .ensures) ∙ c .before .if1 .taken))),
+)
 
 returns : tie.Need-returns Inv-loop μ-loop
 returns c = omega (arith, ap length (givens-stop (c .before .before .before .before .args .line .now) (c .before .before .loop .j) (λ e. c .if1 .left (c .before .byte-at .ensures ∙ e))))

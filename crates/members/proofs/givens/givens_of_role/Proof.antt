@@ -37,7 +37,10 @@ names-attribute-of-requires : tie.Need-names-attribute-of-requires Inv-loop μ-l
 names-attribute-of-requires c κs = search needs
 
 returns : tie.Need-returns Inv-loop μ-loop
-returns c = λ d m h. sym (all-here (isAttributeOf d (c .before .before .before .before .before .before .before .before .args .role)) (c .before .before .before .before .before .before .before .before .args .line .now) (c .before .before .before .before .before .loop .j) (c .before .before .first-in .result) (sym (c .before .before .before .before .byte-at .ensures) ∙ c .before .before .before .if1 .taken) (c .before .before .first-in .ensures) (sym (c .before .names-attribute-of .ensures d m h) ∙ not-true _ (c .if2 .taken))) ∙ c .before .before .before .before .before .loop .inv d m h
+returns c = let entry = c .before .before .before .before .before .before .before .before .args in λ d m h. sym (all-here
+    (isAttributeOf d (entry .role)) (entry .line .now) (c .before .before .before .before .before .loop .j) (c .before .before .first-in .result)
+    (sym (c .before .before .before .before .byte-at .ensures) ∙ c .before .before .before .if1 .taken) (c .before .before .first-in .ensures)
+    (sym (c .before .names-attribute-of .ensures d m h) ∙ not-true _ (c .if2 .taken))) ∙ c .before .before .before .before .before .loop .inv d m h
 
 add-pair-end : tie.Need-add-pair-end Inv-loop μ-loop
 add-pair-end c = omega (arith, space-here (c .before .before .before .before .before .before .before .before .args .line .now) (c .before .before .before .before .before .loop .j) (sym (c .before .before .before .before .byte-at .ensures) ∙ c .before .before .before .if1 .taken))
@@ -46,13 +49,21 @@ pair-end-requires : tie.Need-pair-end-requires Inv-loop μ-loop
 pair-end-requires c κs = search needs
 
 loop-less : tie.Need-loop-less Inv-loop μ-loop
-loop-less c = pair-less (c .before .before .before .before .before .before .before .before .before .args .line .now) (c .before .before .before .before .before .before .loop .j) (sym (c .before .before .before .before .before .byte-at .ensures) ∙ c .before .before .before .before .if1 .taken) (c .pair-end .result) (c .pair-end .ensures)
+loop-less c = pair-less (c .before .before .before .before .before .before .before .before .before .args .line .now)
+    (c .before .before .before .before .before .before .loop .j)
+    (sym (c .before .before .before .before .before .byte-at .ensures) ∙ c .before .before .before .before .if1 .taken) (c .pair-end .result)
+    (c .pair-end .ensures)
 
 loop-again : tie.Need-loop-again Inv-loop μ-loop
-loop-again c = λ d m h. all-onward (isAttributeOf d (c .before .before .before .before .before .before .before .before .before .args .role)) (c .before .before .before .before .before .before .before .before .before .args .line .now) (c .before .before .before .before .before .before .loop .j) (c .before .before .before .first-in .result) (sym (c .before .before .before .before .before .byte-at .ensures) ∙ c .before .before .before .before .if1 .taken) (c .before .before .before .first-in .ensures) (c .pair-end .result) (c .pair-end .ensures) (sym (c .before .before .names-attribute-of .ensures d m h) ∙ not-false _ (c .before .if2 .left)) ∙ c .before .before .before .before .before .before .loop .inv d m h
+loop-again c = let entry = c .before .before .before .before .before .before .before .before .before .args in λ d m h. all-onward
+    (isAttributeOf d (entry .role)) (entry .line .now) (c .before .before .before .before .before .before .loop .j)
+    (c .before .before .before .first-in .result)
+    (sym (c .before .before .before .before .before .byte-at .ensures) ∙ c .before .before .before .before .if1 .taken)
+    (c .before .before .before .first-in .ensures) (c .pair-end .result) (c .pair-end .ensures)
+    (sym (c .before .before .names-attribute-of .ensures d m h) ∙ not-false _ (c .before .if2 .left)) ∙ c .before .before .before .before .before .before .loop .inv d m h
 
 returns-2 : tie.Need-returns-2 Inv-loop μ-loop
-returns-2 c = λ d m h. sym (all-over (isAttributeOf d (c .before .before .before .before .before .args .role)) (c .before .before .before .before .before .args .line .now) (c .before .before .loop .j) (λ e. c .if1 .left (c .before .byte-at .ensures ∙ e))) ∙ c .before .before .loop .inv d m h
+returns-2 c = let entry = c .before .before .before .before .before .args in λ d m h. sym (all-over (isAttributeOf d (entry .role)) (entry .line .now) (c .before .before .loop .j) (λ e. c .if1 .left (c .before .byte-at .ensures ∙ e))) ∙ c .before .before .loop .inv d m h
 
 pub givens-of-role-spec : {M : Type 1} → statement M
 givens-of-role-spec =

@@ -50,31 +50,76 @@ same-length c = omega (arith, c .before .before .before .before .before .before 
 
 returns : tie.Need-returns Inv-loop μ-loop
 returns c =
-    sym (repeats-here (c .before .before .before .before .before .before .before .before .before .before .before .before .before .args .line .now) (c .before .before .before .before .before .before .before .before .before .before .loop .j) (c .before .before .before .before .before .before .before .first-in .result) (c .before .before .before .before .before .before .before .before .before .before .loop .n) (givenNames (c .before .before .before .before .before .before .before .before .before .before .before .before .before .args .line .now) (c .before .before .before .before .before .before .before .before .before .before .before .before .before .args .gs)) (sym (c .before .before .before .before .before .before .before .before .before .byte-at .ensures) ∙ c .before .before .before .before .before .before .before .before .if1 .taken) (c .before .before .before .before .before .before .before .first-in .ensures) (c .before .before .before .before .before .before .before .before .before .before .loop .inv .1) (sym (c .before .given-before .ensures) ∙ c .if3 .taken)) ∙ ap there (c .before .before .before .before .before .before .before .before .before .before .loop .inv .2)
+    sym (repeats-here (c .before .before .before .before .before .before .before .before .before .before .before .before .before .args .line .now)
+    (c .before .before .before .before .before .before .before .before .before .before .loop .j)
+    (c .before .before .before .before .before .before .before .first-in .result)
+    (c .before .before .before .before .before .before .before .before .before .before .loop .n)
+    (givenNames (c .before .before .before .before .before .before .before .before .before .before .before .before .before .args .line .now) (c .before .before .before .before .before .before .before .before .before .before .before .before .before .args .gs))
+    (sym (c .before .before .before .before .before .before .before .before .before .byte-at .ensures) ∙ c .before .before .before .before .before .before .before .before .if1 .taken)
+    (c .before .before .before .before .before .before .before .first-in .ensures)
+    (c .before .before .before .before .before .before .before .before .before .before .loop .inv .1)
+    (sym (c .before .given-before .ensures) ∙ c .if3 .taken)) ∙ ap there
+    (c .before .before .before .before .before .before .before .before .before .before .loop .inv .2)
 
 add-pair-end : tie.Need-add-pair-end Inv-loop μ-loop
-add-pair-end c = omega (arith, space-here (c .before .before .before .before .before .before .before .before .before .before .before .args .line .now) (c .before .before .before .before .before .before .before .before .loop .j) (sym (c .before .before .before .before .before .before .before .byte-at .ensures) ∙ c .before .before .before .before .before .before .if1 .taken))
+add-pair-end c = omega (
+  arith,
+  space-here (c .before .before .before .before .before .before .before .before .before .before .before .args .line .now)
+      (c .before .before .before .before .before .before .before .before .loop .j)
+      (sym (c .before .before .before .before .before .before .before .byte-at .ensures) ∙ c .before .before .before .before .before .before .if1 .taken),
+)
 
 pair-end-requires : tie.Need-pair-end-requires Inv-loop μ-loop
 pair-end-requires c κs = search needs
 
 -- the name is none of those before: it is surely new, or it was compared with them
-absent : (c : tie.Joined2 Inv-loop μ-loop) → anyOf (λ v. isCalled (wordOf (c .before .before .before .before .before .before .before .before .before .before .before .args .line .now) (c .before .before .before .before .before .first-in .result)) (v .bytes)) (take (c .before .before .before .before .before .before .before .before .loop .n) (givenNames (c .before .before .before .before .before .before .before .before .before .before .before .args .line .now) (c .before .before .before .before .before .before .before .before .before .before .before .args .gs))) ≡ false
+absent : (c : tie.Joined2 Inv-loop μ-loop) → anyOf (λ v. isCalled
+    (wordOf (c .before .before .before .before .before .before .before .before .before .before .before .args .line .now) (c .before .before .before .before .before .first-in .result))
+    (v .bytes)) (take (c .before .before .before .before .before .before .before .before .loop .n)
+    (givenNames (c .before .before .before .before .before .before .before .before .before .before .before .args .line .now) (c .before .before .before .before .before .before .before .before .before .before .before .args .gs))) ≡ false
 absent c =
     ⊎-elim (λ v. sym (v .1 .ensures) ∙ v .2 .left) (λ v. c .before .before .before .is-new .ensures .none _ (c .before .before .before .before .before .before .before .before .loop .inv .3) (not-false (c .before .before .before .is-new .result) (v .left))) (c .if2 .came)
 
 add-n : tie.Need-add-n Inv-loop μ-loop
-add-n c = omega (arith, space-here (c .before .before .before .before .before .before .before .before .before .before .before .before .args .line .now) (c .before .before .before .before .before .before .before .before .before .loop .j) (sym (c .before .before .before .before .before .before .before .before .byte-at .ensures) ∙ c .before .before .before .before .before .before .before .if1 .taken), c .before .before .before .before .before .before .before .before .before .loop .inv .0)
+add-n c = omega (
+  arith,
+  space-here
+      (c .before .before .before .before .before .before .before .before .before .before .before .before .args .line .now)
+      (c .before .before .before .before .before .before .before .before .before .loop .j)
+      (sym (c .before .before .before .before .before .before .before .before .byte-at .ensures) ∙ c .before .before .before .before .before .before .before .if1 .taken),
+  c .before .before .before .before .before .before .before .before .before .loop .inv .0,
+)
 
 loop-less : tie.Need-loop-less Inv-loop μ-loop
-loop-less c = pair-less (c .before .before .before .before .before .before .before .before .before .before .before .before .args .line .now) (c .before .before .before .before .before .before .before .before .before .loop .j) (sym (c .before .before .before .before .before .before .before .before .byte-at .ensures) ∙ c .before .before .before .before .before .before .before .if1 .taken) (c .pair-end .result) (c .pair-end .ensures)
+loop-less c = pair-less (c .before .before .before .before .before .before .before .before .before .before .before .before .args .line .now)
+    (c .before .before .before .before .before .before .before .before .before .loop .j)
+    (sym (c .before .before .before .before .before .before .before .before .byte-at .ensures) ∙ c .before .before .before .before .before .before .before .if1 .taken)
+    (c .pair-end .result) (c .pair-end .ensures)
 
 loop-again : tie.Need-loop-again Inv-loop μ-loop
-loop-again c = (
-  omega (arith, c .pair-end .ensures, pair-after (c .before .before .before .before .before .before .before .before .before .before .before .before .args .line .now) (c .before .before .before .before .before .before .before .before .before .loop .j), c .before .before .before .before .before .before .before .before .before .loop .inv .0),
-  rest-onward (c .before .before .before .before .before .before .before .before .before .before .before .before .args .line .now) (c .before .before .before .before .before .before .before .before .before .loop .j) (c .before .before .before .before .before .before .first-in .result) (c .before .before .before .before .before .before .before .before .before .loop .n) (givenNames (c .before .before .before .before .before .before .before .before .before .before .before .before .args .line .now) (c .before .before .before .before .before .before .before .before .before .before .before .before .args .gs)) (sym (c .before .before .before .before .before .before .before .before .byte-at .ensures) ∙ c .before .before .before .before .before .before .before .if1 .taken) (c .before .before .before .before .before .before .first-in .ensures) (c .before .before .before .before .before .before .before .before .before .loop .inv .1) (c .pair-end .result) (c .pair-end .ensures),
-  repeats-onward (c .before .before .before .before .before .before .before .before .before .before .before .before .args .line .now) (c .before .before .before .before .before .before .before .before .before .loop .j) (c .before .before .before .before .before .before .first-in .result) (c .before .before .before .before .before .before .before .before .before .loop .n) (givenNames (c .before .before .before .before .before .before .before .before .before .before .before .before .args .line .now) (c .before .before .before .before .before .before .before .before .before .before .before .before .args .gs)) (sym (c .before .before .before .before .before .before .before .before .byte-at .ensures) ∙ c .before .before .before .before .before .before .before .if1 .taken) (c .before .before .before .before .before .before .first-in .ensures) (c .before .before .before .before .before .before .before .before .before .loop .inv .1) (c .pair-end .result) (c .pair-end .ensures) (absent (c .before)) ∙ c .before .before .before .before .before .before .before .before .before .loop .inv .2,
-  c .before .before .before .before .is-new .ensures .more _ _ (c .before .before .before .before .before .before .before .before .before .loop .inv .3) (tests-onward (c .before .before .before .before .before .before .before .before .before .before .before .before .args .line .now) (c .before .before .before .before .before .before .before .before .before .loop .j) (c .before .before .before .before .before .before .first-in .result) (c .before .before .before .before .before .before .before .before .before .loop .n) (givenNames (c .before .before .before .before .before .before .before .before .before .before .before .before .args .line .now) (c .before .before .before .before .before .before .before .before .before .before .before .before .args .gs)) (sym (c .before .before .before .before .before .before .before .before .byte-at .ensures) ∙ c .before .before .before .before .before .before .before .if1 .taken) (c .before .before .before .before .before .before .first-in .ensures) (c .before .before .before .before .before .before .before .before .before .loop .inv .1)),
+loop-again c = let entry = c .before .before .before .before .before .before .before .before .before .before .before .before .args in (
+  omega (arith, c .pair-end .ensures, pair-after (entry .line .now) (c .before .before .before .before .before .before .before .before .before .loop .j), c .before .before .before .before .before .before .before .before .before .loop .inv .0),
+  rest-onward (entry .line .now) (c .before .before .before .before .before .before .before .before .before .loop .j)
+      (c .before .before .before .before .before .before .first-in .result)
+      (c .before .before .before .before .before .before .before .before .before .loop .n) (givenNames (entry .line .now) (entry .gs))
+      (sym (c .before .before .before .before .before .before .before .before .byte-at .ensures) ∙ c .before .before .before .before .before .before .before .if1 .taken)
+      (c .before .before .before .before .before .before .first-in .ensures)
+      (c .before .before .before .before .before .before .before .before .before .loop .inv .1) (c .pair-end .result) (c .pair-end .ensures),
+  repeats-onward (entry .line .now) (c .before .before .before .before .before .before .before .before .before .loop .j)
+      (c .before .before .before .before .before .before .first-in .result)
+      (c .before .before .before .before .before .before .before .before .before .loop .n) (givenNames (entry .line .now) (entry .gs))
+      (sym (c .before .before .before .before .before .before .before .before .byte-at .ensures) ∙ c .before .before .before .before .before .before .before .if1 .taken)
+      (c .before .before .before .before .before .before .first-in .ensures)
+      (c .before .before .before .before .before .before .before .before .before .loop .inv .1) (c .pair-end .result) (c .pair-end .ensures)
+      (absent (c .before)) ∙ c .before .before .before .before .before .before .before .before .before .loop .inv .2,
+  c .before .before .before .before .is-new .ensures .more _ _
+      (c .before .before .before .before .before .before .before .before .before .loop .inv .3) (tests-onward (entry .line .now)
+      (c .before .before .before .before .before .before .before .before .before .loop .j)
+      (c .before .before .before .before .before .before .first-in .result)
+      (c .before .before .before .before .before .before .before .before .before .loop .n) (givenNames (entry .line .now) (entry .gs))
+      (sym (c .before .before .before .before .before .before .before .before .byte-at .ensures) ∙ c .before .before .before .before .before .before .before .if1 .taken)
+      (c .before .before .before .before .before .before .first-in .ensures)
+      (c .before .before .before .before .before .before .before .before .before .loop .inv .1)),
   omega (arith, c .before .before .before .before .before .before .before .before .before .loop .inv .4),
 )
 
@@ -83,7 +128,9 @@ same-length-2 c = c .before .before .loop .inv .4
 
 returns-2 : tie.Need-returns-2 Inv-loop μ-loop
 returns-2 c =
-    sym (repeats-over (c .before .before .before .before .before .args .line .now) (c .before .before .loop .j) (take (c .before .before .loop .n) (givenNames (c .before .before .before .before .before .args .line .now) (c .before .before .before .before .before .args .gs))) (λ e. c .if1 .left (c .before .byte-at .ensures ∙ e))) ∙ ap there (c .before .before .loop .inv .2)
+    sym (repeats-over (c .before .before .before .before .before .args .line .now) (c .before .before .loop .j)
+    (take (c .before .before .loop .n) (givenNames (c .before .before .before .before .before .args .line .now) (c .before .before .before .before .before .args .gs)))
+    (λ e. c .if1 .left (c .before .byte-at .ensures ∙ e))) ∙ ap there (c .before .before .loop .inv .2)
 
 pub givens-repeat-by-spec : {M : Type 1} → statement M
 givens-repeat-by-spec =

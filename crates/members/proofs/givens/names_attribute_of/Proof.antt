@@ -22,11 +22,14 @@ enum-told c = search needs
 
 returns : tie.Need-returns
 unfolding attributeOf
-returns c = λ d m h. of-role-at d (wordOf (c .before .before .before .before .before .before .before .args .line .now) (c .before .before .before .before .before .before .before .args .at)) (c .before .before .before .before .before .before .before .args .role) (c .before .before .found .given .0 .0) (c .attribute-of-role .result) (sym (c .before .before .before .before .find-attribute .ensures .0 (d .attributes) h) ∙ ap foundAs (c .before .before .found .given .1)) (λ a e. c .attribute-of-role .ensures (c .before .before .before .before .before .before .before .args .text .now) d a m h e)
+returns c = let entry = c .before .before .before .before .before .before .before .args in λ d m h. of-role-at d
+    (wordOf (entry .line .now) (entry .at)) (entry .role) (c .before .before .found .given .0 .0) (c .attribute-of-role .result)
+    (sym (c .before .before .before .before .find-attribute .ensures .0 (d .attributes) h) ∙ ap foundAs (c .before .before .found .given .1))
+    (λ a e. c .attribute-of-role .ensures (entry .text .now) d a m h e)
 
 returns-2 : tie.Need-returns-2
 unfolding attributeOf
-returns-2 c = λ d m h. sym (of-role-none d (wordOf (c .before .before .before .before .before .args .line .now) (c .before .before .before .before .before .args .at)) (c .before .before .before .before .before .args .role) (sym (c .before .before .find-attribute .ensures .0 (d .attributes) h) ∙ ap foundAs (c .enum-told .given .1)))
+returns-2 c = let entry = c .before .before .before .before .before .args in λ d m h. sym (of-role-none d (wordOf (entry .line .now) (entry .at)) (entry .role) (sym (c .before .before .find-attribute .ensures .0 (d .attributes) h) ∙ ap foundAs (c .enum-told .given .1)))
 
 pub names-attribute-of-spec : {M : Type 1} → statement M
 names-attribute-of-spec =

@@ -41,13 +41,14 @@ loop-less : tie.Need-loop-less Inv-loop μ-loop
 loop-less c = omega arith
 
 loop-again : tie.Need-loop-again Inv-loop μ-loop
-loop-again c = ⊎-elim
-    (λ v. (omega arith, omega arith, omega arith, λ text d m h. omega (arith, v .1, held-more d (c .before .before .before .before .before .args .role) text (c .before .before .before .before .before .args .attributes .now) (c .before .before .before .loop .i) (sym (c .before .attribute-of-role .ensures text d (attributeIn text (c .before .before .before .before .before .args .attributes .now) (c .before .before .before .loop .i)) m h (held-at d (c .before .before .before .before .before .args .role) text (c .before .before .before .before .before .args .attributes .now) (c .before .before .before .before .before .args .k) h (c .before .before .before .loop .i) (omega arith))) ∙ v .0 .taken), c .before .before .before .loop .inv .3 text d m h)))
-    (λ v. (omega arith, omega arith, omega arith, λ text d m h. omega (arith, v .1, held-same d (c .before .before .before .before .before .args .role) text (c .before .before .before .before .before .args .attributes .now) (c .before .before .before .loop .i) (sym (c .before .attribute-of-role .ensures text d (attributeIn text (c .before .before .before .before .before .args .attributes .now) (c .before .before .before .loop .i)) m h (held-at d (c .before .before .before .before .before .args .role) text (c .before .before .before .before .before .args .attributes .now) (c .before .before .before .before .before .args .k) h (c .before .before .before .loop .i) (omega arith))) ∙ v .0 .left), c .before .before .before .loop .inv .3 text d m h)))
+loop-again c = let entry = c .before .before .before .before .before .args in ⊎-elim
+    (λ v. (omega arith, omega arith, omega arith, λ text d m h. omega (arith, v .1, held-more d (entry .role) text (entry .attributes .now) (c .before .before .before .loop .i) (sym (c .before .attribute-of-role .ensures text d (attributeIn text (entry .attributes .now) (c .before .before .before .loop .i)) m h (held-at d (entry .role) text (entry .attributes .now) (entry .k) h (c .before .before .before .loop .i) (omega arith))) ∙ v .0 .taken), c .before .before .before .loop .inv .3 text d m h)))
+    (λ v. (omega arith, omega arith, omega arith, λ text d m h. omega (arith, v .1, held-same d (entry .role) text (entry .attributes .now) (c .before .before .before .loop .i) (sym (c .before .attribute-of-role .ensures text d (attributeIn text (entry .attributes .now) (c .before .before .before .loop .i)) m h (held-at d (entry .role) text (entry .attributes .now) (entry .k) h (c .before .before .before .loop .i) (omega arith))) ∙ v .0 .left), c .before .before .before .loop .inv .3 text d m h)))
     (c .if2 .came)
 
 returns-2 : tie.Need-returns-2 Inv-loop μ-loop
-returns-2 c = λ text d m h. let e : c .before .loop .i ≡ c .before .before .before .args .k = omega arith in c .before .loop .inv .3 text d m h ∙ ap (heldOf d (c .before .before .before .args .role) text (c .before .before .before .args .attributes .now)) e ∙ sym (held-all d (c .before .before .before .args .role) text (c .before .before .before .args .attributes .now) (c .before .before .before .args .k) h)
+returns-2 c = let entry = c .before .before .before .args in λ text d m h. let e : c .before .loop .i ≡ entry .k = omega arith in c .before .loop .inv .3 text d m h ∙ ap
+    (heldOf d (entry .role) text (entry .attributes .now)) e ∙ sym (held-all d (entry .role) text (entry .attributes .now) (entry .k) h)
 
 pub role-attributes-spec : {M : Type 1} → statement M
 role-attributes-spec =

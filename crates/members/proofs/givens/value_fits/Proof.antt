@@ -26,7 +26,10 @@ returns : tie.Need-returns
 unfolding attributeOf
 returns c = λ d h.
     let a = c .before .before .before .before .before .before .before .before .args in
-    c .has-kind .ensures ∙ ap (λ k. hasKind k (wordAt (a .line .now) (a .v))) (sym (kind-at d (wordOf (a .line .now) (a .at)) (c .before .before .before .found .given .0 .0) (kindOf (c .before .attribute-kind .result)) (sym (c .before .before .before .before .before .find-attribute .ensures .0 (d .attributes) h) ∙ ap foundAs (c .before .before .before .found .given .1)) (λ x e. sym (c .before .attribute-kind .ensures (a .text .now) (d .attributes) x h e))))
+    c .has-kind .ensures ∙ ap (λ k. hasKind k (wordAt (a .line .now) (a .v))) (sym (kind-at d (wordOf (a .line .now) (a .at))
+    (c .before .before .before .found .given .0 .0) (kindOf (c .before .attribute-kind .result))
+    (sym (c .before .before .before .before .before .find-attribute .ensures .0 (d .attributes) h) ∙ ap foundAs (c .before .before .before .found .given .1))
+    (λ x e. sym (c .before .attribute-kind .ensures (a .text .now) (d .attributes) x h e))))
 
 enum-told : tie.Need-enum-told
 enum-told c = search needs
@@ -36,7 +39,9 @@ has-kind-requires-2 c κs = search needs
 
 returns-2 : tie.Need-returns-2
 unfolding attributeOf
-returns-2 c = λ d h. c .has-kind2 .ensures ∙ ap (λ k. hasKind k (wordAt (c .before .before .before .before .before .before .args .line .now) (c .before .before .before .before .before .before .args .v))) (sym (kind-none d (wordOf (c .before .before .before .before .before .before .args .line .now) (c .before .before .before .before .before .before .args .at)) (sym (c .before .before .before .find-attribute .ensures .0 (d .attributes) h) ∙ ap foundAs (c .before .enum-told .given .1))))
+returns-2 c = let entry = c .before .before .before .before .before .before .args in λ d h. c .has-kind2 .ensures ∙ ap
+    (λ k. hasKind k (wordAt (entry .line .now) (entry .v)))
+    (sym (kind-none d (wordOf (entry .line .now) (entry .at)) (sym (c .before .before .before .find-attribute .ensures .0 (d .attributes) h) ∙ ap foundAs (c .before .enum-told .given .1))))
 
 pub value-fits-spec : {M : Type 1} → statement M
 value-fits-spec =

@@ -33,7 +33,11 @@ enum-told-3 c = search needs
 returns-3 : tie.Need-returns-3
 returns-3 c =
     let a = c .before .before .before .before .before .before .before .before .before .args in
-    grant-cond (a .text .now) (a .purposes .now) (a .purposes-count) (a .conds .now) (a .conds-count) (a .k) (a .line .now) (a .p) (a .c) (omega arith) (c .before .before .before .before .before .find-purpose .result) (c .before .before .before .before .before .find-purpose .ensures .0) (c .before .before .before .enum-told2 .given .0 .0) (c .before .before .before .enum-told2 .given .1) (c .before .before .find-cond-role .result) (c .before .before .find-cond-role .ensures .0) (c .enum-told3 .given .1)
+    grant-cond (a .text .now) (a .purposes .now) (a .purposes-count) (a .conds .now) (a .conds-count) (a .k) (a .line .now) (a .p) (a .c)
+    (omega arith) (c .before .before .before .before .before .find-purpose .result)
+    (c .before .before .before .before .before .find-purpose .ensures .0) (c .before .before .before .enum-told2 .given .0 .0)
+    (c .before .before .before .enum-told2 .given .1) (c .before .before .find-cond-role .result) (c .before .before .find-cond-role .ensures .0)
+    (c .enum-told3 .given .1)
 
 enum-told-4 : tie.Need-enum-told-4
 enum-told-4 c = search needs
@@ -41,7 +45,11 @@ enum-told-4 c = search needs
 returns-4 : tie.Need-returns-4
 returns-4 c =
     let a = c .before .before .before .before .before .before .before .before .before .args in
-    grant-fine (a .text .now) (a .purposes .now) (a .purposes-count) (a .conds .now) (a .conds-count) (a .k) (a .line .now) (a .p) (a .c) (omega arith) (c .before .before .before .before .before .find-purpose .result) (c .before .before .before .before .before .find-purpose .ensures .0) (c .before .before .before .enum-told2 .given .0 .0) (c .before .before .before .enum-told2 .given .1) (c .before .before .find-cond-role .result) (c .before .before .find-cond-role .ensures .0) (c .enum-told4 .given .0 .0) (c .enum-told4 .given .1)
+    grant-fine (a .text .now) (a .purposes .now) (a .purposes-count) (a .conds .now) (a .conds-count) (a .k) (a .line .now) (a .p) (a .c)
+    (omega arith) (c .before .before .before .before .before .find-purpose .result)
+    (c .before .before .before .before .before .find-purpose .ensures .0) (c .before .before .before .enum-told2 .given .0 .0)
+    (c .before .before .before .enum-told2 .given .1) (c .before .before .find-cond-role .result) (c .before .before .find-cond-role .ensures .0)
+    (c .enum-told4 .given .0 .0) (c .enum-told4 .given .1)
 
 pub grant-fault-spec : {M : Type 1} → statement M
 grant-fault-spec =

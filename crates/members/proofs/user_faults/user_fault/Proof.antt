@@ -17,7 +17,10 @@ use Rattle.members.proofs.user_faults.user_fault.Tie as tie
 returns : tie.Need-returns
 unfolding roleOf there
 returns c = record {
-  is = λ d h. user-over d (c .before .before .before .args .line .now) (wordOf (c .before .before .before .args .line .now) (c .before .before .before .args .u)) (wordOf (c .before .before .before .args .line .now) (c .before .before .before .args .r)) (givensAt (c .before .before .before .args .line .now) (c .before .before .before .args .gs)) (omega (arith, users-length (h .2)));
+  is = λ d h. user-over d (c .before .before .before .args .line .now)
+      (wordOf (c .before .before .before .args .line .now) (c .before .before .before .args .u))
+      (wordOf (c .before .before .before .args .line .now) (c .before .before .before .args .r))
+      (givensAt (c .before .before .before .args .line .now) (c .before .before .before .args .gs)) (omega (arith, users-length (h .2)));
   roomy = tt;
   reaches = λ p. tt;
 }
@@ -34,7 +37,12 @@ enum-told c = search needs
 returns-2 : tie.Need-returns-2
 unfolding roleOf there
 returns-2 c = record {
-  is = λ d h. user-no-role d (c .before .before .before .before .before .before .args .line .now) (wordOf (c .before .before .before .before .before .before .args .line .now) (c .before .before .before .before .before .before .args .u)) (wordOf (c .before .before .before .before .before .before .args .line .now) (c .before .before .before .before .before .before .args .r)) (givensAt (c .before .before .before .before .before .before .args .line .now) (c .before .before .before .before .before .before .args .gs)) (omega (arith, users-length (h .2))) (sym (c .before .before .find-role .ensures .0 (d .policy .roles) (h .0)) ∙ ap foundAs (c .enum-told .given .1));
+  is = λ d h. user-no-role d (c .before .before .before .before .before .before .args .line .now)
+      (wordOf (c .before .before .before .before .before .before .args .line .now) (c .before .before .before .before .before .before .args .u))
+      (wordOf (c .before .before .before .before .before .before .args .line .now) (c .before .before .before .before .before .before .args .r))
+      (givensAt (c .before .before .before .before .before .before .args .line .now) (c .before .before .before .before .before .before .args .gs))
+      (omega (arith, users-length (h .2)))
+      (sym (c .before .before .find-role .ensures .0 (d .policy .roles) (h .0)) ∙ ap foundAs (c .enum-told .given .1));
   roomy = tt;
   reaches = λ p. p .1;
 }
@@ -51,7 +59,13 @@ enum-told-3 c = search needs
 returns-3 : tie.Need-returns-3
 unfolding roleOf there
 returns-3 c = record {
-  is = λ d h. user-twice d (c .before .before .before .before .before .before .before .before .before .before .args .line .now) (wordOf (c .before .before .before .before .before .before .before .before .before .before .args .line .now) (c .before .before .before .before .before .before .before .before .before .before .args .u)) (wordOf (c .before .before .before .before .before .before .before .before .before .before .args .line .now) (c .before .before .before .before .before .before .before .before .before .before .args .r)) (givensAt (c .before .before .before .before .before .before .before .before .before .before .args .line .now) (c .before .before .before .before .before .before .before .before .before .before .args .gs)) (omega (arith, users-length (h .2))) (c .before .before .before .before .role .given .0 .0) (sym (c .before .before .before .before .before .before .find-role .ensures .0 (d .policy .roles) (h .0)) ∙ ap foundAs (c .before .before .before .before .role .given .1)) (sym (ap there (c .before .before .find-user .ensures .0 (d .policy) (d .policy .users) (h .2))) ∙ ap (λ f. there (foundAs f)) (c .enum-told3 .given .1));
+  is = λ d h. user-twice d (c .before .before .before .before .before .before .before .before .before .before .args .line .now)
+      (wordOf (c .before .before .before .before .before .before .before .before .before .before .args .line .now) (c .before .before .before .before .before .before .before .before .before .before .args .u))
+      (wordOf (c .before .before .before .before .before .before .before .before .before .before .args .line .now) (c .before .before .before .before .before .before .before .before .before .before .args .r))
+      (givensAt (c .before .before .before .before .before .before .before .before .before .before .args .line .now) (c .before .before .before .before .before .before .before .before .before .before .args .gs))
+      (omega (arith, users-length (h .2))) (c .before .before .before .before .role .given .0 .0)
+      (sym (c .before .before .before .before .before .before .find-role .ensures .0 (d .policy .roles) (h .0)) ∙ ap foundAs (c .before .before .before .before .role .given .1))
+      (sym (ap there (c .before .before .find-user .ensures .0 (d .policy) (d .policy .users) (h .2))) ∙ ap (λ f. there (foundAs f)) (c .enum-told3 .given .1));
   roomy = tt;
   reaches = λ p. p .1;
 }
@@ -65,7 +79,16 @@ enum-known-unknown c = search needs
 returns-4 : tie.Need-returns-4
 unfolding roleOf there
 returns-4 c = record {
-  is = λ d h. user-attribute d (c .before .before .before .before .before .before .before .before .before .before .before .before .before .before .args .line .now) (wordOf (c .before .before .before .before .before .before .before .before .before .before .before .before .before .before .args .line .now) (c .before .before .before .before .before .before .before .before .before .before .before .before .before .before .args .u)) (wordOf (c .before .before .before .before .before .before .before .before .before .before .before .before .before .before .args .line .now) (c .before .before .before .before .before .before .before .before .before .before .before .before .before .before .args .r)) (givensAt (c .before .before .before .before .before .before .before .before .before .before .before .before .before .before .args .line .now) (c .before .before .before .before .before .before .before .before .before .before .before .before .before .before .args .gs)) (omega (arith, users-length (h .2))) (c .before .before .before .before .before .before .before .before .role .given .0 .0) (sym (c .before .before .before .before .before .before .before .before .before .before .find-role .ensures .0 (d .policy .roles) (h .0)) ∙ ap foundAs (c .before .before .before .before .before .before .before .before .role .given .1)) (sym (ap there (c .before .before .before .before .before .before .find-user .ensures .0 (d .policy) (d .policy .users) (h .2))) ∙ ap (λ f. there (foundAs f)) (c .before .before .before .before .enum-told2 .given .1)) (wordOf (c .before .before .before .before .before .before .before .before .before .before .before .before .before .before .args .line .now) (c .before .unknown .given .0 .0)) (sym (c .before .before .before .first-unknown-given .ensures .0 (d .policy) (h .1)) ∙ ap (offendingOf (c .before .before .before .before .before .before .before .before .before .before .before .before .before .before .args .line .now)) (c .before .unknown .given .1));
+  is = λ d h. user-attribute d
+      (c .before .before .before .before .before .before .before .before .before .before .before .before .before .before .args .line .now)
+      (wordOf (c .before .before .before .before .before .before .before .before .before .before .before .before .before .before .args .line .now) (c .before .before .before .before .before .before .before .before .before .before .before .before .before .before .args .u))
+      (wordOf (c .before .before .before .before .before .before .before .before .before .before .before .before .before .before .args .line .now) (c .before .before .before .before .before .before .before .before .before .before .before .before .before .before .args .r))
+      (givensAt (c .before .before .before .before .before .before .before .before .before .before .before .before .before .before .args .line .now) (c .before .before .before .before .before .before .before .before .before .before .before .before .before .before .args .gs))
+      (omega (arith, users-length (h .2))) (c .before .before .before .before .before .before .before .before .role .given .0 .0)
+      (sym (c .before .before .before .before .before .before .before .before .before .before .find-role .ensures .0 (d .policy .roles) (h .0)) ∙ ap foundAs (c .before .before .before .before .before .before .before .before .role .given .1))
+      (sym (ap there (c .before .before .before .before .before .before .find-user .ensures .0 (d .policy) (d .policy .users) (h .2))) ∙ ap (λ f. there (foundAs f)) (c .before .before .before .before .enum-told2 .given .1))
+      (wordOf (c .before .before .before .before .before .before .before .before .before .before .before .before .before .before .args .line .now) (c .before .unknown .given .0 .0))
+      (sym (c .before .before .before .first-unknown-given .ensures .0 (d .policy) (h .1)) ∙ ap (offendingOf (c .before .before .before .before .before .before .before .before .before .before .before .before .before .before .args .line .now)) (c .before .unknown .given .1));
   roomy = tt;
   reaches = λ p. subst (Near (c .before .before .before .before .before .before .before .before .before .before .before .before .before .before .args .line .now)) (c .before .unknown .given .1) (c .before .before .before .first-unknown-given .ensures .1);
 }
@@ -79,7 +102,24 @@ gives-all-requires c κs = search needs
 returns-5 : tie.Need-returns-5
 unfolding roleOf there
 returns-5 c = record {
-  is = λ d h. user-values d (c .before .before .before .before .before .before .before .before .before .before .before .before .before .before .before .args .line .now) (wordOf (c .before .before .before .before .before .before .before .before .before .before .before .before .before .before .before .args .line .now) (c .before .before .before .before .before .before .before .before .before .before .before .before .before .before .before .args .u)) (wordOf (c .before .before .before .before .before .before .before .before .before .before .before .before .before .before .before .args .line .now) (c .before .before .before .before .before .before .before .before .before .before .before .before .before .before .before .args .r)) (givensAt (c .before .before .before .before .before .before .before .before .before .before .before .before .before .before .before .args .line .now) (c .before .before .before .before .before .before .before .before .before .before .before .before .before .before .before .args .gs)) (omega (arith, users-length (h .2))) (c .before .before .before .before .before .before .before .before .before .role .given .0 .0) (sym (c .before .before .before .before .before .before .before .before .before .before .before .find-role .ensures .0 (d .policy .roles) (h .0)) ∙ ap foundAs (c .before .before .before .before .before .before .before .before .before .role .given .1)) (sym (ap there (c .before .before .before .before .before .before .before .find-user .ensures .0 (d .policy) (d .policy .users) (h .2))) ∙ ap (λ f. there (foundAs f)) (c .before .before .before .before .before .enum-told2 .given .1)) (sym (c .before .before .before .before .first-unknown-given .ensures .0 (d .policy) (h .1)) ∙ ap (offendingOf (c .before .before .before .before .before .before .before .before .before .before .before .before .before .before .before .args .line .now)) (c .before .before .enum-told4 .given .1)) (sym (c .before .gives-all .ensures (d .policy) (h .0) (h .1) (h .3 .attributes)) ∙ not-true _ (c .if2 .taken));
+  is = λ d h. user-values d
+      (c .before .before .before .before .before .before .before .before .before .before .before .before .before .before .before .args .line .now)
+      (wordOf
+      (c .before .before .before .before .before .before .before .before .before .before .before .before .before .before .before .args .line .now)
+      (c .before .before .before .before .before .before .before .before .before .before .before .before .before .before .before .args .u)) (wordOf
+      (c .before .before .before .before .before .before .before .before .before .before .before .before .before .before .before .args .line .now)
+      (c .before .before .before .before .before .before .before .before .before .before .before .before .before .before .before .args .r)) (givensAt
+      (c .before .before .before .before .before .before .before .before .before .before .before .before .before .before .before .args .line .now)
+      (c .before .before .before .before .before .before .before .before .before .before .before .before .before .before .before .args .gs)) (omega
+      (arith, users-length (h .2))) (c .before .before .before .before .before .before .before .before .before .role .given .0 .0) (sym
+      (c .before .before .before .before .before .before .before .before .before .before .before .find-role .ensures .0 (d .policy .roles) (h .0)) ∙ ap foundAs
+      (c .before .before .before .before .before .before .before .before .before .role .given .1)) (sym
+      (ap there (c .before .before .before .before .before .before .before .find-user .ensures .0 (d .policy) (d .policy .users) (h .2))) ∙ ap
+      (λ f. there (foundAs f)) (c .before .before .before .before .before .enum-told2 .given .1)) (sym
+      (c .before .before .before .before .first-unknown-given .ensures .0 (d .policy) (h .1)) ∙ ap
+      (offendingOf (c .before .before .before .before .before .before .before .before .before .before .before .before .before .before .before .args .line .now))
+      (c .before .before .enum-told4 .given .1)) (sym (c .before .gives-all .ensures (d .policy) (h .0) (h .1) (h .3 .attributes)) ∙ not-true _
+      (c .if2 .taken));
   roomy = tt;
   reaches = λ p. tt;
 }
@@ -96,7 +136,32 @@ enum-told-5 c = search needs
 returns-6 : tie.Need-returns-6
 unfolding roleOf there
 returns-6 c = record {
-  is = λ d h. user-type d (c .before .before .before .before .before .before .before .before .before .before .before .before .before .before .before .before .before .before .before .args .line .now) (wordOf (c .before .before .before .before .before .before .before .before .before .before .before .before .before .before .before .before .before .before .before .args .line .now) (c .before .before .before .before .before .before .before .before .before .before .before .before .before .before .before .before .before .before .before .args .u)) (wordOf (c .before .before .before .before .before .before .before .before .before .before .before .before .before .before .before .before .before .before .before .args .line .now) (c .before .before .before .before .before .before .before .before .before .before .before .before .before .before .before .before .before .before .before .args .r)) (givensAt (c .before .before .before .before .before .before .before .before .before .before .before .before .before .before .before .before .before .before .before .args .line .now) (c .before .before .before .before .before .before .before .before .before .before .before .before .before .before .before .before .before .before .before .args .gs)) (omega (arith, users-length (h .2))) (c .before .before .before .before .before .before .before .before .before .before .before .before .before .role .given .0 .0) (sym (c .before .before .before .before .before .before .before .before .before .before .before .before .before .before .before .find-role .ensures .0 (d .policy .roles) (h .0)) ∙ ap foundAs (c .before .before .before .before .before .before .before .before .before .before .before .before .before .role .given .1)) (sym (ap there (c .before .before .before .before .before .before .before .before .before .before .before .find-user .ensures .0 (d .policy) (d .policy .users) (h .2))) ∙ ap (λ f. there (foundAs f)) (c .before .before .before .before .before .before .before .before .before .enum-told2 .given .1)) (sym (c .before .before .before .before .before .before .before .before .first-unknown-given .ensures .0 (d .policy) (h .1)) ∙ ap (offendingOf (c .before .before .before .before .before .before .before .before .before .before .before .before .before .before .before .before .before .before .before .args .line .now)) (c .before .before .before .before .before .before .enum-told4 .given .1)) (sym (c .before .before .before .before .before .gives-all .ensures (d .policy) (h .0) (h .1) (h .3 .attributes)) ∙ not-false _ (c .before .before .before .before .if2 .left)) (wordOf (c .before .before .before .before .before .before .before .before .before .before .before .before .before .before .before .before .before .before .before .args .line .now) (c .before .wrong .given .0 .0)) (sym (c .before .before .before .first-mistyped-given .ensures .0 (d .policy) (h .1)) ∙ ap (offendingOf (c .before .before .before .before .before .before .before .before .before .before .before .before .before .before .before .before .before .before .before .args .line .now)) (c .before .wrong .given .1));
+  is = λ d h. user-type d
+      (c .before .before .before .before .before .before .before .before .before .before .before .before .before .before .before .before .before .before .before .args .line .now)
+      (wordOf
+      (c .before .before .before .before .before .before .before .before .before .before .before .before .before .before .before .before .before .before .before .args .line .now)
+      (c .before .before .before .before .before .before .before .before .before .before .before .before .before .before .before .before .before .before .before .args .u))
+      (wordOf
+      (c .before .before .before .before .before .before .before .before .before .before .before .before .before .before .before .before .before .before .before .args .line .now)
+      (c .before .before .before .before .before .before .before .before .before .before .before .before .before .before .before .before .before .before .before .args .r))
+      (givensAt
+      (c .before .before .before .before .before .before .before .before .before .before .before .before .before .before .before .before .before .before .before .args .line .now)
+      (c .before .before .before .before .before .before .before .before .before .before .before .before .before .before .before .before .before .before .before .args .gs))
+      (omega (arith, users-length (h .2)))
+      (c .before .before .before .before .before .before .before .before .before .before .before .before .before .role .given .0 .0) (sym
+      (c .before .before .before .before .before .before .before .before .before .before .before .before .before .before .before .find-role .ensures .0 (d .policy .roles) (h .0)) ∙ ap foundAs
+      (c .before .before .before .before .before .before .before .before .before .before .before .before .before .role .given .1)) (sym
+      (ap there (c .before .before .before .before .before .before .before .before .before .before .before .find-user .ensures .0 (d .policy) (d .policy .users) (h .2))) ∙ ap
+      (λ f. there (foundAs f)) (c .before .before .before .before .before .before .before .before .before .enum-told2 .given .1)) (sym
+      (c .before .before .before .before .before .before .before .before .first-unknown-given .ensures .0 (d .policy) (h .1)) ∙ ap
+      (offendingOf (c .before .before .before .before .before .before .before .before .before .before .before .before .before .before .before .before .before .before .before .args .line .now))
+      (c .before .before .before .before .before .before .enum-told4 .given .1)) (sym
+      (c .before .before .before .before .before .gives-all .ensures (d .policy) (h .0) (h .1) (h .3 .attributes)) ∙ not-false _
+      (c .before .before .before .before .if2 .left)) (wordOf
+      (c .before .before .before .before .before .before .before .before .before .before .before .before .before .before .before .before .before .before .before .args .line .now)
+      (c .before .wrong .given .0 .0)) (sym (c .before .before .before .first-mistyped-given .ensures .0 (d .policy) (h .1)) ∙ ap
+      (offendingOf (c .before .before .before .before .before .before .before .before .before .before .before .before .before .before .before .before .before .before .before .args .line .now))
+      (c .before .wrong .given .1));
   roomy = tt;
   reaches = λ p. subst (Near (c .before .before .before .before .before .before .before .before .before .before .before .before .before .before .before .before .before .before .before .args .line .now)) (c .before .wrong .given .1) (c .before .before .before .first-mistyped-given .ensures .1);
 }
@@ -104,7 +169,30 @@ returns-6 c = record {
 returns-7 : tie.Need-returns-7
 unfolding roleOf there
 returns-7 c = record {
-  is = λ d h. user-fine d (c .before .before .before .before .before .before .before .before .before .before .before .before .before .before .before .before .before .before .args .line .now) (wordOf (c .before .before .before .before .before .before .before .before .before .before .before .before .before .before .before .before .before .before .args .line .now) (c .before .before .before .before .before .before .before .before .before .before .before .before .before .before .before .before .before .before .args .u)) (wordOf (c .before .before .before .before .before .before .before .before .before .before .before .before .before .before .before .before .before .before .args .line .now) (c .before .before .before .before .before .before .before .before .before .before .before .before .before .before .before .before .before .before .args .r)) (givensAt (c .before .before .before .before .before .before .before .before .before .before .before .before .before .before .before .before .before .before .args .line .now) (c .before .before .before .before .before .before .before .before .before .before .before .before .before .before .before .before .before .before .args .gs)) (omega (arith, users-length (h .2))) (c .before .before .before .before .before .before .before .before .before .before .before .before .role .given .0 .0) (sym (c .before .before .before .before .before .before .before .before .before .before .before .before .before .before .find-role .ensures .0 (d .policy .roles) (h .0)) ∙ ap foundAs (c .before .before .before .before .before .before .before .before .before .before .before .before .role .given .1)) (sym (ap there (c .before .before .before .before .before .before .before .before .before .before .find-user .ensures .0 (d .policy) (d .policy .users) (h .2))) ∙ ap (λ f. there (foundAs f)) (c .before .before .before .before .before .before .before .before .enum-told2 .given .1)) (sym (c .before .before .before .before .before .before .before .first-unknown-given .ensures .0 (d .policy) (h .1)) ∙ ap (offendingOf (c .before .before .before .before .before .before .before .before .before .before .before .before .before .before .before .before .before .before .args .line .now)) (c .before .before .before .before .before .enum-told4 .given .1)) (sym (c .before .before .before .before .gives-all .ensures (d .policy) (h .0) (h .1) (h .3 .attributes)) ∙ not-false _ (c .before .before .before .if2 .left)) (sym (c .before .before .first-mistyped-given .ensures .0 (d .policy) (h .1)) ∙ ap (offendingOf (c .before .before .before .before .before .before .before .before .before .before .before .before .before .before .before .before .before .before .args .line .now)) (c .enum-told5 .given .1));
+  is = λ d h. user-fine d
+      (c .before .before .before .before .before .before .before .before .before .before .before .before .before .before .before .before .before .before .args .line .now)
+      (wordOf
+      (c .before .before .before .before .before .before .before .before .before .before .before .before .before .before .before .before .before .before .args .line .now)
+      (c .before .before .before .before .before .before .before .before .before .before .before .before .before .before .before .before .before .before .args .u))
+      (wordOf
+      (c .before .before .before .before .before .before .before .before .before .before .before .before .before .before .before .before .before .before .args .line .now)
+      (c .before .before .before .before .before .before .before .before .before .before .before .before .before .before .before .before .before .before .args .r))
+      (givensAt
+      (c .before .before .before .before .before .before .before .before .before .before .before .before .before .before .before .before .before .before .args .line .now)
+      (c .before .before .before .before .before .before .before .before .before .before .before .before .before .before .before .before .before .before .args .gs))
+      (omega (arith, users-length (h .2)))
+      (c .before .before .before .before .before .before .before .before .before .before .before .before .role .given .0 .0) (sym
+      (c .before .before .before .before .before .before .before .before .before .before .before .before .before .before .find-role .ensures .0 (d .policy .roles) (h .0)) ∙ ap foundAs
+      (c .before .before .before .before .before .before .before .before .before .before .before .before .role .given .1)) (sym
+      (ap there (c .before .before .before .before .before .before .before .before .before .before .find-user .ensures .0 (d .policy) (d .policy .users) (h .2))) ∙ ap
+      (λ f. there (foundAs f)) (c .before .before .before .before .before .before .before .before .enum-told2 .given .1)) (sym
+      (c .before .before .before .before .before .before .before .first-unknown-given .ensures .0 (d .policy) (h .1)) ∙ ap
+      (offendingOf (c .before .before .before .before .before .before .before .before .before .before .before .before .before .before .before .before .before .before .args .line .now))
+      (c .before .before .before .before .before .enum-told4 .given .1)) (sym
+      (c .before .before .before .before .gives-all .ensures (d .policy) (h .0) (h .1) (h .3 .attributes)) ∙ not-false _
+      (c .before .before .before .if2 .left)) (sym (c .before .before .first-mistyped-given .ensures .0 (d .policy) (h .1)) ∙ ap
+      (offendingOf (c .before .before .before .before .before .before .before .before .before .before .before .before .before .before .before .before .before .before .args .line .now))
+      (c .enum-told5 .given .1));
   roomy = omega arith;
   reaches = λ p. tt;
 }

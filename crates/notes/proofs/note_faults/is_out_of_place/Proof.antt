@@ -18,7 +18,9 @@ is-nested-requires c κs = search needs
 
 returns : tie.Need-returns
 returns c d text k w T N R l =
-    let e : isNested (schemeAt (d .policy) (c .before .before .before .args .t)) ≡ false = ap isNested (scheme-read text (c .before .before .before .args .tables .now) k (c .before .before .before .args .t) (d .policy) T l (c .before .before .table-scheme .result) (c .before .before .table-scheme .ensures)) ∙ sym (c .before .is-nested .ensures _ _) ∙ not-true (c .before .is-nested .result) (c .if1 .taken) in
+    let e : isNested (schemeAt (d .policy) (c .before .before .before .args .t)) ≡ false = ap isNested
+    (scheme-read text (c .before .before .before .args .tables .now) k (c .before .before .before .args .t) (d .policy) T l (c .before .before .table-scheme .result) (c .before .before .table-scheme .ensures)) ∙ sym
+    (c .before .is-nested .ensures _ _) ∙ not-true (c .before .is-nested .result) (c .if1 .taken) in
     other-scheme d (c .before .before .before .args .t) (c .before .before .before .args .strong) w e
 
 has-row-requires : tie.Need-has-row-requires
@@ -26,7 +28,10 @@ has-row-requires c κs = search needs
 
 returns-2 : tie.Need-returns-2
 returns-2 c d text k w T N R l =
-    let e : isNested (schemeAt (d .policy) (c .before .before .before .before .before .args .t)) ≡ true = ap isNested (scheme-read text (c .before .before .before .before .before .args .tables .now) k (c .before .before .before .before .before .args .t) (d .policy) T l (c .before .before .before .before .table-scheme .result) (c .before .before .before .before .table-scheme .ensures)) ∙ sym (c .before .before .before .is-nested .ensures _ _) ∙ not-false (c .before .before .before .is-nested .result) (c .before .before .if1 .left) in
+    let e : isNested (schemeAt (d .policy) (c .before .before .before .before .before .args .t)) ≡ true = ap isNested
+    (scheme-read text (c .before .before .before .before .before .args .tables .now) k (c .before .before .before .before .before .args .t) (d .policy) T l (c .before .before .before .before .table-scheme .result) (c .before .before .before .before .table-scheme .ensures)) ∙ sym
+    (c .before .before .before .is-nested .ensures _ _) ∙ not-false (c .before .before .before .is-nested .result)
+    (c .before .before .if1 .left) in
     has-rows d (c .before .before .before .before .before .args .t) (c .before .before .before .before .before .args .strong) w e (sym (c .before .has-row .ensures text (d .rows) R) ∙ c .if2 .taken)
 
 has-label-requires : tie.Need-has-label-requires
@@ -34,7 +39,12 @@ has-label-requires c κs = search needs
 
 returns-3 : tie.Need-returns-3
 returns-3 c d text k w T N R l =
-    let e : isNested (schemeAt (d .policy) (c .before .before .before .before .before .before .args .t)) ≡ true = ap isNested (scheme-read text (c .before .before .before .before .before .before .args .tables .now) k (c .before .before .before .before .before .before .args .t) (d .policy) T l (c .before .before .before .before .before .table-scheme .result) (c .before .before .before .before .before .table-scheme .ensures)) ∙ sym (c .before .before .before .before .is-nested .ensures _ _) ∙ not-false (c .before .before .before .before .is-nested .result) (c .before .before .before .if1 .left) in
+    let e : isNested (schemeAt (d .policy) (c .before .before .before .before .before .before .args .t)) ≡ true = ap isNested (scheme-read text
+    (c .before .before .before .before .before .before .args .tables .now) k (c .before .before .before .before .before .before .args .t)
+    (d .policy) T l (c .before .before .before .before .before .table-scheme .result)
+    (c .before .before .before .before .before .table-scheme .ensures)) ∙ sym
+    (c .before .before .before .before .is-nested .ensures _ _) ∙ not-false (c .before .before .before .before .is-nested .result)
+    (c .before .before .before .if1 .left) in
     c .has-label .ensures k (d .policy .notes) l (T .few) N ∙ has-one d (c .before .before .before .before .before .before .args .t) (c .before .before .before .before .before .before .args .strong) w e (sym (c .before .before .has-row .ensures text (d .rows) R) ∙ c .before .if2 .left)
 
 pub is-out-of-place-spec : {M : Type 1} → statement M

@@ -24,12 +24,18 @@ is-public-requires c κs = search needs
 returns-2 : tie.Need-returns-2
 returns-2 c =
     let a = c .before .before .before .before .before .before .before .before .args in
-    public-twice (a .text .now) (a .tables .now) (a .k) (a .line .now) (a .t) (c .before .before .before .before .before .find-table .result) (c .before .before .before .before .before .find-table .ensures .0) (c .before .before .before .f .given .0 .0) (c .before .before .before .f .given .1) (c .before .before .before .before .before .find-table .ensures .1) (c .before .is-public .result) (c .before .is-public .ensures) (c .if1 .taken)
+    public-twice (a .text .now) (a .tables .now) (a .k) (a .line .now) (a .t) (c .before .before .before .before .before .find-table .result)
+    (c .before .before .before .before .before .find-table .ensures .0) (c .before .before .before .f .given .0 .0)
+    (c .before .before .before .f .given .1) (c .before .before .before .before .before .find-table .ensures .1) (c .before .is-public .result)
+    (c .before .is-public .ensures) (c .if1 .taken)
 
 returns-3 : tie.Need-returns-3
 returns-3 c =
     let a = c .before .before .before .before .before .before .before .before .args in
-    public-once (a .text .now) (a .tables .now) (a .k) (a .line .now) (a .t) (c .before .before .before .before .before .find-table .result) (c .before .before .before .before .before .find-table .ensures .0) (c .before .before .before .f .given .0 .0) (c .before .before .before .f .given .1) (c .before .before .before .before .before .find-table .ensures .1) (c .before .is-public .result) (c .before .is-public .ensures) (c .if1 .left)
+    public-once (a .text .now) (a .tables .now) (a .k) (a .line .now) (a .t) (c .before .before .before .before .before .find-table .result)
+    (c .before .before .before .before .before .find-table .ensures .0) (c .before .before .before .f .given .0 .0)
+    (c .before .before .before .f .given .1) (c .before .before .before .before .before .find-table .ensures .1) (c .before .is-public .result)
+    (c .before .is-public .ensures) (c .if1 .left)
 
 pub public-fault-spec : {M : Type 1} → statement M
 public-fault-spec =

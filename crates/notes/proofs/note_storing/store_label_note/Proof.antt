@@ -37,7 +37,9 @@ returns c d sets L T N ok =
     let found : foundAs (c .before .before .before .before .find-label .result) ≡ labelOf (d .policy) (wordOf (a .line .now) (a .l)) = c .before .before .before .before .find-label .ensures .0 sets _ L in
     let below : orZero (foundAs (c .before .before .before .before .find-label .result)) < a .count = number-below (c .before .before .before .before .find-label .result) (a .count) (ap there found ∙ known) (c .before .before .before .before .find-label .ensures .1) in
     let small : c .before .before .before .number2 .result < 64 = omega (arith, below, L .few, c .before .before .before .number2 .ensures) in
-    label-stored d (a .line .now) (wordOf (a .line .now) (a .t)) (wordOf (a .line .now) (a .l)) (a .strong) T N ok (c .before .before .before .before .before .number .ensures ∙ ap orZero (c .before .before .before .before .before .before .find-table .ensures .0 _ T)) (c .before .before .before .number2 .ensures ∙ ap orZero found)
+    label-stored d (a .line .now) (wordOf (a .line .now) (a .t)) (wordOf (a .line .now) (a .l)) (a .strong) T N ok
+    (c .before .before .before .before .before .number .ensures ∙ ap orZero (c .before .before .before .before .before .before .find-table .ensures .0 _ T))
+    (c .before .before .before .number2 .ensures ∙ ap orZero found)
     (by-flag (c .before .before .before .number2 .result) (a .strong) true (c .before .before .if1 .taken) (c .set-strong .ensures small))
 
 set-weak-requires : tie.Need-set-weak-requires
@@ -51,7 +53,9 @@ returns-2 c d sets L T N ok =
     let found : foundAs (c .before .before .before .before .find-label .result) ≡ labelOf (d .policy) (wordOf (a .line .now) (a .l)) = c .before .before .before .before .find-label .ensures .0 sets _ L in
     let below : orZero (foundAs (c .before .before .before .before .find-label .result)) < a .count = number-below (c .before .before .before .before .find-label .result) (a .count) (ap there found ∙ known) (c .before .before .before .before .find-label .ensures .1) in
     let small : c .before .before .before .number2 .result < 64 = omega (arith, below, L .few, c .before .before .before .number2 .ensures) in
-    label-stored d (a .line .now) (wordOf (a .line .now) (a .t)) (wordOf (a .line .now) (a .l)) (a .strong) T N ok (c .before .before .before .before .before .number .ensures ∙ ap orZero (c .before .before .before .before .before .before .find-table .ensures .0 _ T)) (c .before .before .before .number2 .ensures ∙ ap orZero found)
+    label-stored d (a .line .now) (wordOf (a .line .now) (a .t)) (wordOf (a .line .now) (a .l)) (a .strong) T N ok
+    (c .before .before .before .before .before .number .ensures ∙ ap orZero (c .before .before .before .before .before .before .find-table .ensures .0 _ T))
+    (c .before .before .before .number2 .ensures ∙ ap orZero found)
     (by-flag (c .before .before .before .number2 .result) (a .strong) false (c .before .before .if1 .left) (c .set-weak .ensures small))
 
 pub store-label-note-spec : {M : Type 1} → statement M

@@ -42,7 +42,9 @@ returns c =
     let s = c .before .before .before .before .before .before .before .args .line .now in
     let i = c .before .before .before .before .before .loop .i in
     let e = space-here s i _ (c .before .before .before .before .byte-at .ensures) (c .before .before .before .if1 .taken) in (
-      sym (c .before .before .before .before .before .loop .inv ∙ test-here (λ v. inOrder (rangeOf v)) s i (e .0) (c .before .before .value-place .result) (c .before .before .value-place .ensures) (c .before .in-order .result) (c .before .in-order .ensures) (not-true (c .before .in-order .result) (c .if2 .taken))),
+      sym (c .before .before .before .before .before .loop .inv ∙ test-here (λ v. inOrder (rangeOf v)) s i (e .0)
+          (c .before .before .value-place .result) (c .before .before .value-place .ensures) (c .before .in-order .result)
+          (c .before .in-order .ensures) (not-true (c .before .in-order .result) (c .if2 .taken))),
       subst (λ (v : ℕ). v ≤ length s) (sym (c .before .before .value-place .ensures)) (place-within s (i + 1) (omega (arith, e .1))),
     )
 

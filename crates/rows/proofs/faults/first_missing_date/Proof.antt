@@ -42,7 +42,9 @@ returns c =
     let s = c .before .before .before .before .before .before .before .args .line .now in
     let i = c .before .before .before .before .before .loop .i in
     let e = space-here s i _ (c .before .before .before .before .byte-at .ensures) (c .before .before .before .if1 .taken) in (
-      sym (c .before .before .before .before .before .loop .inv ∙ test-here (λ v. dateExists (dateOf v)) s i (e .0) (c .before .before .value-place .result) (c .before .before .value-place .ensures) (c .before .date-exists .result) (c .before .date-exists .ensures) (not-true (c .before .date-exists .result) (c .if2 .taken))),
+      sym (c .before .before .before .before .before .loop .inv ∙ test-here (λ v. dateExists (dateOf v)) s i (e .0)
+          (c .before .before .value-place .result) (c .before .before .value-place .ensures) (c .before .date-exists .result)
+          (c .before .date-exists .ensures) (not-true (c .before .date-exists .result) (c .if2 .taken))),
       subst (λ (v : ℕ). v ≤ length s) (sym (c .before .before .value-place .ensures)) (place-within s (i + 1) (omega (arith, e .1))),
     )
 
@@ -64,7 +66,9 @@ loop-again c =
     let i = c .before .before .before .before .before .before .loop .i in
     let e = space-here s i _ (c .before .before .before .before .before .byte-at .ensures) (c .before .before .before .before .if1 .taken) in
     c .before .before .before .before .before .before .loop .inv
-    ∙ test-on (λ v. dateExists (dateOf v)) s i (e .0) (c .before .before .before .value-place .result) (c .before .before .before .value-place .ensures) (c .before .before .date-exists .result) (c .before .before .date-exists .ensures) (not-false (c .before .before .date-exists .result) (c .before .if2 .left))
+    ∙ test-on (λ v. dateExists (dateOf v)) s i (e .0) (c .before .before .before .value-place .result)
+    (c .before .before .before .value-place .ensures) (c .before .before .date-exists .result) (c .before .before .date-exists .ensures)
+    (not-false (c .before .before .date-exists .result) (c .before .if2 .left))
     ∙ ap (λ j. firstUnreal (valuesAt s j)) (sym (c .item-end-at .ensures))
 
 returns-2 : tie.Need-returns-2 Inv-loop μ-loop

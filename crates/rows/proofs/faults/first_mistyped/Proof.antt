@@ -36,8 +36,13 @@ byte-at-requires : tie.Need-byte-at-requires Inv-loop μ-loop
 byte-at-requires c κs = search needs
 
 returns : tie.Need-returns Inv-loop μ-loop
-returns c =
-    (λ text k d h l. sym (c .before .before .before .loop .inv text k d h l ∙ no-values-left (drop (c .before .before .before .loop .c) (columnsAt d (c .before .before .before .before .before .before .args .t))) (c .before .before .before .before .before .before .args .line .now) (c .before .before .before .loop .i) (λ z. c .if1 .taken (c .before .byte-at .ensures ∙ z))), tt)
+returns c = (
+  λ text k d h l. sym (c .before .before .before .loop .inv text k d h l ∙ no-values-left
+      (drop (c .before .before .before .loop .c) (columnsAt d (c .before .before .before .before .before .before .args .t)))
+      (c .before .before .before .before .before .before .args .line .now) (c .before .before .before .loop .i)
+      (λ z. c .if1 .taken (c .before .byte-at .ensures ∙ z))),
+  tt,
+)
 
 add-value-place : tie.Need-add-value-place Inv-loop μ-loop
 add-value-place c = omega (arith, space-here (c .before .before .before .before .before .before .args .line .now) (c .before .before .before .loop .i) _ (c .before .byte-at .ensures) (c .if1 .left) .1)
@@ -57,7 +62,13 @@ returns-2 c =
     let i = c .before .before .before .before .before .before .before .loop .i in
     let e = space-here s i _ (c .before .before .before .before .before .byte-at .ensures) (c .before .before .before .before .if1 .left) in (
       (λ text k d h l. sym (c .before .before .before .before .before .before .before .loop .inv text k d h l
-          ∙ types-here text (c .before .before .before .before .before .before .before .before .before .before .args .tables .now) k (c .before .before .before .before .before .before .before .before .before .before .args .t) d h l (c .before .before .before .before .before .before .before .before .table-width .result) (c .before .before .before .before .before .before .before .before .table-width .ensures) s (c .before .before .before .before .before .before .before .loop .c) i (c .before .before .before .before .before .before .loop-test .taken) (e .0) (kindOf (c .before .before .column-kind .result)) (c .before .before .column-kind .ensures)
+          ∙ types-here text (c .before .before .before .before .before .before .before .before .before .before .args .tables .now) k
+          (c .before .before .before .before .before .before .before .before .before .before .args .t) d h l
+          (c .before .before .before .before .before .before .before .before .table-width .result)
+          (c .before .before .before .before .before .before .before .before .table-width .ensures) s
+          (c .before .before .before .before .before .before .before .loop .c) i
+          (c .before .before .before .before .before .before .loop-test .taken) (e .0) (kindOf (c .before .before .column-kind .result))
+          (c .before .before .column-kind .ensures)
           (c .before .before .before .value-place .result) (c .before .before .before .value-place .ensures) (c .before .typed .result) (c .before .typed .ensures) (not-true (c .before .typed .result) (c .if2 .taken)))),
       subst (λ (v : ℕ). v ≤ length s) (sym (c .before .before .before .value-place .ensures)) (place-within s (i + 1) (omega (arith, e .1))),
     )
@@ -66,7 +77,12 @@ add-c : tie.Need-add-c Inv-loop μ-loop
 add-c c = omega (arith, c .before .before .before .before .before .before .loop-test .taken, c .before .before .before .before .before .before .before .before .table-width .ensures .few)
 
 add-item-end-at : tie.Need-add-item-end-at Inv-loop μ-loop
-add-item-end-at c = omega (arith, space-here (c .before .before .before .before .before .before .before .before .before .before .args .line .now) (c .before .before .before .before .before .before .before .loop .i) _ (c .before .before .before .before .before .byte-at .ensures) (c .before .before .before .before .if1 .left) .1)
+add-item-end-at c = omega (
+  arith,
+  space-here (c .before .before .before .before .before .before .before .before .before .before .args .line .now)
+      (c .before .before .before .before .before .before .before .loop .i) _ (c .before .before .before .before .before .byte-at .ensures)
+      (c .before .before .before .before .if1 .left) .1,
+)
 
 item-end-at-requires : tie.Need-item-end-at-requires Inv-loop μ-loop
 item-end-at-requires c κs = search needs
@@ -80,7 +96,13 @@ loop-again c =
     let i = c .before .before .before .before .before .before .before .before .loop .i in
     let e = space-here s i _ (c .before .before .before .before .before .before .byte-at .ensures) (c .before .before .before .before .before .if1 .left) in
     λ text k d h l. c .before .before .before .before .before .before .before .before .loop .inv text k d h l
-    ∙ types-on text (c .before .before .before .before .before .before .before .before .before .before .before .args .tables .now) k (c .before .before .before .before .before .before .before .before .before .before .before .args .t) d h l (c .before .before .before .before .before .before .before .before .before .table-width .result) (c .before .before .before .before .before .before .before .before .before .table-width .ensures) s (c .before .before .before .before .before .before .before .before .loop .c) i (c .before .before .before .before .before .before .before .loop-test .taken) (e .0) (kindOf (c .before .before .before .column-kind .result)) (c .before .before .before .column-kind .ensures)
+    ∙ types-on text (c .before .before .before .before .before .before .before .before .before .before .before .args .tables .now) k
+    (c .before .before .before .before .before .before .before .before .before .before .before .args .t) d h l
+    (c .before .before .before .before .before .before .before .before .before .table-width .result)
+    (c .before .before .before .before .before .before .before .before .before .table-width .ensures) s
+    (c .before .before .before .before .before .before .before .before .loop .c) i
+    (c .before .before .before .before .before .before .before .loop-test .taken) (e .0) (kindOf (c .before .before .before .column-kind .result))
+    (c .before .before .before .column-kind .ensures)
     (c .before .before .before .before .value-place .result) (c .before .before .before .before .value-place .ensures) (c .before .before .typed .result) (c .before .before .typed .ensures) (not-false (c .before .before .typed .result) (c .before .if2 .left))
     ∙ ap (λ j. mistypedValue (drop (c .before .before .before .before .before .before .before .before .loop .c + 1) (columnsAt d (c .before .before .before .before .before .before .before .before .before .before .before .args .t))) (valuesAt s j)) (sym (c .item-end-at .ensures))
 

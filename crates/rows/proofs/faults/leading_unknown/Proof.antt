@@ -37,7 +37,12 @@ enum-told-2 : tie.Need-enum-told-2
 enum-told-2 c = search needs
 
 add-t11 : tie.Need-add-t11
-add-t11 c = omega (arith, space-here (c .before .before .before .before .before .before .before .args .line .now) (c .before .before .before .before .before .before .before .args .at) _ refl (c .before .before .before .before .leads .ensures .0 (not-false (c .before .before .before .before .leads .result) (c .before .before .before .if1 .left)) .0) .1)
+add-t11 c = omega (
+  arith,
+  space-here (c .before .before .before .before .before .before .before .args .line .now)
+      (c .before .before .before .before .before .before .before .args .at) _ refl
+      (c .before .before .before .before .leads .ensures .0 (not-false (c .before .before .before .before .leads .result) (c .before .before .before .if1 .left)) .0) .1,
+)
 
 returns-2 : tie.Need-returns-2
 unfolding labelOf there unless

@@ -116,10 +116,16 @@ returns-5 c =
       is = λ d h.
           found-mistyped
           (a .text .now) (a .tables .now) s (a .tables-count) (a .k) (a .t) (itemsAt s (a .is)) d (h .1) (h .2) (c .before .before .before .before .before .before .before .before .before .before .before .before .before .before .before .before .if1 .left)
-          (q .result) (q .ensures .0 (d .policy .tables) (h .1)) (q .ensures .1) (c .before .before .before .before .before .before .before .before .before .before .before .before .before .found .given .0 .0) (c .before .before .before .before .before .before .before .before .before .before .before .before .before .found .given .1)
+          (q .result) (q .ensures .0 (d .policy .tables) (h .1)) (q .ensures .1)
+          (c .before .before .before .before .before .before .before .before .before .before .before .before .before .found .given .0 .0)
+          (c .before .before .before .before .before .before .before .before .before .before .before .before .before .found .given .1)
           (c .before .before .before .before .before .before .before .before .before .before .before .table-scheme .result) (c .before .before .before .before .before .before .before .before .before .before .before .table-scheme .ensures)
           (c .before .before .before .before .before .before .before .before .before .before .unknown-label .result) (λ l ls. c .before .before .before .before .before .before .before .before .before .before .unknown-label .ensures .0 (h .0 .0) (d .policy) l ls (h .0 .1))
-          (c .before .before .before .before .before .before .before .before .enum-told2 .given .1) (c .before .before .before .before .before .before .before .table-width .result) (c .before .before .before .before .before .before .before .table-width .ensures) (c .before .before .before .before .before .before .row-fits .result) (c .before .before .before .before .before .before .row-fits .ensures)
+          (c .before .before .before .before .before .before .before .before .enum-told2 .given .1)
+          (c .before .before .before .before .before .before .before .table-width .result)
+          (c .before .before .before .before .before .before .before .table-width .ensures)
+          (c .before .before .before .before .before .before .row-fits .result)
+          (c .before .before .before .before .before .before .row-fits .ensures)
           (not-false (c .before .before .before .before .before .before .row-fits .result) (c .before .before .before .before .before .if2 .left))
           (c .before .before .before .before .values-start .result) (c .before .before .before .before .values-start .ensures)
           (m .result) (λ l. m .ensures .0 (a .text .now) (a .tables-count) (d .policy) (h .1) l)
@@ -155,10 +161,17 @@ returns-6 c =
       is = λ d h.
           found-broken
           (a .text .now) (a .tables .now) s (a .tables-count) (a .k) (a .t) (itemsAt s (a .is)) d (h .1) (h .2) (c .before .before .before .before .before .before .before .before .before .before .before .before .before .before .before .before .before .before .before .if1 .left)
-          (q .result) (q .ensures .0 (d .policy .tables) (h .1)) (q .ensures .1) (c .before .before .before .before .before .before .before .before .before .before .before .before .before .before .before .before .found .given .0 .0) (c .before .before .before .before .before .before .before .before .before .before .before .before .before .before .before .before .found .given .1)
+          (q .result) (q .ensures .0 (d .policy .tables) (h .1)) (q .ensures .1)
+          (c .before .before .before .before .before .before .before .before .before .before .before .before .before .before .before .before .found .given .0 .0)
+          (c .before .before .before .before .before .before .before .before .before .before .before .before .before .before .before .before .found .given .1)
           (c .before .before .before .before .before .before .before .before .before .before .before .before .before .before .table-scheme .result) (c .before .before .before .before .before .before .before .before .before .before .before .before .before .before .table-scheme .ensures)
-          (c .before .before .before .before .before .before .before .before .before .before .before .before .before .unknown-label .result) (λ l ls. c .before .before .before .before .before .before .before .before .before .before .before .before .before .unknown-label .ensures .0 (h .0 .0) (d .policy) l ls (h .0 .1))
-          (c .before .before .before .before .before .before .before .before .before .before .before .enum-told2 .given .1) (c .before .before .before .before .before .before .before .before .before .before .table-width .result) (c .before .before .before .before .before .before .before .before .before .before .table-width .ensures) (c .before .before .before .before .before .before .before .before .before .row-fits .result) (c .before .before .before .before .before .before .before .before .before .row-fits .ensures)
+          (c .before .before .before .before .before .before .before .before .before .before .before .before .before .unknown-label .result)
+          (λ l ls. c .before .before .before .before .before .before .before .before .before .before .before .before .before .unknown-label .ensures .0 (h .0 .0) (d .policy) l ls (h .0 .1))
+          (c .before .before .before .before .before .before .before .before .before .before .before .enum-told2 .given .1)
+          (c .before .before .before .before .before .before .before .before .before .before .table-width .result)
+          (c .before .before .before .before .before .before .before .before .before .before .table-width .ensures)
+          (c .before .before .before .before .before .before .before .before .before .row-fits .result)
+          (c .before .before .before .before .before .before .before .before .before .row-fits .ensures)
           (not-false (c .before .before .before .before .before .before .before .before .before .row-fits .result) (c .before .before .before .before .before .before .before .before .if2 .left))
           (c .before .before .before .before .before .before .before .values-start .result) (c .before .before .before .before .before .before .before .values-start .ensures)
           (m .result) (λ l. m .ensures .0 (a .text .now) (a .tables-count) (d .policy) (h .1) l)
@@ -180,16 +193,25 @@ returns-7 c =
       is = λ d h.
           found-dated
           (a .text .now) (a .tables .now) s (a .tables-count) (a .k) (a .t) (itemsAt s (a .is)) d (h .1) (h .2) (c .before .before .before .before .before .before .before .before .before .before .before .before .before .before .before .before .before .before .before .if1 .left)
-          (q .result) (q .ensures .0 (d .policy .tables) (h .1)) (q .ensures .1) (c .before .before .before .before .before .before .before .before .before .before .before .before .before .before .before .before .found .given .0 .0) (c .before .before .before .before .before .before .before .before .before .before .before .before .before .before .before .before .found .given .1)
+          (q .result) (q .ensures .0 (d .policy .tables) (h .1)) (q .ensures .1)
+          (c .before .before .before .before .before .before .before .before .before .before .before .before .before .before .before .before .found .given .0 .0)
+          (c .before .before .before .before .before .before .before .before .before .before .before .before .before .before .before .before .found .given .1)
           (c .before .before .before .before .before .before .before .before .before .before .before .before .before .before .table-scheme .result) (c .before .before .before .before .before .before .before .before .before .before .before .before .before .before .table-scheme .ensures)
-          (c .before .before .before .before .before .before .before .before .before .before .before .before .before .unknown-label .result) (λ l ls. c .before .before .before .before .before .before .before .before .before .before .before .before .before .unknown-label .ensures .0 (h .0 .0) (d .policy) l ls (h .0 .1))
-          (c .before .before .before .before .before .before .before .before .before .before .before .enum-told2 .given .1) (c .before .before .before .before .before .before .before .before .before .before .table-width .result) (c .before .before .before .before .before .before .before .before .before .before .table-width .ensures) (c .before .before .before .before .before .before .before .before .before .row-fits .result) (c .before .before .before .before .before .before .before .before .before .row-fits .ensures)
+          (c .before .before .before .before .before .before .before .before .before .before .before .before .before .unknown-label .result)
+          (λ l ls. c .before .before .before .before .before .before .before .before .before .before .before .before .before .unknown-label .ensures .0 (h .0 .0) (d .policy) l ls (h .0 .1))
+          (c .before .before .before .before .before .before .before .before .before .before .before .enum-told2 .given .1)
+          (c .before .before .before .before .before .before .before .before .before .before .table-width .result)
+          (c .before .before .before .before .before .before .before .before .before .before .table-width .ensures)
+          (c .before .before .before .before .before .before .before .before .before .row-fits .result)
+          (c .before .before .before .before .before .before .before .before .before .row-fits .ensures)
           (not-false (c .before .before .before .before .before .before .before .before .before .row-fits .result) (c .before .before .before .before .before .before .before .before .if2 .left))
           (c .before .before .before .before .before .before .before .values-start .result) (c .before .before .before .before .before .before .before .values-start .ensures)
           (m .result) (λ l. m .ensures .0 (a .text .now) (a .tables-count) (d .policy) (h .1) l)
           (c .before .before .before .before .enum-told3 .given .1) (o .result) (o .ensures .0)
           (c .before .enum-told4 .given .1) (c .date-fault .result) (c .date-fault .ensures);
-      roomy = dated-roomy s (c .before .before .before .before .before .before .before .values-start .result) (c .date-fault .result) (a .k) 1024 (c .date-fault .ensures) (c .before .before .before .before .before .before .before .before .before .before .before .before .before .before .before .before .before .before .before .if1 .left);
+      roomy = dated-roomy s (c .before .before .before .before .before .before .before .values-start .result) (c .date-fault .result) (a .k) 1024
+          (c .date-fault .ensures)
+          (c .before .before .before .before .before .before .before .before .before .before .before .before .before .before .before .before .before .before .before .if1 .left);
       reaches = λ p. dated-reaches s (c .before .before .before .before .before .before .before .values-start .result) (c .date-fault .result) (c .date-fault .ensures);
     }
 

@@ -23,7 +23,10 @@ abbrev Inv-loop : tie.InvT-loop
 Inv-loop text labels labels-count rows₀ k at line is m c₀ j₀ rows c j =
     (c ≤ j)
     × (length line < 2 ^ 64)
-    × ((d : Policy) (sets ls : List ℕ) → LineAt text at line → Labels text labels sets labels-count (d .labels) → k < 1024 → length (cellsAt line is) ≤ 16 → FillingRow text rows₀ k 0 m [] ls → Rowed text rows₀ rows k c (m + c) (map (λ g. g .0 .bytes) (cellsAt line is)) (map (λ g. g .0 .bytes) (cellsAt line j)) (ls ++ map (λ g. orZero (labelOf d (g .1))) (cellsAt line is)) (map (λ g. orZero (labelOf d (g .1))) (cellsAt line j)))
+    × ((d : Policy) (sets ls : List ℕ) → LineAt text at line → Labels text labels sets labels-count (d .labels) → k < 1024 → length
+    (cellsAt line is) ≤ 16 → FillingRow text rows₀ k 0 m [] ls → Rowed text rows₀ rows k c (m + c) (map (λ g. g .0 .bytes) (cellsAt line is))
+    (map (λ g. g .0 .bytes) (cellsAt line j)) (ls ++ map (λ g. orZero (labelOf d (g .1))) (cellsAt line is))
+    (map (λ g. orZero (labelOf d (g .1))) (cellsAt line j)))
 
 abbrev μ-loop : tie.MeasureT-loop
 μ-loop text labels labels-count rows₀ k at line is m c₀ j₀ rows c j = length line - j
@@ -65,7 +68,14 @@ set-label-requires : tie.Need-set-label-requires Inv-loop μ-loop
 set-label-requires c κs = search needs
 
 add-cell-end : tie.Need-add-cell-end Inv-loop μ-loop
-add-cell-end c = omega (arith, space-here (c .before .before .before .before .before .before .before .before .before .before .before .before .before .before .args .line .now) (c .before .before .before .before .before .before .before .before .before .before .before .loop .j) _ (c .before .before .before .before .before .before .before .before .before .before .byte-at .ensures) (c .before .before .before .before .before .before .before .before .before .if1 .taken) .1)
+add-cell-end c = omega (
+  arith,
+  space-here
+      (c .before .before .before .before .before .before .before .before .before .before .before .before .before .before .args .line .now)
+      (c .before .before .before .before .before .before .before .before .before .before .before .loop .j) _
+      (c .before .before .before .before .before .before .before .before .before .before .byte-at .ensures)
+      (c .before .before .before .before .before .before .before .before .before .if1 .taken) .1,
+)
 
 cell-end-requires : tie.Need-cell-end-requires Inv-loop μ-loop
 cell-end-requires c κs = search needs
@@ -74,15 +84,47 @@ add-c : tie.Need-add-c Inv-loop μ-loop
 add-c c = omega (arith, space-here (c .before .before .before .before .before .before .before .before .before .before .before .before .before .before .before .args .line .now) (c .before .before .before .before .before .before .before .before .before .before .before .before .loop .j) _ (c .before .before .before .before .before .before .before .before .before .before .before .byte-at .ensures) (c .before .before .before .before .before .before .before .before .before .before .if1 .taken) .1, c .before .before .before .before .before .before .before .before .before .before .before .before .loop .inv .0, c .before .before .before .before .before .before .before .before .before .before .before .before .loop .inv .1)
 
 loop-less : tie.Need-loop-less Inv-loop μ-loop
-loop-less c = omega (arith, space-here (c .before .before .before .before .before .before .before .before .before .before .before .before .before .before .before .args .line .now) (c .before .before .before .before .before .before .before .before .before .before .before .before .loop .j) _ (c .before .before .before .before .before .before .before .before .before .before .before .byte-at .ensures) (c .before .before .before .before .before .before .before .before .before .before .if1 .taken) .1, cell-after (c .before .before .before .before .before .before .before .before .before .before .before .before .before .before .before .args .line .now) (c .before .before .before .before .before .before .before .before .before .before .before .before .loop .j), c .cell-end .ensures)
+loop-less c = omega (
+  arith,
+  space-here
+      (c .before .before .before .before .before .before .before .before .before .before .before .before .before .before .before .args .line .now)
+      (c .before .before .before .before .before .before .before .before .before .before .before .before .loop .j) _
+      (c .before .before .before .before .before .before .before .before .before .before .before .byte-at .ensures)
+      (c .before .before .before .before .before .before .before .before .before .before .if1 .taken) .1,
+  cell-after
+      (c .before .before .before .before .before .before .before .before .before .before .before .before .before .before .before .args .line .now)
+      (c .before .before .before .before .before .before .before .before .before .before .before .before .loop .j),
+  c .cell-end .ensures,
+)
 
 loop-again : tie.Need-loop-again Inv-loop μ-loop
 unfolding labelOf
 loop-again c =
-    let b = space-here (c .before .before .before .before .before .before .before .before .before .before .before .before .before .before .before .args .line .now) (c .before .before .before .before .before .before .before .before .before .before .before .before .loop .j) _ (c .before .before .before .before .before .before .before .before .before .before .before .byte-at .ensures) (c .before .before .before .before .before .before .before .before .before .before .if1 .taken) in (
-      omega (arith, b .1, c .before .before .before .before .before .before .before .before .before .before .before .before .loop .inv .0, cell-after (c .before .before .before .before .before .before .before .before .before .before .before .before .before .before .before .args .line .now) (c .before .before .before .before .before .before .before .before .before .before .before .before .loop .j), c .cell-end .ensures),
+    let b = space-here
+    (c .before .before .before .before .before .before .before .before .before .before .before .before .before .before .before .args .line .now)
+    (c .before .before .before .before .before .before .before .before .before .before .before .before .loop .j) _
+    (c .before .before .before .before .before .before .before .before .before .before .before .byte-at .ensures)
+    (c .before .before .before .before .before .before .before .before .before .before .if1 .taken) in (
+      omega (
+        arith,
+        b .1,
+        c .before .before .before .before .before .before .before .before .before .before .before .before .loop .inv .0,
+        cell-after
+            (c .before .before .before .before .before .before .before .before .before .before .before .before .before .before .before .args .line .now)
+            (c .before .before .before .before .before .before .before .before .before .before .before .before .loop .j),
+        c .cell-end .ensures,
+      ),
       c .before .before .before .before .before .before .before .before .before .before .before .before .loop .inv .1,
-      λ d sets ls l N small few h. cell-turn l (c .before .before .before .before .before .before .before .before .before .before .before .before .loop .j) _ _ (b .0) (b .1) ls d (c .before .before .before .before .before .before .before .before .before .before .before .before .before .before .before .args .is) _ _ _ (c .before .before .before .before .before .before .before .before .before .first-in .ensures) (c .before .before .before .before .before .before .before .before .cell-label .ensures) (c .before .before .before .before .before .place .ensures) (c .before .before .before .before .before .before .number .ensures ∙ ap orZero (c .before .before .before .before .before .before .before .find-label .ensures .0 sets _ N)) (c .cell-end .ensures) (c .before .before .before .set-value .ensures) (c .before .set-label .ensures) small (c .before .before .before .before .before .before .before .before .before .before .before .before .before .before .before .pre) few (c .before .before .before .before .before .before .before .before .before .before .before .before .loop .inv .2 d sets ls l N small few h),
+      λ d sets ls l N small few h. cell-turn l
+          (c .before .before .before .before .before .before .before .before .before .before .before .before .loop .j) _ _ (b .0) (b .1) ls d
+          (c .before .before .before .before .before .before .before .before .before .before .before .before .before .before .before .args .is) _ _ _
+          (c .before .before .before .before .before .before .before .before .before .first-in .ensures)
+          (c .before .before .before .before .before .before .before .before .cell-label .ensures)
+          (c .before .before .before .before .before .place .ensures)
+          (c .before .before .before .before .before .before .number .ensures ∙ ap orZero (c .before .before .before .before .before .before .before .find-label .ensures .0 sets _ N))
+          (c .cell-end .ensures) (c .before .before .before .set-value .ensures) (c .before .set-label .ensures) small
+          (c .before .before .before .before .before .before .before .before .before .before .before .before .before .before .before .pre) few
+          (c .before .before .before .before .before .before .before .before .before .before .before .before .loop .inv .2 d sets ls l N small few h),
     )
 
 returns : tie.Need-returns Inv-loop μ-loop

@@ -43,7 +43,10 @@ returns : tie.Need-returns
 unfolding labelOf
 returns c d sets rs ws l L N small h few =
     let a = c .before .before .before .before .before .before .before .before .before .before .before .before .before .before .args in
-    nested-stored (a .line .now) (a .is) rs ws N small few d _ _ h (sym (c .before .before .before .before .before .before .before .before .before .before .before .byte-at .ensures) ∙ c .before .before .before .before .before .before .before .before .before .before .if1 .taken) (c .before .before .before .before .before .before .before .before .number .ensures ∙ ap orZero (c .before .before .before .before .before .before .before .before .before .find-label .ensures .0 sets _ L)) (c .before .before .before .before .before .before .set-label .ensures) (c .before .before .before .before .before .word-end .ensures)
+    nested-stored (a .line .now) (a .is) rs ws N small few d _ _ h
+    (sym (c .before .before .before .before .before .before .before .before .before .before .before .byte-at .ensures) ∙ c .before .before .before .before .before .before .before .before .before .before .if1 .taken)
+    (c .before .before .before .before .before .before .before .before .number .ensures ∙ ap orZero (c .before .before .before .before .before .before .before .before .before .find-label .ensures .0 sets _ L))
+    (c .before .before .before .before .before .before .set-label .ensures) (c .before .before .before .before .before .word-end .ensures)
     (λ short e. c .before .before .before .store-cells .ensures d sets (c .before .before .before .before .before .before .before .before .number .result ∷ []) l L small short e) (c .before .one-more .ensures) (c .add-row .ensures (a .text .now))
 
 returns-2 : tie.Need-returns-2

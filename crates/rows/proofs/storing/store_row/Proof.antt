@@ -42,29 +42,53 @@ returns : tie.Need-returns
 unfolding shapedValues tableOf
 returns c d sets l L T N ok =
     let a = c .before .before .before .before .before .before .before .before .before .before .before .args in
-    shape-stored d (a .line .now) (wordOf (a .line .now) (a .t)) (itemsAt (a .line .now) (a .is)) T N ok (c .before .before .before .before .before .before .before .number .result) (c .before .before .before .before .before .before .table-scheme .result) (c .before .before .before .before .before .before .before .number .ensures ∙ ap orZero (c .before .before .before .before .before .before .before .before .find-table .ensures .0 _ T)) (c .before .before .before .before .before .before .table-scheme .ensures)
-    (λ m ms. sym (c .before .before .before .before .leads-label .ensures m ms) ∙ c .before .before .before .if1 .taken) (λ m ms. sym (c .before .before .before .before .before .has-brackets .ensures m ms) ∙ c .before .before .if2 .taken) (λ ws small v few. c .store-nested .ensures (d .policy) sets (d .rows) ws l L N small v few)
+    shape-stored d (a .line .now) (wordOf (a .line .now) (a .t)) (itemsAt (a .line .now) (a .is)) T N ok
+    (c .before .before .before .before .before .before .before .number .result)
+    (c .before .before .before .before .before .before .table-scheme .result)
+    (c .before .before .before .before .before .before .before .number .ensures ∙ ap orZero (c .before .before .before .before .before .before .before .before .find-table .ensures .0 _ T))
+    (c .before .before .before .before .before .before .table-scheme .ensures)
+    (λ m ms. sym (c .before .before .before .before .leads-label .ensures m ms) ∙ c .before .before .before .if1 .taken)
+    (λ m ms. sym (c .before .before .before .before .before .has-brackets .ensures m ms) ∙ c .before .before .if2 .taken)
+    (λ ws small v few. c .store-nested .ensures (d .policy) sets (d .rows) ws l L N small v few)
 
 returns-2 : tie.Need-returns-2
 unfolding shapedValues tableOf
 returns-2 c d sets l L T N ok =
     let a = c .before .before .before .before .before .before .before .before .before .before .before .args in
-    shape-stored d (a .line .now) (wordOf (a .line .now) (a .t)) (itemsAt (a .line .now) (a .is)) T N ok (c .before .before .before .before .before .before .before .number .result) (c .before .before .before .before .before .before .table-scheme .result) (c .before .before .before .before .before .before .before .number .ensures ∙ ap orZero (c .before .before .before .before .before .before .before .before .find-table .ensures .0 _ T)) (c .before .before .before .before .before .before .table-scheme .ensures)
-    (λ m ms. sym (c .before .before .before .before .leads-label .ensures m ms) ∙ c .before .before .before .if1 .taken) (λ m ms. sym (c .before .before .before .before .before .has-brackets .ensures m ms) ∙ c .before .before .if2 .left) (λ ws small v few. led-alone (a .k) (c .before .before .before .before .before .before .before .number .result) d (itemsAt (a .line .now) (a .is)) ws (c .store-by-row .ensures (d .policy) sets (d .rows) ws l L N small v few))
+    shape-stored d (a .line .now) (wordOf (a .line .now) (a .t)) (itemsAt (a .line .now) (a .is)) T N ok
+    (c .before .before .before .before .before .before .before .number .result)
+    (c .before .before .before .before .before .before .table-scheme .result)
+    (c .before .before .before .before .before .before .before .number .ensures ∙ ap orZero (c .before .before .before .before .before .before .before .before .find-table .ensures .0 _ T))
+    (c .before .before .before .before .before .before .table-scheme .ensures)
+    (λ m ms. sym (c .before .before .before .before .leads-label .ensures m ms) ∙ c .before .before .before .if1 .taken)
+    (λ m ms. sym (c .before .before .before .before .before .has-brackets .ensures m ms) ∙ c .before .before .if2 .left)
+    (λ ws small v few. led-alone (a .k) (c .before .before .before .before .before .before .before .number .result) d (itemsAt (a .line .now) (a .is)) ws (c .store-by-row .ensures (d .policy) sets (d .rows) ws l L N small v few))
 
 returns-3 : tie.Need-returns-3
 unfolding shapedValues tableOf
 returns-3 c d sets l L T N ok =
     let a = c .before .before .before .before .before .before .before .before .before .before .before .args in
-    shape-stored d (a .line .now) (wordOf (a .line .now) (a .t)) (itemsAt (a .line .now) (a .is)) T N ok (c .before .before .before .before .before .before .before .number .result) (c .before .before .before .before .before .before .table-scheme .result) (c .before .before .before .before .before .before .before .number .ensures ∙ ap orZero (c .before .before .before .before .before .before .before .before .find-table .ensures .0 _ T)) (c .before .before .before .before .before .before .table-scheme .ensures)
-    (λ m ms. sym (c .before .before .before .before .leads-label .ensures m ms) ∙ c .before .before .before .if1 .left) (λ m ms. sym (c .before .before .before .before .before .has-brackets .ensures m ms) ∙ c .before .before .if3 .taken) (λ ws small v few. c .store-by-cell .ensures (d .policy) sets (d .rows) ws l L N small v few)
+    shape-stored d (a .line .now) (wordOf (a .line .now) (a .t)) (itemsAt (a .line .now) (a .is)) T N ok
+    (c .before .before .before .before .before .before .before .number .result)
+    (c .before .before .before .before .before .before .table-scheme .result)
+    (c .before .before .before .before .before .before .before .number .ensures ∙ ap orZero (c .before .before .before .before .before .before .before .before .find-table .ensures .0 _ T))
+    (c .before .before .before .before .before .before .table-scheme .ensures)
+    (λ m ms. sym (c .before .before .before .before .leads-label .ensures m ms) ∙ c .before .before .before .if1 .left)
+    (λ m ms. sym (c .before .before .before .before .before .has-brackets .ensures m ms) ∙ c .before .before .if3 .taken)
+    (λ ws small v few. c .store-by-cell .ensures (d .policy) sets (d .rows) ws l L N small v few)
 
 returns-4 : tie.Need-returns-4
 unfolding shapedValues tableOf
 returns-4 c d sets l L T N ok =
     let a = c .before .before .before .before .before .before .before .before .before .before .before .args in
-    shape-stored d (a .line .now) (wordOf (a .line .now) (a .t)) (itemsAt (a .line .now) (a .is)) T N ok (c .before .before .before .before .before .before .before .number .result) (c .before .before .before .before .before .before .table-scheme .result) (c .before .before .before .before .before .before .before .number .ensures ∙ ap orZero (c .before .before .before .before .before .before .before .before .find-table .ensures .0 _ T)) (c .before .before .before .before .before .before .table-scheme .ensures)
-    (λ m ms. sym (c .before .before .before .before .leads-label .ensures m ms) ∙ c .before .before .before .if1 .left) (λ m ms. sym (c .before .before .before .before .before .has-brackets .ensures m ms) ∙ c .before .before .if3 .left) (λ ws small v few. c .store-plain .ensures (d .rows) ws l N small v few)
+    shape-stored d (a .line .now) (wordOf (a .line .now) (a .t)) (itemsAt (a .line .now) (a .is)) T N ok
+    (c .before .before .before .before .before .before .before .number .result)
+    (c .before .before .before .before .before .before .table-scheme .result)
+    (c .before .before .before .before .before .before .before .number .ensures ∙ ap orZero (c .before .before .before .before .before .before .before .before .find-table .ensures .0 _ T))
+    (c .before .before .before .before .before .before .table-scheme .ensures)
+    (λ m ms. sym (c .before .before .before .before .leads-label .ensures m ms) ∙ c .before .before .before .if1 .left)
+    (λ m ms. sym (c .before .before .before .before .before .has-brackets .ensures m ms) ∙ c .before .before .if3 .left)
+    (λ ws small v few. c .store-plain .ensures (d .rows) ws l N small v few)
 
 pub store-row-spec : {M : Type 1} → statement M
 store-row-spec =

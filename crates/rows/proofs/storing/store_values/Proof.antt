@@ -44,11 +44,27 @@ written-end-requires : tie.Need-written-end-requires Inv-loop μ-loop
 written-end-requires c κs = search needs
 
 add-c : tie.Need-add-c Inv-loop μ-loop
-add-c c = omega (arith, space-here (c .before .before .before .before .before .before .before .before .before .args .line .now) (c .before .before .before .before .before .before .loop .j) _ (c .before .before .before .before .before .byte-at .ensures) (c .before .before .before .before .if1 .taken) .1, c .before .before .before .before .before .before .loop .inv .0, c .before .before .before .before .before .before .loop .inv .1)
+add-c c = omega (
+  arith,
+  space-here (c .before .before .before .before .before .before .before .before .before .args .line .now)
+      (c .before .before .before .before .before .before .loop .j) _ (c .before .before .before .before .before .byte-at .ensures)
+      (c .before .before .before .before .if1 .taken) .1,
+  c .before .before .before .before .before .before .loop .inv .0,
+  c .before .before .before .before .before .before .loop .inv .1,
+)
 
 loop-less : tie.Need-loop-less Inv-loop μ-loop
 unfolding writtenEndAt
-loop-less c = omega (arith, space-here (c .before .before .before .before .before .before .before .before .before .args .line .now) (c .before .before .before .before .before .before .loop .j) _ (c .before .before .before .before .before .byte-at .ensures) (c .before .before .before .before .if1 .taken) .1, value-after (c .before .before .before .before .before .before .before .before .before .args .line .now) (c .before .before .before .before .before .before .loop .j), c .written-end .ensures)
+loop-less c = omega (
+  arith,
+  space-here (c .before .before .before .before .before .before .before .before .before .args .line .now)
+      (c .before .before .before .before .before .before .loop .j) _ (c .before .before .before .before .before .byte-at .ensures)
+      (c .before .before .before .before .if1 .taken) .1,
+  value-after
+      (c .before .before .before .before .before .before .before .before .before .args .line .now)
+      (c .before .before .before .before .before .before .loop .j),
+  c .written-end .ensures,
+)
 
 loop-again : tie.Need-loop-again Inv-loop μ-loop
 unfolding writtenEndAt
@@ -56,7 +72,10 @@ loop-again c =
     let b = space-here (c .before .before .before .before .before .before .before .before .before .args .line .now) (c .before .before .before .before .before .before .loop .j) _ (c .before .before .before .before .before .byte-at .ensures) (c .before .before .before .before .if1 .taken) in (
       omega (arith, b .1, c .before .before .before .before .before .before .loop .inv .0, value-after (c .before .before .before .before .before .before .before .before .before .args .line .now) (c .before .before .before .before .before .before .loop .j), c .written-end .ensures),
       c .before .before .before .before .before .before .loop .inv .1,
-      λ m ls l small few h. value-turn l (c .before .before .before .before .before .before .loop .j) _ _ (b .0) (b .1) (c .before .before .before .before .before .before .before .before .before .args .is) (c .before .before .before .place .ensures) (c .written-end .ensures) (c .before .set-value .ensures) small few (c .before .before .before .before .before .before .loop .inv .2 m ls l small few h),
+      λ m ls l small few h. value-turn l (c .before .before .before .before .before .before .loop .j) _ _ (b .0) (b .1)
+          (c .before .before .before .before .before .before .before .before .before .args .is) (c .before .before .before .place .ensures)
+          (c .written-end .ensures) (c .before .set-value .ensures) small few
+          (c .before .before .before .before .before .before .loop .inv .2 m ls l small few h),
     )
 
 returns : tie.Need-returns Inv-loop μ-loop

@@ -33,7 +33,11 @@ enum-known-v c = search needs
 returns-3 : tie.Need-returns-3
 returns-3 c =
     let a = c .before .before .before .before .before .before .before .before .before .before .args in
-    allowed-twice (a .text .now) (a .purposes .now) (a .purposes-count) (a .labels .now) (a .k) (a .line .now) (a .l) (a .allowed) (a .denied) (omega arith) (c .before .before .before .before .before .before .find-label .result) (c .before .before .before .before .before .before .find-label .ensures .0) (c .before .before .before .before .enum-told2 .given .1) (c .before .before .before .first-repeat .result) (c .before .before .before .first-repeat .ensures) (c .before .v .given .0 .0) (c .before .v .given .1)
+    allowed-twice (a .text .now) (a .purposes .now) (a .purposes-count) (a .labels .now) (a .k) (a .line .now) (a .l) (a .allowed) (a .denied)
+    (omega arith) (c .before .before .before .before .before .before .find-label .result)
+    (c .before .before .before .before .before .before .find-label .ensures .0) (c .before .before .before .before .enum-told2 .given .1)
+    (c .before .before .before .first-repeat .result) (c .before .before .before .first-repeat .ensures) (c .before .v .given .0 .0)
+    (c .before .v .given .1)
 
 enum-told-3 : tie.Need-enum-told-3
 enum-told-3 c = search needs
@@ -47,7 +51,14 @@ enum-known-v-2 c = search needs
 returns-4 : tie.Need-returns-4
 returns-4 c =
     let a = c .before .before .before .before .before .before .before .before .before .before .before .before .before .args in
-    denied-twice (a .text .now) (a .purposes .now) (a .purposes-count) (a .labels .now) (a .k) (a .line .now) (a .l) (a .allowed) (a .denied) (omega arith) (c .before .before .before .before .before .before .before .before .before .find-label .result) (c .before .before .before .before .before .before .before .before .before .find-label .ensures .0) (c .before .before .before .before .before .before .before .enum-told2 .given .1) (c .before .before .before .before .before .before .first-repeat .result) (c .before .before .before .before .before .before .first-repeat .ensures) (c .before .before .before .before .enum-told3 .given .1) (c .before .before .before .first-repeat2 .result) (c .before .before .before .first-repeat2 .ensures) (c .before .v2 .given .0 .0) (c .before .v2 .given .1)
+    denied-twice (a .text .now) (a .purposes .now) (a .purposes-count) (a .labels .now) (a .k) (a .line .now) (a .l) (a .allowed) (a .denied)
+    (omega arith) (c .before .before .before .before .before .before .before .before .before .find-label .result)
+    (c .before .before .before .before .before .before .before .before .before .find-label .ensures .0)
+    (c .before .before .before .before .before .before .before .enum-told2 .given .1)
+    (c .before .before .before .before .before .before .first-repeat .result)
+    (c .before .before .before .before .before .before .first-repeat .ensures) (c .before .before .before .before .enum-told3 .given .1)
+    (c .before .before .before .first-repeat2 .result) (c .before .before .before .first-repeat2 .ensures) (c .before .v2 .given .0 .0)
+    (c .before .v2 .given .1)
 
 enum-told-4 : tie.Need-enum-told-4
 enum-told-4 c = search needs
@@ -61,7 +72,17 @@ enum-known-v-3 c = search needs
 returns-5 : tie.Need-returns-5
 returns-5 c =
     let a = c .before .before .before .before .before .before .before .before .before .before .before .before .before .before .before .before .args in
-    allowed-unknown (a .text .now) (a .purposes .now) (a .purposes-count) (a .labels .now) (a .k) (a .line .now) (a .l) (a .allowed) (a .denied) (omega arith) (c .before .before .before .before .before .before .before .before .before .before .before .before .find-label .result) (c .before .before .before .before .before .before .before .before .before .before .before .before .find-label .ensures .0) (c .before .before .before .before .before .before .before .before .before .before .enum-told2 .given .1) (c .before .before .before .before .before .before .before .before .before .first-repeat .result) (c .before .before .before .before .before .before .before .before .before .first-repeat .ensures) (c .before .before .before .before .before .before .before .enum-told3 .given .1) (c .before .before .before .before .before .before .first-repeat2 .result) (c .before .before .before .before .before .before .first-repeat2 .ensures) (c .before .before .before .before .enum-told4 .given .1) (c .before .before .before .first-unknown-purpose .result) (c .before .before .before .first-unknown-purpose .ensures) (c .before .v3 .given .0 .0) (c .before .v3 .given .1)
+    allowed-unknown (a .text .now) (a .purposes .now) (a .purposes-count) (a .labels .now) (a .k) (a .line .now) (a .l) (a .allowed) (a .denied)
+    (omega arith) (c .before .before .before .before .before .before .before .before .before .before .before .before .find-label .result)
+    (c .before .before .before .before .before .before .before .before .before .before .before .before .find-label .ensures .0)
+    (c .before .before .before .before .before .before .before .before .before .before .enum-told2 .given .1)
+    (c .before .before .before .before .before .before .before .before .before .first-repeat .result)
+    (c .before .before .before .before .before .before .before .before .before .first-repeat .ensures)
+    (c .before .before .before .before .before .before .before .enum-told3 .given .1)
+    (c .before .before .before .before .before .before .first-repeat2 .result)
+    (c .before .before .before .before .before .before .first-repeat2 .ensures) (c .before .before .before .before .enum-told4 .given .1)
+    (c .before .before .before .first-unknown-purpose .result) (c .before .before .before .first-unknown-purpose .ensures)
+    (c .before .v3 .given .0 .0) (c .before .v3 .given .1)
 
 enum-told-5 : tie.Need-enum-told-5
 enum-told-5 c = search needs
@@ -75,7 +96,21 @@ enum-known-v-4 c = search needs
 returns-6 : tie.Need-returns-6
 returns-6 c =
     let a = c .before .before .before .before .before .before .before .before .before .before .before .before .before .before .before .before .before .before .before .args in
-    denied-unknown (a .text .now) (a .purposes .now) (a .purposes-count) (a .labels .now) (a .k) (a .line .now) (a .l) (a .allowed) (a .denied) (omega arith) (c .before .before .before .before .before .before .before .before .before .before .before .before .before .before .before .find-label .result) (c .before .before .before .before .before .before .before .before .before .before .before .before .before .before .before .find-label .ensures .0) (c .before .before .before .before .before .before .before .before .before .before .before .before .before .enum-told2 .given .1) (c .before .before .before .before .before .before .before .before .before .before .before .before .first-repeat .result) (c .before .before .before .before .before .before .before .before .before .before .before .before .first-repeat .ensures) (c .before .before .before .before .before .before .before .before .before .before .enum-told3 .given .1) (c .before .before .before .before .before .before .before .before .before .first-repeat2 .result) (c .before .before .before .before .before .before .before .before .before .first-repeat2 .ensures) (c .before .before .before .before .before .before .before .enum-told4 .given .1) (c .before .before .before .before .before .before .first-unknown-purpose .result) (c .before .before .before .before .before .before .first-unknown-purpose .ensures) (c .before .before .before .before .enum-told5 .given .1) (c .before .before .before .first-unknown-purpose2 .result) (c .before .before .before .first-unknown-purpose2 .ensures) (c .before .v4 .given .0 .0) (c .before .v4 .given .1)
+    denied-unknown (a .text .now) (a .purposes .now) (a .purposes-count) (a .labels .now) (a .k) (a .line .now) (a .l) (a .allowed) (a .denied)
+    (omega arith)
+    (c .before .before .before .before .before .before .before .before .before .before .before .before .before .before .before .find-label .result)
+    (c .before .before .before .before .before .before .before .before .before .before .before .before .before .before .before .find-label .ensures .0)
+    (c .before .before .before .before .before .before .before .before .before .before .before .before .before .enum-told2 .given .1)
+    (c .before .before .before .before .before .before .before .before .before .before .before .before .first-repeat .result)
+    (c .before .before .before .before .before .before .before .before .before .before .before .before .first-repeat .ensures)
+    (c .before .before .before .before .before .before .before .before .before .before .enum-told3 .given .1)
+    (c .before .before .before .before .before .before .before .before .before .first-repeat2 .result)
+    (c .before .before .before .before .before .before .before .before .before .first-repeat2 .ensures)
+    (c .before .before .before .before .before .before .before .enum-told4 .given .1)
+    (c .before .before .before .before .before .before .first-unknown-purpose .result)
+    (c .before .before .before .before .before .before .first-unknown-purpose .ensures) (c .before .before .before .before .enum-told5 .given .1)
+    (c .before .before .before .first-unknown-purpose2 .result) (c .before .before .before .first-unknown-purpose2 .ensures)
+    (c .before .v4 .given .0 .0) (c .before .v4 .given .1)
 
 enum-told-6 : tie.Need-enum-told-6
 enum-told-6 c = search needs
@@ -83,7 +118,20 @@ enum-told-6 c = search needs
 returns-7 : tie.Need-returns-7
 returns-7 c =
     let a = c .before .before .before .before .before .before .before .before .before .before .before .before .before .before .before .before .before .before .args in
-    label-fine (a .text .now) (a .purposes .now) (a .purposes-count) (a .labels .now) (a .k) (a .line .now) (a .l) (a .allowed) (a .denied) (omega arith) (c .before .before .before .before .before .before .before .before .before .before .before .before .before .before .find-label .result) (c .before .before .before .before .before .before .before .before .before .before .before .before .before .before .find-label .ensures .0) (c .before .before .before .before .before .before .before .before .before .before .before .before .enum-told2 .given .1) (c .before .before .before .before .before .before .before .before .before .before .before .first-repeat .result) (c .before .before .before .before .before .before .before .before .before .before .before .first-repeat .ensures) (c .before .before .before .before .before .before .before .before .before .enum-told3 .given .1) (c .before .before .before .before .before .before .before .before .first-repeat2 .result) (c .before .before .before .before .before .before .before .before .first-repeat2 .ensures) (c .before .before .before .before .before .before .enum-told4 .given .1) (c .before .before .before .before .before .first-unknown-purpose .result) (c .before .before .before .before .before .first-unknown-purpose .ensures) (c .before .before .before .enum-told5 .given .1) (c .before .before .first-unknown-purpose2 .result) (c .before .before .first-unknown-purpose2 .ensures) (c .enum-told6 .given .1)
+    label-fine (a .text .now) (a .purposes .now) (a .purposes-count) (a .labels .now) (a .k) (a .line .now) (a .l) (a .allowed) (a .denied)
+    (omega arith)
+    (c .before .before .before .before .before .before .before .before .before .before .before .before .before .before .find-label .result)
+    (c .before .before .before .before .before .before .before .before .before .before .before .before .before .before .find-label .ensures .0)
+    (c .before .before .before .before .before .before .before .before .before .before .before .before .enum-told2 .given .1)
+    (c .before .before .before .before .before .before .before .before .before .before .before .first-repeat .result)
+    (c .before .before .before .before .before .before .before .before .before .before .before .first-repeat .ensures)
+    (c .before .before .before .before .before .before .before .before .before .enum-told3 .given .1)
+    (c .before .before .before .before .before .before .before .before .first-repeat2 .result)
+    (c .before .before .before .before .before .before .before .before .first-repeat2 .ensures)
+    (c .before .before .before .before .before .before .enum-told4 .given .1)
+    (c .before .before .before .before .before .first-unknown-purpose .result)
+    (c .before .before .before .before .before .first-unknown-purpose .ensures) (c .before .before .before .enum-told5 .given .1)
+    (c .before .before .first-unknown-purpose2 .result) (c .before .before .first-unknown-purpose2 .ensures) (c .enum-told6 .given .1)
 
 pub label-fault-spec : {M : Type 1} → statement M
 label-fault-spec =

@@ -49,12 +49,22 @@ word-end-requires c κs = search needs
 
 loop-less : tie.Need-loop-less Inv-loop μ-loop
 unfolding wordEndAt
-loop-less c = omega (arith, space-here (c .before .before .before .before .before .before .before .before .before .before .args .line .now) (c .before .before .before .before .before .before .loop .j) _ (c .before .before .before .before .before .byte-at .ensures) (c .before .before .before .before .if1 .taken) .1, word-after (c .before .before .before .before .before .before .before .before .before .before .args .line .now) (c .before .before .before .before .before .before .loop .j), c .word-end .ensures)
+loop-less c = let entry = c .before .before .before .before .before .before .before .before .before .before .args in omega (
+  arith,
+  space-here
+      (entry .line .now) (c .before .before .before .before .before .before .loop .j) _ (c .before .before .before .before .before .byte-at .ensures)
+      (c .before .before .before .before .if1 .taken) .1,
+  word-after (entry .line .now)
+      (c .before .before .before .before .before .before .loop .j),
+  c .word-end .ensures,
+)
 
 loop-again : tie.Need-loop-again Inv-loop μ-loop
 unfolding purposeOf wordEndAt
 loop-again c d N =
-    gathered-more _ (c .before .before .before .before .before .before .before .before .before .before .args .line .now) (c .before .before .before .before .before .before .before .before .before .before .args .at) (c .before .before .before .before .before .before .loop .j) _ _ _ _ (c .before .before .before .before .before .before .loop .inv d N)
+    gathered-more _ (c .before .before .before .before .before .before .before .before .before .before .args .line .now)
+    (c .before .before .before .before .before .before .before .before .before .before .args .at)
+    (c .before .before .before .before .before .before .loop .j) _ _ _ _ (c .before .before .before .before .before .before .loop .inv d N)
     (space-here (c .before .before .before .before .before .before .before .before .before .before .args .line .now) (c .before .before .before .before .before .before .loop .j) _ (c .before .before .before .before .before .byte-at .ensures) (c .before .before .before .before .if1 .taken) .0)
     (c .before .before .number .ensures ∙ ap orZero (c .before .before .before .find-purpose .ensures .0 _ N))
     (subst (λ n. n < limit) (sym (c .before .before .number .ensures)) (found-small (c .before .before .before .find-purpose .result) (c .before .before .before .before .before .before .before .before .before .before .args .k) (c .before .before .before .find-purpose .ensures .1) (N .few)))
@@ -62,7 +72,7 @@ loop-again c d N =
     (c .word-end .ensures)
 
 returns : tie.Need-returns Inv-loop μ-loop
-returns c d N = gathered-all _ (c .before .before .before .before .before .before .args .line .now) (c .before .before .before .before .before .before .args .at) (c .before .before .loop .j) _ (c .before .before .loop .inv d N) (λ e. c .if1 .left (c .before .byte-at .ensures ∙ e))
+returns c d N = let entry = c .before .before .before .before .before .before .args in gathered-all _ (entry .line .now) (entry .at) (c .before .before .loop .j) _ (c .before .before .loop .inv d N) (λ e. c .if1 .left (c .before .byte-at .ensures ∙ e))
 
 pub set-of-spec : {M : Type 1} → statement M
 set-of-spec =

@@ -34,7 +34,7 @@ add-n c = omega (arith, space-here (c .before .before .before .before .before .a
 
 -- the next turn begins later
 later : (c : tie.After-bracket-end Inv-loop μ-loop) → c .before .before .before .loop .j < c .bracket-end .result
-later c = omega (arith, c .bracket-end .ensures, bracket-after (c .before .before .before .before .before .args .s .now) (c .before .before .before .loop .j) (c .before .before .before .before .before .args .triple))
+later c = let entry = c .before .before .before .before .before .args in omega (arith, c .bracket-end .ensures, bracket-after (entry .s .now) (c .before .before .before .loop .j) (entry .triple))
 
 loop-less : tie.Need-loop-less Inv-loop μ-loop
 loop-less c = omega (arith, later c, space-here (c .before .before .before .before .before .args .s .now) (c .before .before .before .loop .j) _ (c .before .before .byte-at .ensures) (c .before .if1 .taken) .1)

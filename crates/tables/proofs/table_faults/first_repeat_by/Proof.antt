@@ -40,14 +40,20 @@ first-in-requires : tie.Need-first-in-requires Inv-loop μ-loop
 first-in-requires c κs = search needs
 
 -- the name at the place is the next one
-next : (c : tie.After-first-in Inv-loop μ-loop) → Passing (columnNames (columnsBy (c .before .before .before .before .before .before .args .triple) (c .before .before .before .before .before .before .args .s .now) (c .before .before .before .before .before .before .args .at))) (c .before .before .before .loop .n) (wordOf (c .before .before .before .before .before .before .args .s .now) (c .first-in .result) ∷ columnNames (columnsBy (c .before .before .before .before .before .before .args .triple) (c .before .before .before .before .before .before .args .s .now) (bracketEndBy (c .before .before .before .before .before .before .args .triple) (c .before .before .before .before .before .before .args .s .now) (c .before .before .before .loop .j + 1))))
+next : (c : tie.After-first-in Inv-loop μ-loop) → Passing (columnNames (columnsBy (c .before .before .before .before .before .before .args .triple)
+    (c .before .before .before .before .before .before .args .s .now) (c .before .before .before .before .before .before .args .at)))
+    (c .before .before .before .loop .n) (wordOf (c .before .before .before .before .before .before .args .s .now) (c .first-in .result) ∷ columnNames
+    (columnsBy (c .before .before .before .before .before .before .args .triple) (c .before .before .before .before .before .before .args .s .now)
+    (bracketEndBy (c .before .before .before .before .before .before .args .triple) (c .before .before .before .before .before .before .args .s .now) (c .before .before .before .loop .j + 1))))
 unfolding firstIn
 next c =
     let s = c .before .before .before .before .before .before .args .s .now in
     let ws = columnNames (columnsBy (c .before .before .before .before .before .before .args .triple) s (c .before .before .before .before .before .before .args .at)) in
     let rest = columnNames (columnsBy (c .before .before .before .before .before .before .args .triple) s (bracketEndBy (c .before .before .before .before .before .before .args .triple) s (c .before .before .before .loop .j + 1))) in
     subst (λ l. Passing ws (c .before .before .before .loop .n) l)
-    (names-by-more s (c .before .before .before .loop .j) (c .before .before .before .before .before .before .args .triple) (space-here s (c .before .before .before .loop .j) _ (c .before .before .byte-at .ensures) (c .before .if1 .taken) .0) ∙ ap (λ q. wordOf s q ∷ rest) (sym (c .first-in .ensures)))
+    (names-by-more s (c .before .before .before .loop .j) (c .before .before .before .before .before .before .args .triple)
+    (space-here s (c .before .before .before .loop .j) _ (c .before .before .byte-at .ensures) (c .before .if1 .taken) .0) ∙ ap
+    (λ q. wordOf s q ∷ rest) (sym (c .first-in .ensures)))
     (c .before .before .before .loop .inv .0)
 
 is-new-requires : tie.Need-is-new-requires Inv-loop μ-loop
@@ -64,29 +70,62 @@ unfolding firstIn
 returns c =
     let s = c .before .before .before .before .before .before .before .before .before .before .before .before .before .args .s .now in (
       sym (passing-found (wordOf s (c .before .before .before .before .before .before .before .first-in .result)) _ (next (c .before .before .before .before .before .before .before)) (sym (c .before .stands-among .ensures) ∙ c .if3 .taken)),
-      omega (arith, c .before .before .before .before .before .before .before .first-in .ensures, first-within s (c .before .before .before .before .before .before .before .before .before .before .loop .j) (space-here s (c .before .before .before .before .before .before .before .before .before .before .loop .j) _ (c .before .before .before .before .before .before .before .before .before .byte-at .ensures) (c .before .before .before .before .before .before .before .before .if1 .taken) .1)),
+      omega (
+        arith,
+        c .before .before .before .before .before .before .before .first-in .ensures,
+        first-within s
+            (c .before .before .before .before .before .before .before .before .before .before .loop .j)
+            (space-here s (c .before .before .before .before .before .before .before .before .before .before .loop .j) _ (c .before .before .before .before .before .before .before .before .before .byte-at .ensures) (c .before .before .before .before .before .before .before .before .if1 .taken) .1),
+      ),
     )
 
 add-bracket-end : tie.Need-add-bracket-end Inv-loop μ-loop
-add-bracket-end c = omega (arith, space-here (c .before .before .before .before .before .before .before .before .before .before .before .args .s .now) (c .before .before .before .before .before .before .before .before .loop .j) _ (c .before .before .before .before .before .before .before .byte-at .ensures) (c .before .before .before .before .before .before .if1 .taken) .1)
+add-bracket-end c = omega (
+  arith,
+  space-here (c .before .before .before .before .before .before .before .before .before .before .before .args .s .now)
+      (c .before .before .before .before .before .before .before .before .loop .j) _
+      (c .before .before .before .before .before .before .before .byte-at .ensures) (c .before .before .before .before .before .before .if1 .taken) .1,
+)
 
 bracket-end-requires : tie.Need-bracket-end-requires Inv-loop μ-loop
 bracket-end-requires c κs = search needs
 
 -- the name is none of those before: it is surely new, or it was compared with them
-absent : (c : tie.Joined2 Inv-loop μ-loop) → anyOf (λ v. isCalled (wordOf (c .before .before .before .before .before .before .before .before .before .before .before .args .s .now) (c .before .before .before .before .before .first-in .result)) (v .bytes)) (take (c .before .before .before .before .before .before .before .before .loop .n) (columnNames (columnsBy (c .before .before .before .before .before .before .before .before .before .before .before .args .triple) (c .before .before .before .before .before .before .before .before .before .before .before .args .s .now) (c .before .before .before .before .before .before .before .before .before .before .before .args .at)))) ≡ false
+absent : (c : tie.Joined2 Inv-loop μ-loop) → anyOf (λ v. isCalled (wordOf
+    (c .before .before .before .before .before .before .before .before .before .before .before .args .s .now)
+    (c .before .before .before .before .before .first-in .result)) (v .bytes)) (take
+    (c .before .before .before .before .before .before .before .before .loop .n) (columnNames (columnsBy
+    (c .before .before .before .before .before .before .before .before .before .before .before .args .triple)
+    (c .before .before .before .before .before .before .before .before .before .before .before .args .s .now)
+    (c .before .before .before .before .before .before .before .before .before .before .before .args .at)))) ≡ false
 absent c =
     ⊎-elim (λ v. sym (v .1 .ensures) ∙ v .2 .left) (λ v. c .before .before .before .is-new .ensures .none _ (c .before .before .before .before .before .before .before .before .loop .inv .2) (not-false (c .before .before .before .is-new .result) (v .left))) (c .if2 .came)
 
 add-n : tie.Need-add-n Inv-loop μ-loop
-add-n c = omega (arith, c .before .before .before .before .before .before .before .before .before .loop .inv .1, space-here (c .before .before .before .before .before .before .before .before .before .before .before .before .args .s .now) (c .before .before .before .before .before .before .before .before .before .loop .j) _ (c .before .before .before .before .before .before .before .before .byte-at .ensures) (c .before .before .before .before .before .before .before .if1 .taken) .1)
+add-n c = omega (
+  arith,
+  c .before .before .before .before .before .before .before .before .before .loop .inv .1,
+  space-here
+      (c .before .before .before .before .before .before .before .before .before .before .before .before .args .s .now)
+      (c .before .before .before .before .before .before .before .before .before .loop .j) _
+      (c .before .before .before .before .before .before .before .before .byte-at .ensures)
+      (c .before .before .before .before .before .before .before .if1 .taken) .1,
+)
 
 -- the next turn begins later
 later : (c : tie.After-bracket-end Inv-loop μ-loop) → c .before .before .before .before .before .before .before .before .before .loop .j < c .bracket-end .result
-later c = omega (arith, c .bracket-end .ensures, bracket-after (c .before .before .before .before .before .before .before .before .before .before .before .before .args .s .now) (c .before .before .before .before .before .before .before .before .before .loop .j) (c .before .before .before .before .before .before .before .before .before .before .before .before .args .triple))
+later c = let entry = c .before .before .before .before .before .before .before .before .before .before .before .before .args in omega (arith, c .bracket-end .ensures, bracket-after (entry .s .now) (c .before .before .before .before .before .before .before .before .before .loop .j) (entry .triple))
 
 loop-less : tie.Need-loop-less Inv-loop μ-loop
-loop-less c = omega (arith, later c, space-here (c .before .before .before .before .before .before .before .before .before .before .before .before .args .s .now) (c .before .before .before .before .before .before .before .before .before .loop .j) _ (c .before .before .before .before .before .before .before .before .byte-at .ensures) (c .before .before .before .before .before .before .before .if1 .taken) .1)
+loop-less c = omega (
+  arith,
+  later c,
+  space-here
+      (c .before .before .before .before .before .before .before .before .before .before .before .before .args .s .now)
+      (c .before .before .before .before .before .before .before .before .before .loop .j) _
+      (c .before .before .before .before .before .before .before .before .byte-at .ensures)
+      (c .before .before .before .before .before .before .before .if1 .taken) .1,
+)
 
 loop-again : tie.Need-loop-again Inv-loop μ-loop
 loop-again c =
@@ -95,7 +134,9 @@ loop-again c =
       subst (λ e. Passing ws (c .before .before .before .before .before .before .before .before .before .loop .n + 1) (columnNames (columnsBy (c .before .before .before .before .before .before .before .before .before .before .before .before .args .triple) s e))) (sym (c .bracket-end .ensures))
           (passing-more (wordOf s (c .before .before .before .before .before .before .first-in .result)) _ (next (c .before .before .before .before .before .before)) (absent (c .before))),
       omega (arith, later c, c .before .before .before .before .before .before .before .before .before .loop .inv .1),
-      c .before .before .before .before .is-new .ensures .more _ _ (c .before .before .before .before .before .before .before .before .before .loop .inv .2) (passing-tests (wordOf s (c .before .before .before .before .before .before .first-in .result)) _ (next (c .before .before .before .before .before .before))),
+      c .before .before .before .before .is-new .ensures .more _ _
+          (c .before .before .before .before .before .before .before .before .before .loop .inv .2)
+          (passing-tests (wordOf s (c .before .before .before .before .before .before .first-in .result)) _ (next (c .before .before .before .before .before .before))),
       omega (arith, c .before .before .before .before .before .before .before .before .before .loop .inv .3),
     )
 

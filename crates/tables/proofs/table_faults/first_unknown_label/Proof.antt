@@ -50,7 +50,9 @@ returns c =
     let s = c .before .before .before .before .before .before .before .before .args .line .now in
     let e = c .before .before .third-in .ensures in
     let g = space-here s (c .before .before .before .before .before .loop .j) _ (c .before .before .before .before .byte-at .ensures) (c .before .before .before .if1 .taken) in (
-      (λ sets ls h. sym (c .before .before .before .before .before .loop .inv sets ls h ∙ labels-found s (c .before .before .before .before .before .loop .j) (known ls) (g .0) (c .before .before .third-in .result) e (sym (c .before .is-label .ensures sets ls h) ∙ not-true (c .before .is-label .result) (c .if2 .taken)))),
+      (λ sets ls h. sym (c .before .before .before .before .before .loop .inv sets ls h ∙ labels-found s
+          (c .before .before .before .before .before .loop .j) (known ls) (g .0) (c .before .before .third-in .result) e
+          (sym (c .before .is-label .ensures sets ls h) ∙ not-true (c .before .is-label .result) (c .if2 .taken)))),
       omega (arith, e, third-within s (c .before .before .before .before .before .loop .j) (g .1)),
     )
 
@@ -65,13 +67,22 @@ later : (c : tie.After-bracket-end Inv-loop μ-loop) → c .before .before .befo
 later c = omega (arith, c .bracket-end .ensures, bracket-after (c .before .before .before .before .before .before .before .before .before .args .line .now) (c .before .before .before .before .before .before .loop .j) true)
 
 loop-less : tie.Need-loop-less Inv-loop μ-loop
-loop-less c = omega (arith, later c, space-here (c .before .before .before .before .before .before .before .before .before .args .line .now) (c .before .before .before .before .before .before .loop .j) _ (c .before .before .before .before .before .byte-at .ensures) (c .before .before .before .before .if1 .taken) .1)
+loop-less c = omega (
+  arith,
+  later c,
+  space-here (c .before .before .before .before .before .before .before .before .before .args .line .now)
+      (c .before .before .before .before .before .before .loop .j) _ (c .before .before .before .before .before .byte-at .ensures)
+      (c .before .before .before .before .if1 .taken) .1,
+)
 
 loop-again : tie.Need-loop-again Inv-loop μ-loop
 loop-again c sets ls h =
     let s = c .before .before .before .before .before .before .before .before .before .args .line .now in
     c .before .before .before .before .before .before .loop .inv sets ls h
-    ∙ labels-next s (c .before .before .before .before .before .before .loop .j) (known ls) (space-here s (c .before .before .before .before .before .before .loop .j) _ (c .before .before .before .before .before .byte-at .ensures) (c .before .before .before .before .if1 .taken) .0) (c .before .before .before .third-in .result) (c .before .before .before .third-in .ensures) (sym (c .before .before .is-label .ensures sets ls h) ∙ not-false (c .before .before .is-label .result) (c .before .if2 .left))
+    ∙ labels-next s (c .before .before .before .before .before .before .loop .j) (known ls)
+    (space-here s (c .before .before .before .before .before .before .loop .j) _ (c .before .before .before .before .before .byte-at .ensures) (c .before .before .before .before .if1 .taken) .0)
+    (c .before .before .before .third-in .result) (c .before .before .before .third-in .ensures)
+    (sym (c .before .before .is-label .ensures sets ls h) ∙ not-false (c .before .before .is-label .result) (c .before .if2 .left))
     ∙ ap (λ e. missing (known ls) (columnLabelsAt s e)) (sym (c .bracket-end .ensures))
 
 returns-2 : tie.Need-returns-2 Inv-loop μ-loop

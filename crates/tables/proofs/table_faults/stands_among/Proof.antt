@@ -29,7 +29,8 @@ byte-at-requires : tie.Need-byte-at-requires Inv-loop μ-loop
 byte-at-requires c κs = search needs
 
 returns : tie.Need-returns Inv-loop μ-loop
-returns c = sym (c .before .before .before .loop .inv ∙ none-looked (c .before .before .before .before .before .args .s .now) (c .before .before .before .loop .j) (c .before .before .before .before .before .args .triple) (λ (v : Word). isCalled (wordOf (c .before .before .before .before .before .args .s .now) (c .before .before .before .before .before .args .p)) (v .bytes)) (c .before .before .before .loop .left) (c .if2 .taken))
+returns c = let entry = c .before .before .before .before .before .args in sym
+    (c .before .before .before .loop .inv ∙ none-looked (entry .s .now) (c .before .before .before .loop .j) (entry .triple) (λ (v : Word). isCalled (wordOf (entry .s .now) (entry .p)) (v .bytes)) (c .before .before .before .loop .left) (c .if2 .taken))
 
 add-first-in : tie.Need-add-first-in Inv-loop μ-loop
 add-first-in c = omega (arith, space-here (c .before .before .before .before .before .args .s .now) (c .before .before .before .loop .j) _ (c .before .before .byte-at .ensures) (c .before .if1 .taken) .1)
@@ -41,15 +42,23 @@ same-name-requires : tie.Need-same-name-requires Inv-loop μ-loop
 same-name-requires c κs = search needs
 
 -- what the code compared is the name of the column
-compared : (c : tie.After-same-name Inv-loop μ-loop) → c .same-name .result ≡ isCalled (wordOf (c .before .before .before .before .before .before .before .args .s .now) (c .before .before .before .before .before .before .before .args .p)) (wordAt (c .before .before .before .before .before .before .before .args .s .now) (firstIn (c .before .before .before .before .before .before .before .args .s .now) (c .before .before .before .before .before .loop .j + 1)))
+compared : (c : tie.After-same-name Inv-loop μ-loop) → c .same-name .result ≡ isCalled
+    (wordOf (c .before .before .before .before .before .before .before .args .s .now) (c .before .before .before .before .before .before .before .args .p))
+    (wordAt (c .before .before .before .before .before .before .before .args .s .now) (firstIn (c .before .before .before .before .before .before .before .args .s .now) (c .before .before .before .before .before .loop .j + 1)))
 unfolding isCalled firstIn
-compared c = c .same-name .ensures ∙ ap (λ q. sameName (wordAt (c .before .before .before .before .before .before .before .args .s .now) (c .before .before .before .before .before .before .before .args .p)) (wordAt (c .before .before .before .before .before .before .before .args .s .now) q)) (c .before .first-in .ensures)
+compared c = let entry = c .before .before .before .before .before .before .before .args in c .same-name .ensures ∙ ap (λ q. sameName (wordAt (entry .s .now) (entry .p)) (wordAt (entry .s .now) q)) (c .before .first-in .ensures)
 
 returns-2 : tie.Need-returns-2 Inv-loop μ-loop
-returns-2 c = sym (c .before .before .before .before .before .before .loop .inv ∙ this-one (c .before .before .before .before .before .before .before .before .args .s .now) (c .before .before .before .before .before .before .loop .j) (c .before .before .before .before .before .before .before .before .args .triple) (λ (v : Word). isCalled (wordOf (c .before .before .before .before .before .before .before .before .args .s .now) (c .before .before .before .before .before .before .before .before .args .p)) (v .bytes)) (c .before .before .before .before .before .before .loop .left) (space-here (c .before .before .before .before .before .before .before .before .args .s .now) (c .before .before .before .before .before .before .loop .j) _ (c .before .before .before .before .before .byte-at .ensures) (c .before .before .before .before .if1 .taken) .0) (c .before .before .before .if2 .left) (sym (compared (c .before)) ∙ c .if3 .taken))
+returns-2 c = let entry = c .before .before .before .before .before .before .before .before .args in sym
+    (c .before .before .before .before .before .before .loop .inv ∙ this-one (entry .s .now)
+    (c .before .before .before .before .before .before .loop .j) (entry .triple)
+    (λ (v : Word). isCalled (wordOf (entry .s .now) (entry .p)) (v .bytes)) (c .before .before .before .before .before .before .loop .left)
+    (space-here (entry .s .now) (c .before .before .before .before .before .before .loop .j) _ (c .before .before .before .before .before .byte-at .ensures) (c .before .before .before .before .if1 .taken) .0)
+    (c .before .before .before .if2 .left) (sym (compared (c .before)) ∙ c .if3 .taken))
 
 add-bracket-end : tie.Need-add-bracket-end Inv-loop μ-loop
-add-bracket-end c = omega (arith, space-here (c .before .before .before .before .before .before .before .before .args .s .now) (c .before .before .before .before .before .before .loop .j) _ (c .before .before .before .before .before .byte-at .ensures) (c .before .before .before .before .if1 .taken) .1)
+add-bracket-end c = omega
+    (arith, space-here (c .before .before .before .before .before .before .before .before .args .s .now) (c .before .before .before .before .before .before .loop .j) _ (c .before .before .before .before .before .byte-at .ensures) (c .before .before .before .before .if1 .taken) .1)
 
 bracket-end-requires : tie.Need-bracket-end-requires Inv-loop μ-loop
 bracket-end-requires c κs = search needs
@@ -59,21 +68,32 @@ sub-left c = omega (arith, c .before .before .before .before .if2 .left)
 
 -- the next turn begins later
 later : (c : tie.After-bracket-end Inv-loop μ-loop) → c .before .before .before .before .before .before .before .loop .j < c .bracket-end .result
-later c = omega (arith, c .bracket-end .ensures, bracket-after (c .before .before .before .before .before .before .before .before .before .args .s .now) (c .before .before .before .before .before .before .before .loop .j) (c .before .before .before .before .before .before .before .before .before .args .triple))
+later c = let entry = c .before .before .before .before .before .before .before .before .before .args in omega (arith, c .bracket-end .ensures, bracket-after (entry .s .now) (c .before .before .before .before .before .before .before .loop .j) (entry .triple))
 
 loop-less : tie.Need-loop-less Inv-loop μ-loop
-loop-less c = omega (arith, later c, space-here (c .before .before .before .before .before .before .before .before .before .args .s .now) (c .before .before .before .before .before .before .before .loop .j) _ (c .before .before .before .before .before .before .byte-at .ensures) (c .before .before .before .before .before .if1 .taken) .1)
+loop-less c = omega (
+  arith,
+  later c,
+  space-here (c .before .before .before .before .before .before .before .before .before .args .s .now)
+      (c .before .before .before .before .before .before .before .loop .j) _ (c .before .before .before .before .before .before .byte-at .ensures)
+      (c .before .before .before .before .before .if1 .taken) .1,
+)
 
 loop-again : tie.Need-loop-again Inv-loop μ-loop
 loop-again c =
     let s = c .before .before .before .before .before .before .before .before .before .args .s .now in
     let f : Word → Bool = λ (v : Word). isCalled (wordOf s (c .before .before .before .before .before .before .before .before .before .args .p)) (v .bytes) in
     c .before .before .before .before .before .before .before .loop .inv
-    ∙ another s (c .before .before .before .before .before .before .before .loop .j) (c .before .before .before .before .before .before .before .before .before .args .triple) f (c .before .before .before .before .before .before .before .loop .left) (space-here s (c .before .before .before .before .before .before .before .loop .j) _ (c .before .before .before .before .before .before .byte-at .ensures) (c .before .before .before .before .before .if1 .taken) .0) (c .before .before .before .before .if2 .left) (sym (compared (c .before .before)) ∙ c .before .if3 .left)
+    ∙ another s (c .before .before .before .before .before .before .before .loop .j)
+    (c .before .before .before .before .before .before .before .before .before .args .triple) f
+    (c .before .before .before .before .before .before .before .loop .left)
+    (space-here s (c .before .before .before .before .before .before .before .loop .j) _ (c .before .before .before .before .before .before .byte-at .ensures) (c .before .before .before .before .before .if1 .taken) .0)
+    (c .before .before .before .before .if2 .left) (sym (compared (c .before .before)) ∙ c .before .if3 .left)
     ∙ ap (λ e. anyOf f (take (c .before .before .before .before .before .before .before .loop .left - 1) (columnNames (columnsBy (c .before .before .before .before .before .before .before .before .before .args .triple) s e)))) (sym (c .bracket-end .ensures))
 
 returns-3 : tie.Need-returns-3 Inv-loop μ-loop
-returns-3 c = sym (c .before .before .loop .inv ∙ none-there (c .before .before .before .before .args .s .now) (c .before .before .loop .j) (c .before .before .before .before .args .triple) (λ (v : Word). isCalled (wordOf (c .before .before .before .before .args .s .now) (c .before .before .before .before .args .p)) (v .bytes)) (c .before .before .loop .left) (λ z. c .if1 .left (c .before .byte-at .ensures ∙ z)))
+returns-3 c = let entry = c .before .before .before .before .args in sym
+    (c .before .before .loop .inv ∙ none-there (entry .s .now) (c .before .before .loop .j) (entry .triple) (λ (v : Word). isCalled (wordOf (entry .s .now) (entry .p)) (v .bytes)) (c .before .before .loop .left) (λ z. c .if1 .left (c .before .byte-at .ensures ∙ z)))
 
 pub stands-among-spec : {M : Type 1} → statement M
 stands-among-spec =

@@ -25,9 +25,9 @@ use Rattle.tables.proofs.table_faults.table_fault.Statement.{statement}
 use Rattle.tables.proofs.table_faults.table_fault.Tie as tie
 
 returns : tie.Need-returns
-returns c = record {
+returns c = let entry = c .before .before .before .args in record {
   judges = record {
-    is = λ d h. judge-bound d (c .before .before .before .args .line .now) (tableLine (c .before .before .before .args .line .now) (c .before .before .before .args .t) (c .before .before .before .args .scheme) (c .before .before .before .args .l) (c .before .before .before .args .cs)) (table-many d (c .before .before .before .args .line .now) (c .before .before .before .args .t) (c .before .before .before .args .scheme) (c .before .before .before .args .l) (c .before .before .before .args .cs) (omega (arith, c .if1 .taken, tables-counted _ _ _ _ (h .1))));
+    is = λ d h. judge-bound d (entry .line .now) (tableLine (entry .line .now) (entry .t) (entry .scheme) (entry .l) (entry .cs)) (table-many d (entry .line .now) (entry .t) (entry .scheme) (entry .l) (entry .cs) (omega (arith, c .if1 .taken, tables-counted _ _ _ _ (h .1))));
     roomy = tt;
     reaches = λ p. tt;
   };
@@ -47,9 +47,9 @@ counted c =
     ∙ ap length (sym (columns-words (c .before .before .before .before .before .args .line .now) (c .before .before .before .before .before .args .scheme) (c .before .before .before .before .before .args .cs)))
 
 returns-2 : tie.Need-returns-2
-returns-2 c = record {
+returns-2 c = let entry = c .before .before .before .before .before .before .args in record {
   judges = record {
-    is = λ d h. judge-bound d (c .before .before .before .before .before .before .args .line .now) (tableLine (c .before .before .before .before .before .before .args .line .now) (c .before .before .before .before .before .before .args .t) (c .before .before .before .before .before .before .args .scheme) (c .before .before .before .before .before .before .args .l) (c .before .before .before .before .before .before .args .cs)) (table-wide d (c .before .before .before .before .before .before .args .line .now) (c .before .before .before .before .before .before .args .t) (c .before .before .before .before .before .before .args .scheme) (c .before .before .before .before .before .before .args .l) (c .before .before .before .before .before .before .args .cs) (omega (arith, c .if2 .taken, counted (c .before))));
+    is = λ d h. judge-bound d (entry .line .now) (tableLine (entry .line .now) (entry .t) (entry .scheme) (entry .l) (entry .cs)) (table-wide d (entry .line .now) (entry .t) (entry .scheme) (entry .l) (entry .cs) (omega (arith, c .if2 .taken, counted (c .before))));
     roomy = tt;
     reaches = λ p. tt;
   };
@@ -63,15 +63,19 @@ enum-told : tie.Need-enum-told
 enum-told c = search needs
 
 -- no bound is exceeded
-room : (c : tie.Else2) (d : Doc) → Tables (c .before .before .before .before .before .before .args .text .now) (c .before .before .before .before .before .before .args .tables .now) (c .before .before .before .before .before .before .args .k) (d .policy .tables) → overBound d (tableLine (c .before .before .before .before .before .before .args .line .now) (c .before .before .before .before .before .before .args .t) (c .before .before .before .before .before .before .args .scheme) (c .before .before .before .before .before .before .args .l) (c .before .before .before .before .before .before .args .cs)) ≡ false
-room c d h = table-room d (c .before .before .before .before .before .before .args .line .now) (c .before .before .before .before .before .before .args .t) (c .before .before .before .before .before .before .args .scheme) (c .before .before .before .before .before .before .args .l) (c .before .before .before .before .before .before .args .cs) (omega (arith, c .before .before .before .if1 .left, tables-counted _ _ _ _ h)) (omega (arith, c .if2 .left, counted (c .before)))
+room : (c : tie.Else2) (d : Doc) → Tables (c .before .before .before .before .before .before .args .text .now)
+    (c .before .before .before .before .before .before .args .tables .now) (c .before .before .before .before .before .before .args .k)
+    (d .policy .tables) → overBound d (tableLine (c .before .before .before .before .before .before .args .line .now)
+    (c .before .before .before .before .before .before .args .t) (c .before .before .before .before .before .before .args .scheme)
+    (c .before .before .before .before .before .before .args .l) (c .before .before .before .before .before .before .args .cs)) ≡ false
+room c d h = let entry = c .before .before .before .before .before .before .args in table-room d (entry .line .now) (entry .t) (entry .scheme) (entry .l) (entry .cs) (omega (arith, c .before .before .before .if1 .left, tables-counted _ _ _ _ h)) (omega (arith, c .if2 .left, counted (c .before)))
 
 returns-3 : tie.Need-returns-3
 unfolding tableOf
-returns-3 c = record {
+returns-3 c = let entry = c .before .before .before .before .before .before .before .before .before .args in record {
   judges = record {
-    is = λ d h. judge-taken d (c .before .before .before .before .before .before .before .before .before .args .line .now) (tableLine (c .before .before .before .before .before .before .before .before .before .args .line .now) (c .before .before .before .before .before .before .before .before .before .args .t) (c .before .before .before .before .before .before .before .before .before .args .scheme) (c .before .before .before .before .before .before .before .before .before .args .l) (c .before .before .before .before .before .before .before .before .before .args .cs)) (room (c .before .before .before) d (h .1)) (wordOf (c .before .before .before .before .before .before .before .before .before .args .line .now) (c .before .before .before .before .before .before .before .before .before .args .t))
-        (table-taken d (c .before .before .before .before .before .before .before .before .before .args .line .now) (c .before .before .before .before .before .before .before .before .before .args .t) (c .before .before .before .before .before .before .before .before .before .args .scheme) (c .before .before .before .before .before .before .before .before .before .args .l) (c .before .before .before .before .before .before .before .before .before .args .cs) (foundAs (c .before .before .find-table .result)) _ (c .before .before .find-table .ensures .0 (d .policy .tables) (h .1)) (ap foundAs (c .enum-told .given .1)));
+    is = λ d h. judge-taken d (entry .line .now) (tableLine (entry .line .now) (entry .t) (entry .scheme) (entry .l) (entry .cs)) (room (c .before .before .before) d (h .1)) (wordOf (entry .line .now) (entry .t))
+        (table-taken d (entry .line .now) (entry .t) (entry .scheme) (entry .l) (entry .cs) (foundAs (c .before .before .find-table .result)) _ (c .before .before .find-table .ensures .0 (d .policy .tables) (h .1)) (ap foundAs (c .enum-told .given .1)));
     roomy = tt;
     reaches = λ p. p .0;
   };
@@ -88,21 +92,40 @@ enum-known-again : tie.Need-enum-known-again
 enum-known-again c = search needs
 
 -- what is taken is the name of a column that stood before
-repeats : (c : tie.After-first-repeat) (d : Doc) → Tables (c .before .before .before .before .before .before .before .before .before .before .args .text .now) (c .before .before .before .before .before .before .before .before .before .before .args .tables .now) (c .before .before .before .before .before .before .before .before .before .before .args .k) (d .policy .tables) → taken (d .policy) (tableLine (c .before .before .before .before .before .before .before .before .before .before .args .line .now) (c .before .before .before .before .before .before .before .before .before .before .args .t) (c .before .before .before .before .before .before .before .before .before .before .args .scheme) (c .before .before .before .before .before .before .before .before .before .before .args .l) (c .before .before .before .before .before .before .before .before .before .before .args .cs)) ≡ offendingOf (c .before .before .before .before .before .before .before .before .before .before .args .line .now) (c .first-repeat .result)
+repeats : (c : tie.After-first-repeat) (d : Doc) → Tables
+    (c .before .before .before .before .before .before .before .before .before .before .args .text .now)
+    (c .before .before .before .before .before .before .before .before .before .before .args .tables .now)
+    (c .before .before .before .before .before .before .before .before .before .before .args .k) (d .policy .tables) → taken (d .policy) (tableLine
+    (c .before .before .before .before .before .before .before .before .before .before .args .line .now)
+    (c .before .before .before .before .before .before .before .before .before .before .args .t)
+    (c .before .before .before .before .before .before .before .before .before .before .args .scheme)
+    (c .before .before .before .before .before .before .before .before .before .before .args .l)
+    (c .before .before .before .before .before .before .before .before .before .before .args .cs)) ≡ offendingOf
+    (c .before .before .before .before .before .before .before .before .before .before .args .line .now) (c .first-repeat .result)
 unfolding tableOf
 repeats c d h =
-    table-again d (c .before .before .before .before .before .before .before .before .before .before .args .line .now) (c .before .before .before .before .before .before .before .before .before .before .args .t) (c .before .before .before .before .before .before .before .before .before .before .args .scheme) (c .before .before .before .before .before .before .before .before .before .before .args .l) (c .before .before .before .before .before .before .before .before .before .before .args .cs) (sym (ap foundAs (c .before .enum-told2 .given .1)) ∙ c .before .before .before .find-table .ensures .0 (d .policy .tables) h)
-    ∙ ap (λ cs. repeated (columnNames cs)) (columns-words (c .before .before .before .before .before .before .before .before .before .before .args .line .now) (c .before .before .before .before .before .before .before .before .before .before .args .scheme) (c .before .before .before .before .before .before .before .before .before .before .args .cs))
-    ∙ ap (λ b. repeated (columnNames (columnsBy b (c .before .before .before .before .before .before .before .before .before .before .args .line .now) (c .before .before .before .before .before .before .before .before .before .before .args .cs)))) (sym (c .before .before .before .before .before .before .labels-columns .ensures))
+    table-again d (c .before .before .before .before .before .before .before .before .before .before .args .line .now)
+    (c .before .before .before .before .before .before .before .before .before .before .args .t)
+    (c .before .before .before .before .before .before .before .before .before .before .args .scheme)
+    (c .before .before .before .before .before .before .before .before .before .before .args .l)
+    (c .before .before .before .before .before .before .before .before .before .before .args .cs)
+    (sym (ap foundAs (c .before .enum-told2 .given .1)) ∙ c .before .before .before .find-table .ensures .0 (d .policy .tables) h)
+    ∙ ap (λ cs. repeated (columnNames cs)) (columns-words
+    (c .before .before .before .before .before .before .before .before .before .before .args .line .now)
+    (c .before .before .before .before .before .before .before .before .before .before .args .scheme)
+    (c .before .before .before .before .before .before .before .before .before .before .args .cs))
+    ∙ ap
+    (λ b. repeated (columnNames (columnsBy b (c .before .before .before .before .before .before .before .before .before .before .args .line .now) (c .before .before .before .before .before .before .before .before .before .before .args .cs))))
+    (sym (c .before .before .before .before .before .before .labels-columns .ensures))
     ∙ sym (c .first-repeat .ensures .0)
 
 returns-4 : tie.Need-returns-4
-returns-4 c = record {
+returns-4 c = let entry = c .before .before .before .before .before .before .before .before .before .before .before .before .before .args in record {
   judges = record {
-    is = λ d h. judge-taken d (c .before .before .before .before .before .before .before .before .before .before .before .before .before .args .line .now) (tableLine (c .before .before .before .before .before .before .before .before .before .before .before .before .before .args .line .now) (c .before .before .before .before .before .before .before .before .before .before .before .before .before .args .t) (c .before .before .before .before .before .before .before .before .before .before .before .before .before .args .scheme) (c .before .before .before .before .before .before .before .before .before .before .before .before .before .args .l) (c .before .before .before .before .before .before .before .before .before .before .before .before .before .args .cs)) (room (c .before .before .before .before .before .before .before) d (h .1)) (wordOf (c .before .before .before .before .before .before .before .before .before .before .before .before .before .args .line .now) (c .before .again .given .0 .0))
-        (repeats (c .before .before .before) d (h .1) ∙ ap (offendingOf (c .before .before .before .before .before .before .before .before .before .before .before .before .before .args .line .now)) (c .before .again .given .1));
+    is = λ d h. judge-taken d (entry .line .now) (tableLine (entry .line .now) (entry .t) (entry .scheme) (entry .l) (entry .cs)) (room (c .before .before .before .before .before .before .before) d (h .1)) (wordOf (entry .line .now) (c .before .again .given .0 .0))
+        (repeats (c .before .before .before) d (h .1) ∙ ap (offendingOf (entry .line .now)) (c .before .again .given .1));
     roomy = tt;
-    reaches = λ p. subst (λ (f : Offending). Near (c .before .before .before .before .before .before .before .before .before .before .before .before .before .args .line .now) f) (c .before .again .given .1) (c .before .before .before .first-repeat .ensures .1);
+    reaches = λ p. subst (λ (f : Offending). Near (entry .line .now) f) (c .before .again .given .1) (c .before .before .before .first-repeat .ensures .1);
   };
   narrow = fine-apart _;
 }
@@ -117,16 +140,26 @@ enum-known-unknown : tie.Need-enum-known-unknown
 enum-known-unknown c = search needs
 
 -- no name is taken
-fresh : (c : tie.After-enum-told3) (d : Doc) → Tables (c .before .before .before .before .before .before .before .before .before .before .before .before .args .text .now) (c .before .before .before .before .before .before .before .before .before .before .before .before .args .tables .now) (c .before .before .before .before .before .before .before .before .before .before .before .before .args .k) (d .policy .tables) → taken (d .policy) (tableLine (c .before .before .before .before .before .before .before .before .before .before .before .before .args .line .now) (c .before .before .before .before .before .before .before .before .before .before .before .before .args .t) (c .before .before .before .before .before .before .before .before .before .before .before .before .args .scheme) (c .before .before .before .before .before .before .before .before .before .before .before .before .args .l) (c .before .before .before .before .before .before .before .before .before .before .before .before .args .cs)) ≡ none
+fresh : (c : tie.After-enum-told3) (d : Doc) → Tables
+    (c .before .before .before .before .before .before .before .before .before .before .before .before .args .text .now)
+    (c .before .before .before .before .before .before .before .before .before .before .before .before .args .tables .now)
+    (c .before .before .before .before .before .before .before .before .before .before .before .before .args .k) (d .policy .tables) → taken
+    (d .policy) (tableLine (c .before .before .before .before .before .before .before .before .before .before .before .before .args .line .now)
+    (c .before .before .before .before .before .before .before .before .before .before .before .before .args .t)
+    (c .before .before .before .before .before .before .before .before .before .before .before .before .args .scheme)
+    (c .before .before .before .before .before .before .before .before .before .before .before .before .args .l)
+    (c .before .before .before .before .before .before .before .before .before .before .before .before .args .cs)) ≡ none
 fresh c d h = repeats (c .before .before) d h ∙ ap (offendingOf (c .before .before .before .before .before .before .before .before .before .before .before .before .args .line .now)) (c .enum-told3 .given .1)
 
 returns-5 : tie.Need-returns-5
-returns-5 c = record {
+returns-5 c = let entry = c .before .before .before .before .before .before .before .before .before .before .before .before .before .before .before .before .args in record {
   judges = record {
-    is = λ d h. judge-unknown d (c .before .before .before .before .before .before .before .before .before .before .before .before .before .before .before .before .args .line .now) (tableLine (c .before .before .before .before .before .before .before .before .before .before .before .before .before .before .before .before .args .line .now) (c .before .before .before .before .before .before .before .before .before .before .before .before .before .before .before .before .args .t) (c .before .before .before .before .before .before .before .before .before .before .before .before .before .before .before .before .args .scheme) (c .before .before .before .before .before .before .before .before .before .before .before .before .before .before .before .before .args .l) (c .before .before .before .before .before .before .before .before .before .before .before .before .before .before .before .before .args .cs)) (room (c .before .before .before .before .before .before .before .before .before .before) d (h .1)) (fresh (c .before .before .before .before) d (h .1)) (wordOf (c .before .before .before .before .before .before .before .before .before .before .before .before .before .before .before .before .args .line .now) (c .before .unknown .given .0 .0))
-        (table-unknown d (c .before .before .before .before .before .before .before .before .before .before .before .before .before .before .before .before .args .line .now) (c .before .before .before .before .before .before .before .before .before .before .before .before .before .before .before .before .args .t) (c .before .before .before .before .before .before .before .before .before .before .before .before .before .before .before .before .args .scheme) (c .before .before .before .before .before .before .before .before .before .before .before .before .before .before .before .before .args .l) (c .before .before .before .before .before .before .before .before .before .before .before .before .before .before .before .before .args .cs) ∙ sym (c .before .before .before .unknown-label .ensures .0 (h .0 .0) (d .policy .labels) (h .0 .1)) ∙ ap (offendingOf (c .before .before .before .before .before .before .before .before .before .before .before .before .before .before .before .before .args .line .now)) (c .before .unknown .given .1));
+    is = λ d h. judge-unknown d (entry .line .now) (tableLine (entry .line .now) (entry .t) (entry .scheme) (entry .l) (entry .cs))
+        (room (c .before .before .before .before .before .before .before .before .before .before) d (h .1))
+        (fresh (c .before .before .before .before) d (h .1)) (wordOf (entry .line .now) (c .before .unknown .given .0 .0))
+        (table-unknown d (entry .line .now) (entry .t) (entry .scheme) (entry .l) (entry .cs) ∙ sym (c .before .before .before .unknown-label .ensures .0 (h .0 .0) (d .policy .labels) (h .0 .1)) ∙ ap (offendingOf (entry .line .now)) (c .before .unknown .given .1));
     roomy = tt;
-    reaches = λ p. subst (λ (f : Offending). Near (c .before .before .before .before .before .before .before .before .before .before .before .before .before .before .before .before .args .line .now) f) (c .before .unknown .given .1) (c .before .before .before .unknown-label .ensures .1 (p .1));
+    reaches = λ p. subst (λ (f : Offending). Near (entry .line .now) f) (c .before .unknown .given .1) (c .before .before .before .unknown-label .ensures .1 (p .1));
   };
   narrow = fine-apart _;
 }
@@ -135,11 +168,17 @@ enum-told-4 : tie.Need-enum-told-4
 enum-told-4 c = search needs
 
 returns-6 : tie.Need-returns-6
-returns-6 c = record {
+returns-6 c = let entry = c .before .before .before .before .before .before .before .before .before .before .before .before .before .before .before .args in record {
   judges = record {
-    is = λ d h. judge-fine d (c .before .before .before .before .before .before .before .before .before .before .before .before .before .before .before .args .line .now) (tableLine (c .before .before .before .before .before .before .before .before .before .before .before .before .before .before .before .args .line .now) (c .before .before .before .before .before .before .before .before .before .before .before .before .before .before .before .args .t) (c .before .before .before .before .before .before .before .before .before .before .before .before .before .before .before .args .scheme) (c .before .before .before .before .before .before .before .before .before .before .before .before .before .before .before .args .l) (c .before .before .before .before .before .before .before .before .before .before .before .before .before .before .before .args .cs)) (room (c .before .before .before .before .before .before .before .before .before) d (h .1)) (fresh (c .before .before .before) d (h .1))
-        (table-unknown d (c .before .before .before .before .before .before .before .before .before .before .before .before .before .before .before .args .line .now) (c .before .before .before .before .before .before .before .before .before .before .before .before .before .before .before .args .t) (c .before .before .before .before .before .before .before .before .before .before .before .before .before .before .before .args .scheme) (c .before .before .before .before .before .before .before .before .before .before .before .before .before .before .before .args .l) (c .before .before .before .before .before .before .before .before .before .before .before .before .before .before .before .args .cs) ∙ sym (c .before .before .unknown-label .ensures .0 (h .0 .0) (d .policy .labels) (h .0 .1)) ∙ ap (offendingOf (c .before .before .before .before .before .before .before .before .before .before .before .before .before .before .before .args .line .now)) (c .enum-told4 .given .1))
-        (table-root d (c .before .before .before .before .before .before .before .before .before .before .before .before .before .before .before .args .line .now) (c .before .before .before .before .before .before .before .before .before .before .before .before .before .before .before .args .t) (c .before .before .before .before .before .before .before .before .before .before .before .before .before .before .before .args .scheme) (c .before .before .before .before .before .before .before .before .before .before .before .before .before .before .before .args .l) (c .before .before .before .before .before .before .before .before .before .before .before .before .before .before .before .args .cs)) (table-values d (c .before .before .before .before .before .before .before .before .before .before .before .before .before .before .before .args .line .now) (c .before .before .before .before .before .before .before .before .before .before .before .before .before .before .before .args .t) (c .before .before .before .before .before .before .before .before .before .before .before .before .before .before .before .args .scheme) (c .before .before .before .before .before .before .before .before .before .before .before .before .before .before .before .args .l) (c .before .before .before .before .before .before .before .before .before .before .before .before .before .before .before .args .cs)) (table-type d (c .before .before .before .before .before .before .before .before .before .before .before .before .before .before .before .args .line .now) (c .before .before .before .before .before .before .before .before .before .before .before .before .before .before .before .args .t) (c .before .before .before .before .before .before .before .before .before .before .before .before .before .before .before .args .scheme) (c .before .before .before .before .before .before .before .before .before .before .before .before .before .before .before .args .l) (c .before .before .before .before .before .before .before .before .before .before .before .before .before .before .before .args .cs)) (table-order d (c .before .before .before .before .before .before .before .before .before .before .before .before .before .before .before .args .line .now) (c .before .before .before .before .before .before .before .before .before .before .before .before .before .before .before .args .t) (c .before .before .before .before .before .before .before .before .before .before .before .before .before .before .before .args .scheme) (c .before .before .before .before .before .before .before .before .before .before .before .before .before .before .before .args .l) (c .before .before .before .before .before .before .before .before .before .before .before .before .before .before .before .args .cs)) (table-dated d (c .before .before .before .before .before .before .before .before .before .before .before .before .before .before .before .args .line .now) (c .before .before .before .before .before .before .before .before .before .before .before .before .before .before .before .args .t) (c .before .before .before .before .before .before .before .before .before .before .before .before .before .before .before .args .scheme) (c .before .before .before .before .before .before .before .before .before .before .before .before .before .before .before .args .l) (c .before .before .before .before .before .before .before .before .before .before .before .before .before .before .before .args .cs)) (table-late d (c .before .before .before .before .before .before .before .before .before .before .before .before .before .before .before .args .line .now) (c .before .before .before .before .before .before .before .before .before .before .before .before .before .before .before .args .t) (c .before .before .before .before .before .before .before .before .before .before .before .before .before .before .before .args .scheme) (c .before .before .before .before .before .before .before .before .before .before .before .before .before .before .before .args .l) (c .before .before .before .before .before .before .before .before .before .before .before .before .before .before .before .args .cs)) (table-placed d (c .before .before .before .before .before .before .before .before .before .before .before .before .before .before .before .args .line .now) (c .before .before .before .before .before .before .before .before .before .before .before .before .before .before .before .args .t) (c .before .before .before .before .before .before .before .before .before .before .before .before .before .before .before .args .scheme) (c .before .before .before .before .before .before .before .before .before .before .before .before .before .before .before .args .l) (c .before .before .before .before .before .before .before .before .before .before .before .before .before .before .before .args .cs));
+    is = λ d h. judge-fine d (entry .line .now) (tableLine (entry .line .now) (entry .t) (entry .scheme) (entry .l) (entry .cs)) (room (c .before .before .before .before .before .before .before .before .before) d (h .1)) (fresh (c .before .before .before) d (h .1))
+        (table-unknown d (entry .line .now) (entry .t) (entry .scheme) (entry .l) (entry .cs) ∙ sym (c .before .before .unknown-label .ensures .0 (h .0 .0) (d .policy .labels) (h .0 .1)) ∙ ap (offendingOf (entry .line .now)) (c .enum-told4 .given .1))
+        (table-root d (entry .line .now) (entry .t) (entry .scheme) (entry .l) (entry .cs))
+        (table-values d (entry .line .now) (entry .t) (entry .scheme) (entry .l) (entry .cs))
+        (table-type d (entry .line .now) (entry .t) (entry .scheme) (entry .l) (entry .cs))
+        (table-order d (entry .line .now) (entry .t) (entry .scheme) (entry .l) (entry .cs))
+        (table-dated d (entry .line .now) (entry .t) (entry .scheme) (entry .l) (entry .cs))
+        (table-late d (entry .line .now) (entry .t) (entry .scheme) (entry .l) (entry .cs))
+        (table-placed d (entry .line .now) (entry .t) (entry .scheme) (entry .l) (entry .cs));
     roomy = c .before .before .before .before .before .before .before .before .before .before .before .before .if1 .left;
     reaches = λ p. tt;
   };

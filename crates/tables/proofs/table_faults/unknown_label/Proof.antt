@@ -42,27 +42,29 @@ enum-told-6 c = search needs
 
 returns : tie.Need-returns
 unfolding schemeLabels schemeWords missing leftmost
-returns c = (λ sets ls h. ap (λ sc. missing (known ls) (schemeLabels (schemeWords (c .before .before .before .before .args .line .now) sc (c .before .before .before .before .args .l) (c .before .before .before .before .args .cs)))) (sym (c .enum-told .given .1)), λ l. tt)
+returns c = let entry = c .before .before .before .before .args in (λ sets ls h. ap (λ sc. missing (known ls) (schemeLabels (schemeWords (entry .line .now) sc (entry .l) (entry .cs)))) (sym (c .enum-told .given .1)), λ l. tt)
 
 returns-2 : tie.Need-returns-2
 unfolding schemeLabels schemeWords missing leftmost
-returns-2 c = (λ sets ls h. c .unknown-table-label .ensures .0 sets ls h ∙ ap (λ sc. missing (known ls) (schemeLabels (schemeWords (c .before .before .before .before .before .args .line .now) sc (c .before .before .before .before .before .args .l) (c .before .before .before .before .before .args .cs)))) (sym (c .before .enum-told2 .given .1)), c .unknown-table-label .ensures .1)
+returns-2 c = let entry = c .before .before .before .before .before .args in
+    (λ sets ls h. c .unknown-table-label .ensures .0 sets ls h ∙ ap (λ sc. missing (known ls) (schemeLabels (schemeWords (entry .line .now) sc (entry .l) (entry .cs)))) (sym (c .before .enum-told2 .given .1)), c .unknown-table-label .ensures .1)
 
 returns-3 : tie.Need-returns-3
 unfolding schemeLabels schemeWords missing leftmost
-returns-3 c = (λ sets ls h. c .first-unknown-label .ensures .0 sets ls h ∙ ap (λ sc. missing (known ls) (schemeLabels (schemeWords (c .before .before .before .before .before .args .line .now) sc (c .before .before .before .before .before .args .l) (c .before .before .before .before .before .args .cs)))) (sym (c .before .enum-told3 .given .1)), λ l. c .first-unknown-label .ensures .1)
+returns-3 c = let entry = c .before .before .before .before .before .args in
+    (λ sets ls h. c .first-unknown-label .ensures .0 sets ls h ∙ ap (λ sc. missing (known ls) (schemeLabels (schemeWords (entry .line .now) sc (entry .l) (entry .cs)))) (sym (c .before .enum-told3 .given .1)), λ l. c .first-unknown-label .ensures .1)
 
 returns-4 : tie.Need-returns-4
 unfolding schemeLabels schemeWords missing leftmost
-returns-4 c = (λ sets ls h. ap (λ sc. missing (known ls) (schemeLabels (schemeWords (c .before .before .before .before .args .line .now) sc (c .before .before .before .before .args .l) (c .before .before .before .before .args .cs)))) (sym (c .enum-told4 .given .1)), λ l. tt)
+returns-4 c = let entry = c .before .before .before .before .args in (λ sets ls h. ap (λ sc. missing (known ls) (schemeLabels (schemeWords (entry .line .now) sc (entry .l) (entry .cs)))) (sym (c .enum-told4 .given .1)), λ l. tt)
 
 returns-5 : tie.Need-returns-5
 unfolding schemeLabels schemeWords missing leftmost
-returns-5 c = (λ sets ls h. ap (λ sc. missing (known ls) (schemeLabels (schemeWords (c .before .before .before .before .args .line .now) sc (c .before .before .before .before .args .l) (c .before .before .before .before .args .cs)))) (sym (c .enum-told5 .given .1)), λ l. tt)
+returns-5 c = let entry = c .before .before .before .before .args in (λ sets ls h. ap (λ sc. missing (known ls) (schemeLabels (schemeWords (entry .line .now) sc (entry .l) (entry .cs)))) (sym (c .enum-told5 .given .1)), λ l. tt)
 
 returns-6 : tie.Need-returns-6
 unfolding schemeLabels schemeWords missing leftmost listed
-returns-6 c = (λ sets ls h. ap (λ sc. missing (known ls) (schemeLabels (schemeWords (c .before .before .before .before .args .line .now) sc (c .before .before .before .before .args .l) (c .before .before .before .before .args .cs)))) (sym (c .enum-told6 .given .1)), λ l. tt)
+returns-6 c = let entry = c .before .before .before .before .args in (λ sets ls h. ap (λ sc. missing (known ls) (schemeLabels (schemeWords (entry .line .now) sc (entry .l) (entry .cs)))) (sym (c .enum-told6 .given .1)), λ l. tt)
 
 pub unknown-label-spec : {M : Type 1} → statement M
 unknown-label-spec =

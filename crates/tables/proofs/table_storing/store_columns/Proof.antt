@@ -55,16 +55,59 @@ skip-byte-requires-2 : tie.Need-skip-byte-requires-2 Inv-loop μ-loop
 skip-byte-requires-2 c κs = search needs
 
 add-c : tie.Need-add-c Inv-loop μ-loop
-add-c c = omega (arith, space-here (c .before .before .before .before .before .before .before .before .before .before .before .before .before .args .line .now) (c .before .before .before .before .before .before .before .before .before .before .loop .j) _ (c .before .before .before .before .before .before .before .before .before .byte-at .ensures) (c .before .before .before .before .before .before .before .before .if1 .taken) .1, c .before .before .before .before .before .before .before .before .before .before .loop .inv .0)
+add-c c = omega (
+  arith,
+  space-here
+      (c .before .before .before .before .before .before .before .before .before .before .before .before .before .args .line .now)
+      (c .before .before .before .before .before .before .before .before .before .before .loop .j) _
+      (c .before .before .before .before .before .before .before .before .before .byte-at .ensures)
+      (c .before .before .before .before .before .before .before .before .if1 .taken) .1,
+  c .before .before .before .before .before .before .before .before .before .before .loop .inv .0,
+)
 
 loop-less : tie.Need-loop-less Inv-loop μ-loop
-loop-less c = omega (arith, space-here (c .before .before .before .before .before .before .before .before .before .before .before .before .before .args .line .now) (c .before .before .before .before .before .before .before .before .before .before .loop .j) _ (c .before .before .before .before .before .before .before .before .before .byte-at .ensures) (c .before .before .before .before .before .before .before .before .if1 .taken) .1, pair-after (c .before .before .before .before .before .before .before .before .before .before .before .before .before .args .line .now) (c .before .before .before .before .before .before .before .before .before .before .loop .j), pair-ends (c .before .before .before .before .before .before .before .before .before .before .before .before .before .args .line .now) (c .before .before .before .before .before .before .before .before .before .before .loop .j + 1) _ _ _ (c .before .before .before .before .before .before .before .skip-byte .ensures) (c .before .before .before .before .before .before .next-word .ensures) (c .skip-byte2 .ensures ∙ ap (past 41 (c .before .before .before .before .before .before .before .before .before .before .before .before .before .args .line .now)) (c .before .word-end .ensures)))
+loop-less c = let entry = c .before .before .before .before .before .before .before .before .before .before .before .before .before .args in omega (
+  arith,
+  space-here (entry .line .now) (c .before .before .before .before .before .before .before .before .before .before .loop .j) _
+      (c .before .before .before .before .before .before .before .before .before .byte-at .ensures)
+      (c .before .before .before .before .before .before .before .before .if1 .taken) .1,
+  pair-after (entry .line .now)
+      (c .before .before .before .before .before .before .before .before .before .before .loop .j),
+  pair-ends (entry .line .now)
+      (c .before .before .before .before .before .before .before .before .before .before .loop .j + 1) _ _ _
+      (c .before .before .before .before .before .before .before .skip-byte .ensures)
+      (c .before .before .before .before .before .before .next-word .ensures)
+      (c .skip-byte2 .ensures ∙ ap (past 41 (entry .line .now)) (c .before .word-end .ensures)),
+)
 
 loop-again : tie.Need-loop-again Inv-loop μ-loop
 loop-again c =
-    let b = space-here (c .before .before .before .before .before .before .before .before .before .before .before .before .before .args .line .now) (c .before .before .before .before .before .before .before .before .before .before .loop .j) _ (c .before .before .before .before .before .before .before .before .before .byte-at .ensures) (c .before .before .before .before .before .before .before .before .if1 .taken) in (
-      omega (arith, b .1, c .before .before .before .before .before .before .before .before .before .before .loop .inv .0, pair-after (c .before .before .before .before .before .before .before .before .before .before .before .before .before .args .line .now) (c .before .before .before .before .before .before .before .before .before .before .loop .j), pair-ends (c .before .before .before .before .before .before .before .before .before .before .before .before .before .args .line .now) (c .before .before .before .before .before .before .before .before .before .before .loop .j + 1) _ _ _ (c .before .before .before .before .before .before .before .skip-byte .ensures) (c .before .before .before .before .before .before .next-word .ensures) (c .skip-byte2 .ensures ∙ ap (past 41 (c .before .before .before .before .before .before .before .before .before .before .before .before .before .args .line .now)) (c .before .word-end .ensures))),
-      λ l small few. plain-turn l (c .before .before .before .before .before .before .before .before .before .before .loop .j) _ _ _ _ _ (b .0) (b .1) (c .before .before .before .before .before .before .before .skip-byte .ensures) (c .before .before .before .before .before .before .next-word .ensures) (c .before .before .before .before .place .ensures) (c .before .before .before .before .before .kind-at .ensures) (c .before .before .before .before .before .before .before .before .before .before .before .before .before .args .cs) (c .skip-byte2 .ensures ∙ ap (past 41 (c .before .before .before .before .before .before .before .before .before .before .before .before .before .args .line .now)) (c .before .word-end .ensures)) (c .before .before .set-column .ensures) small few (c .before .before .before .before .before .before .before .before .before .before .loop .inv .1 l small few),
+    let b = space-here (c .before .before .before .before .before .before .before .before .before .before .before .before .before .args .line .now)
+    (c .before .before .before .before .before .before .before .before .before .before .loop .j) _
+    (c .before .before .before .before .before .before .before .before .before .byte-at .ensures)
+    (c .before .before .before .before .before .before .before .before .if1 .taken) in (
+      omega (
+        arith,
+        b .1,
+        c .before .before .before .before .before .before .before .before .before .before .loop .inv .0,
+        pair-after
+            (c .before .before .before .before .before .before .before .before .before .before .before .before .before .args .line .now)
+            (c .before .before .before .before .before .before .before .before .before .before .loop .j),
+        pair-ends
+            (c .before .before .before .before .before .before .before .before .before .before .before .before .before .args .line .now)
+            (c .before .before .before .before .before .before .before .before .before .before .loop .j + 1) _ _ _
+            (c .before .before .before .before .before .before .before .skip-byte .ensures)
+            (c .before .before .before .before .before .before .next-word .ensures)
+            (c .skip-byte2 .ensures ∙ ap (past 41 (c .before .before .before .before .before .before .before .before .before .before .before .before .before .args .line .now)) (c .before .word-end .ensures)),
+      ),
+      λ l small few. plain-turn l (c .before .before .before .before .before .before .before .before .before .before .loop .j) _ _ _ _ _ (b .0) (b .1)
+          (c .before .before .before .before .before .before .before .skip-byte .ensures)
+          (c .before .before .before .before .before .before .next-word .ensures) (c .before .before .before .before .place .ensures)
+          (c .before .before .before .before .before .kind-at .ensures)
+          (c .before .before .before .before .before .before .before .before .before .before .before .before .before .args .cs)
+          (c .skip-byte2 .ensures ∙ ap (past 41 (c .before .before .before .before .before .before .before .before .before .before .before .before .before .args .line .now)) (c .before .word-end .ensures))
+          (c .before .before .set-column .ensures) small few
+          (c .before .before .before .before .before .before .before .before .before .before .loop .inv .1 l small few),
     )
 
 returns : tie.Need-returns Inv-loop μ-loop

@@ -24,7 +24,10 @@ abbrev Inv-loop : tie.InvT-loop
 Inv-loop text labels labels-count tables₀ k at line cs c₀ j₀ tables c j =
     (c ≤ j)
     × (length line < 2 ^ 64)
-    × ((d : Policy) (sets : List ℕ) → LineAt text at line → Labels text labels sets labels-count (d .labels) → k < 8 → length (labelledColumnsAt line cs) ≤ 16 → Columned text tables₀ tables k c (map columnMeant (labelledColumnsAt line cs)) (map columnMeant (labelledColumnsAt line j)) (map (λ v. orZero (labelOf d v)) (columnLabelsAt line cs)) (map (λ v. orZero (labelOf d v)) (columnLabelsAt line j)))
+    × ((d : Policy) (sets : List ℕ) → LineAt text at line → Labels text labels sets labels-count (d .labels) → k < 8 → length
+    (labelledColumnsAt line cs) ≤ 16 → Columned text tables₀ tables k c (map columnMeant (labelledColumnsAt line cs))
+    (map columnMeant (labelledColumnsAt line j)) (map (λ v. orZero (labelOf d v)) (columnLabelsAt line cs))
+    (map (λ v. orZero (labelOf d v)) (columnLabelsAt line j)))
 
 abbrev μ-loop : tie.MeasureT-loop
 μ-loop text labels labels-count tables₀ k at line cs c₀ j₀ tables c j = length line - j
@@ -72,15 +75,57 @@ add-c : tie.Need-add-c Inv-loop μ-loop
 add-c c = omega (arith, space-here (c .before .before .before .before .before .before .before .before .before .before .before .before .before .before .before .before .args .line .now) (c .before .before .before .before .before .before .before .before .before .before .before .before .before .loop .j) _ (c .before .before .before .before .before .before .before .before .before .before .before .before .byte-at .ensures) (c .before .before .before .before .before .before .before .before .before .before .before .if1 .taken) .1, c .before .before .before .before .before .before .before .before .before .before .before .before .before .loop .inv .0, c .before .before .before .before .before .before .before .before .before .before .before .before .before .loop .inv .1)
 
 loop-less : tie.Need-loop-less Inv-loop μ-loop
-loop-less c = omega (arith, space-here (c .before .before .before .before .before .before .before .before .before .before .before .before .before .before .before .before .args .line .now) (c .before .before .before .before .before .before .before .before .before .before .before .before .before .loop .j) _ (c .before .before .before .before .before .before .before .before .before .before .before .before .byte-at .ensures) (c .before .before .before .before .before .before .before .before .before .before .before .if1 .taken) .1, triple-after (c .before .before .before .before .before .before .before .before .before .before .before .before .before .before .before .before .args .line .now) (c .before .before .before .before .before .before .before .before .before .before .before .before .before .loop .j), triple-ends (c .before .before .before .before .before .before .before .before .before .before .before .before .before .before .before .before .args .line .now) (c .before .before .before .before .before .before .before .before .before .before .before .before .before .loop .j + 1) _ _ _ (c .before .before .before .before .before .before .before .before .before .before .skip-byte .ensures) (c .before .before .before .before .before .before .before .before .before .next-word .ensures) _ (c .before .before .before .before .before .before .before .before .next-word2 .ensures) (c .skip-byte2 .ensures ∙ ap (past 41 (c .before .before .before .before .before .before .before .before .before .before .before .before .before .before .before .before .args .line .now)) (c .before .word-end .ensures)))
+loop-less c = let entry = c .before .before .before .before .before .before .before .before .before .before .before .before .before .before .before .before .args in omega (
+  arith,
+  space-here (entry .line .now)
+      (c .before .before .before .before .before .before .before .before .before .before .before .before .before .loop .j) _
+      (c .before .before .before .before .before .before .before .before .before .before .before .before .byte-at .ensures)
+      (c .before .before .before .before .before .before .before .before .before .before .before .if1 .taken) .1,
+  triple-after (entry .line .now)
+      (c .before .before .before .before .before .before .before .before .before .before .before .before .before .loop .j),
+  triple-ends
+      (entry .line .now) (c .before .before .before .before .before .before .before .before .before .before .before .before .before .loop .j + 1) _ _ _
+      (c .before .before .before .before .before .before .before .before .before .before .skip-byte .ensures)
+      (c .before .before .before .before .before .before .before .before .before .next-word .ensures) _
+      (c .before .before .before .before .before .before .before .before .next-word2 .ensures)
+      (c .skip-byte2 .ensures ∙ ap (past 41 (entry .line .now)) (c .before .word-end .ensures)),
+)
 
 loop-again : tie.Need-loop-again Inv-loop μ-loop
 unfolding labelOf
 loop-again c =
-    let b = space-here (c .before .before .before .before .before .before .before .before .before .before .before .before .before .before .before .before .args .line .now) (c .before .before .before .before .before .before .before .before .before .before .before .before .before .loop .j) _ (c .before .before .before .before .before .before .before .before .before .before .before .before .byte-at .ensures) (c .before .before .before .before .before .before .before .before .before .before .before .if1 .taken) in (
-      omega (arith, b .1, c .before .before .before .before .before .before .before .before .before .before .before .before .before .loop .inv .0, triple-after (c .before .before .before .before .before .before .before .before .before .before .before .before .before .before .before .before .args .line .now) (c .before .before .before .before .before .before .before .before .before .before .before .before .before .loop .j), triple-ends (c .before .before .before .before .before .before .before .before .before .before .before .before .before .before .before .before .args .line .now) (c .before .before .before .before .before .before .before .before .before .before .before .before .before .loop .j + 1) _ _ _ (c .before .before .before .before .before .before .before .before .before .before .skip-byte .ensures) (c .before .before .before .before .before .before .before .before .before .next-word .ensures) _ (c .before .before .before .before .before .before .before .before .next-word2 .ensures) (c .skip-byte2 .ensures ∙ ap (past 41 (c .before .before .before .before .before .before .before .before .before .before .before .before .before .before .before .before .args .line .now)) (c .before .word-end .ensures))),
+    let b = space-here
+    (c .before .before .before .before .before .before .before .before .before .before .before .before .before .before .before .before .args .line .now)
+    (c .before .before .before .before .before .before .before .before .before .before .before .before .before .loop .j) _
+    (c .before .before .before .before .before .before .before .before .before .before .before .before .byte-at .ensures)
+    (c .before .before .before .before .before .before .before .before .before .before .before .if1 .taken) in (
+      omega (
+        arith,
+        b .1,
+        c .before .before .before .before .before .before .before .before .before .before .before .before .before .loop .inv .0,
+        triple-after
+            (c .before .before .before .before .before .before .before .before .before .before .before .before .before .before .before .before .args .line .now)
+            (c .before .before .before .before .before .before .before .before .before .before .before .before .before .loop .j),
+        triple-ends
+            (c .before .before .before .before .before .before .before .before .before .before .before .before .before .before .before .before .args .line .now)
+            (c .before .before .before .before .before .before .before .before .before .before .before .before .before .loop .j + 1) _ _ _
+            (c .before .before .before .before .before .before .before .before .before .before .skip-byte .ensures)
+            (c .before .before .before .before .before .before .before .before .before .next-word .ensures) _
+            (c .before .before .before .before .before .before .before .before .next-word2 .ensures)
+            (c .skip-byte2 .ensures ∙ ap (past 41 (c .before .before .before .before .before .before .before .before .before .before .before .before .before .before .before .before .args .line .now)) (c .before .word-end .ensures)),
+      ),
       c .before .before .before .before .before .before .before .before .before .before .before .before .before .loop .inv .1,
-      λ d sets l N small few. labelled-turn l (c .before .before .before .before .before .before .before .before .before .before .before .before .before .loop .j) _ _ _ _ _ (b .0) (b .1) (c .before .before .before .before .before .before .before .before .before .before .skip-byte .ensures) (c .before .before .before .before .before .before .before .before .before .next-word .ensures) (c .before .before .before .before .place .ensures) (c .before .before .before .before .before .before .before .kind-at .ensures) d (c .before .before .before .before .before .before .before .before .before .before .before .before .before .before .before .before .args .cs) _ _ (c .before .before .before .before .before .before .before .before .next-word2 .ensures) (c .skip-byte2 .ensures ∙ ap (past 41 (c .before .before .before .before .before .before .before .before .before .before .before .before .before .before .before .before .args .line .now)) (c .before .word-end .ensures)) (c .before .before .before .before .before .number .ensures ∙ ap orZero (c .before .before .before .before .before .before .find-label .ensures .0 sets _ N)) (c .before .before .set-column .ensures) small few (c .before .before .before .before .before .before .before .before .before .before .before .before .before .loop .inv .2 d sets l N small few),
+      λ d sets l N small few. labelled-turn l
+          (c .before .before .before .before .before .before .before .before .before .before .before .before .before .loop .j) _ _ _ _ _ (b .0) (b .1)
+          (c .before .before .before .before .before .before .before .before .before .before .skip-byte .ensures)
+          (c .before .before .before .before .before .before .before .before .before .next-word .ensures)
+          (c .before .before .before .before .place .ensures) (c .before .before .before .before .before .before .before .kind-at .ensures) d
+          (c .before .before .before .before .before .before .before .before .before .before .before .before .before .before .before .before .args .cs) _ _
+          (c .before .before .before .before .before .before .before .before .next-word2 .ensures)
+          (c .skip-byte2 .ensures ∙ ap (past 41 (c .before .before .before .before .before .before .before .before .before .before .before .before .before .before .before .before .args .line .now)) (c .before .word-end .ensures))
+          (c .before .before .before .before .before .number .ensures ∙ ap orZero (c .before .before .before .before .before .before .find-label .ensures .0 sets _ N))
+          (c .before .before .set-column .ensures) small few
+          (c .before .before .before .before .before .before .before .before .before .before .before .before .before .loop .inv .2 d sets l N small few),
     )
 
 returns : tie.Need-returns Inv-loop μ-loop

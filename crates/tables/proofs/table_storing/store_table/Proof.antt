@@ -47,7 +47,9 @@ returns-2 c d sets l L N ok h =
     let a = c .before .before .before .before .before .before .before .before .before .before .before .args in
     table-stored l d (a .t) _ h (c .before .before .before .before .before .before .place .ensures) (a .scheme) (a .l) (a .cs) _ _ _ N ok
     (plain-columns (λ w. orZero (labelOf (d .policy) w)) (a .line .now) (a .l) (a .cs) (a .scheme) (sym (c .before .before .before .before .before .labels-columns .ensures) ∙ c .before .before .before .before .if1 .left))
-    (plain-scheme (λ w. orZero (labelOf (d .policy) w)) (a .line .now) (a .l) (a .cs) (a .scheme) _ _ (c .before .before .before .before .before .before .before .number .ensures ∙ ap orZero (c .before .before .before .before .before .before .before .before .find-label .ensures .0 sets _ L)) (sym (c .before .before .before .before .before .labels-columns .ensures) ∙ c .before .before .before .before .if1 .left))
+    (plain-scheme (λ w. orZero (labelOf (d .policy) w)) (a .line .now) (a .l) (a .cs) (a .scheme) _ _
+    (c .before .before .before .before .before .before .before .number .ensures ∙ ap orZero (c .before .before .before .before .before .before .before .before .find-label .ensures .0 sets _ L))
+    (sym (c .before .before .before .before .before .labels-columns .ensures) ∙ c .before .before .before .before .if1 .left))
     (λ small few. c .before .before .store-columns .ensures l small few)
     (c .add-table2 .ensures)
 

@@ -49,7 +49,10 @@ unfolding isCalled
 returns-2 c =
     let s = c .before .before .before .before .before .before .before .args .line .now in
     let j = c .before .before .before .before .before .loop .j in
-    sym (among-here (λ v. isCalled (wordOf s (c .before .before .before .before .before .before .before .args .w)) (v .bytes)) s j (c .before .before .before .before .before .loop .left) (c .before .before .before .before .loop-test .taken) (space-here s j _ (c .before .before .before .byte-at .ensures) (c .before .before .if1 .left) .0) (sym (c .before .same-name .ensures) ∙ c .if2 .taken)) ∙ c .before .before .before .before .before .loop .inv
+    sym (among-here (λ v. isCalled (wordOf s (c .before .before .before .before .before .before .before .args .w)) (v .bytes)) s j
+    (c .before .before .before .before .before .loop .left) (c .before .before .before .before .loop-test .taken)
+    (space-here s j _ (c .before .before .before .byte-at .ensures) (c .before .before .if1 .left) .0)
+    (sym (c .before .same-name .ensures) ∙ c .if2 .taken)) ∙ c .before .before .before .before .before .loop .inv
 
 word-end-requires : tie.Need-word-end-requires Inv-loop μ-loop
 word-end-requires c κs =
@@ -68,7 +71,11 @@ unfolding isCalled
 loop-again c =
     let s = c .before .before .before .before .before .before .before .before .args .line .now in
     let j = c .before .before .before .before .before .before .loop .j in
-    among-on (λ v. isCalled (wordOf s (c .before .before .before .before .before .before .before .before .args .w)) (v .bytes)) s j (c .word-end .result) (c .word-end .ensures) (c .before .before .before .before .before .before .loop .left) (c .before .before .before .before .before .loop-test .taken) (space-here s j _ (c .before .before .before .before .byte-at .ensures) (c .before .before .before .if1 .left) .0) (sym (c .before .before .same-name .ensures) ∙ c .before .if2 .left) ∙ c .before .before .before .before .before .before .loop .inv
+    among-on (λ v. isCalled (wordOf s (c .before .before .before .before .before .before .before .before .args .w)) (v .bytes)) s j
+    (c .word-end .result) (c .word-end .ensures) (c .before .before .before .before .before .before .loop .left)
+    (c .before .before .before .before .before .loop-test .taken)
+    (space-here s j _ (c .before .before .before .before .byte-at .ensures) (c .before .before .before .if1 .left) .0)
+    (sym (c .before .before .same-name .ensures) ∙ c .before .if2 .left) ∙ c .before .before .before .before .before .before .loop .inv
 
 returns-3 : tie.Need-returns-3 Inv-loop μ-loop
 returns-3 c =

@@ -51,31 +51,66 @@ returns : tie.Need-returns Inv-loop μ-loop
 returns c =
     let s = c .before .before .before .before .before .before .before .before .before .before .before .before .args .line .now in
     let j = c .before .before .before .before .before .before .before .before .before .loop .j in
-    let space = space-here s j _ (c .before .before .before .before .before .before .before .before .byte-at .ensures) (c .before .before .before .before .before .before .before .if1 .taken) in
-    (sym (repeats-here s (c .before .before .before .before .before .before .before .before .before .before .before .before .args .at) j (c .before .before .before .before .before .before .before .before .before .loop .k) (c .before .before .before .before .before .before .before .before .before .loop .inv .0) (space .0) (c .before .among-first .result) (c .before .among-first .ensures) (c .if3 .taken)), omega (arith, space-here s j _ (c .before .before .before .before .before .before .before .before .byte-at .ensures) (c .before .before .before .before .before .before .before .if1 .taken) .1))
+    let space = space-here s j _ (c .before .before .before .before .before .before .before .before .byte-at .ensures) (c .before .before .before .before .before .before .before .if1 .taken) in (
+      sym (repeats-here s (c .before .before .before .before .before .before .before .before .before .before .before .before .args .at) j
+          (c .before .before .before .before .before .before .before .before .before .loop .k)
+          (c .before .before .before .before .before .before .before .before .before .loop .inv .0) (space .0) (c .before .among-first .result)
+          (c .before .among-first .ensures) (c .if3 .taken)),
+      omega (
+        arith,
+        space-here s j _
+            (c .before .before .before .before .before .before .before .before .byte-at .ensures)
+            (c .before .before .before .before .before .before .before .if1 .taken) .1,
+      ),
+    )
 
 word-end-requires : tie.Need-word-end-requires Inv-loop μ-loop
 word-end-requires c κs = search needs
 
 -- the name is none of those before: it is surely new, or it was compared with them
-absent : (c : tie.Joined2 Inv-loop μ-loop) → anyOf (λ v. isCalled (wordOf (c .before .before .before .before .before .before .before .before .before .before .args .line .now) (c .before .before .before .before .before .before .before .loop .j + 1)) (v .bytes)) (take (c .before .before .before .before .before .before .before .loop .k) (namesAt (c .before .before .before .before .before .before .before .before .before .before .args .line .now) (c .before .before .before .before .before .before .before .before .before .before .args .at))) ≡ false
+absent : (c : tie.Joined2 Inv-loop μ-loop) → anyOf
+    (λ v. isCalled (wordOf (c .before .before .before .before .before .before .before .before .before .before .args .line .now) (c .before .before .before .before .before .before .before .loop .j + 1)) (v .bytes))
+    (take (c .before .before .before .before .before .before .before .loop .k) (namesAt (c .before .before .before .before .before .before .before .before .before .before .args .line .now) (c .before .before .before .before .before .before .before .before .before .before .args .at))) ≡ false
 absent c =
     ⊎-elim (λ v. sym (v .1 .ensures) ∙ v .2 .left) (λ v. c .before .before .before .is-new .ensures .none _ (c .before .before .before .before .before .before .before .loop .inv .1) (not-false (c .before .before .before .is-new .result) (v .left))) (c .if2 .came)
 
 add-k : tie.Need-add-k Inv-loop μ-loop
 add-k c =
-    omega (arith, space-here (c .before .before .before .before .before .before .before .before .before .before .before .args .line .now) (c .before .before .before .before .before .before .before .before .loop .j) _ (c .before .before .before .before .before .before .before .byte-at .ensures) (c .before .before .before .before .before .before .if1 .taken) .1, c .before .before .before .before .before .before .before .before .loop .inv .0 .few)
+    omega (
+      arith,
+      space-here (c .before .before .before .before .before .before .before .before .before .before .before .args .line .now)
+          (c .before .before .before .before .before .before .before .before .loop .j) _
+          (c .before .before .before .before .before .before .before .byte-at .ensures)
+          (c .before .before .before .before .before .before .if1 .taken) .1,
+      c .before .before .before .before .before .before .before .before .loop .inv .0 .few,
+    )
 
 loop-less : tie.Need-loop-less Inv-loop μ-loop
 loop-less c =
-    omega (arith, space-here (c .before .before .before .before .before .before .before .before .before .before .before .args .line .now) (c .before .before .before .before .before .before .before .before .loop .j) _ (c .before .before .before .before .before .before .before .byte-at .ensures) (c .before .before .before .before .before .before .if1 .taken) .1, c .word-end .ensures)
+    omega (
+      arith,
+      space-here (c .before .before .before .before .before .before .before .before .before .before .before .args .line .now)
+          (c .before .before .before .before .before .before .before .before .loop .j) _
+          (c .before .before .before .before .before .before .before .byte-at .ensures)
+          (c .before .before .before .before .before .before .if1 .taken) .1,
+      c .word-end .ensures,
+    )
 
 loop-again : tie.Need-loop-again Inv-loop μ-loop
 loop-again c =
     let s = c .before .before .before .before .before .before .before .before .before .before .before .args .line .now in
     let j = c .before .before .before .before .before .before .before .before .loop .j in
-    let space = space-here s j _ (c .before .before .before .before .before .before .before .byte-at .ensures) (c .before .before .before .before .before .before .if1 .taken) .0 in
-    (repeats-on s (c .before .before .before .before .before .before .before .before .before .before .before .args .at) j (c .before .before .before .before .before .before .before .before .loop .k) (c .before .before .before .before .before .before .before .before .loop .inv .0) (c .word-end .result) (c .word-end .ensures) space false (sym (absent (c .before))) refl, c .before .before .before .before .is-new .ensures .more _ _ (c .before .before .before .before .before .before .before .before .loop .inv .1) (repeats-more s (c .before .before .before .before .before .before .before .before .before .before .before .args .at) j (c .before .before .before .before .before .before .before .before .loop .k) (c .before .before .before .before .before .before .before .before .loop .inv .0) space), omega (arith, c .before .before .before .before .before .before .before .before .loop .inv .2))
+    let space = space-here s j _ (c .before .before .before .before .before .before .before .byte-at .ensures) (c .before .before .before .before .before .before .if1 .taken) .0 in (
+      repeats-on s (c .before .before .before .before .before .before .before .before .before .before .before .args .at) j
+          (c .before .before .before .before .before .before .before .before .loop .k)
+          (c .before .before .before .before .before .before .before .before .loop .inv .0) (c .word-end .result) (c .word-end .ensures) space false
+          (sym (absent (c .before))) refl,
+      c .before .before .before .before .is-new .ensures .more _ _
+          (c .before .before .before .before .before .before .before .before .loop .inv .1)
+          (repeats-more s (c .before .before .before .before .before .before .before .before .before .before .before .args .at) j (c .before .before .before .before .before .before .before .before .loop .k) (c .before .before .before .before .before .before .before .before .loop .inv .0) space),
+      omega
+          (arith, c .before .before .before .before .before .before .before .before .loop .inv .2),
+    )
 
 same-length-2 : tie.Need-same-length-2 Inv-loop μ-loop
 same-length-2 c =

@@ -51,8 +51,13 @@ enum-told c =
 returns : tie.Need-returns Inv-loop μ-loop
 returns c =
     let s = c .before .before .before .before .before .before .before .before .args .line .now in
-    let j = c .before .before .before .before .before .loop .j in
-    (λ ns h. sym (unknown-here (isNode ns) s j (space-here s j _ (c .before .before .before .before .byte-at .ensures) (c .before .before .before .if1 .taken) .0) (found-absent (c .before .before .find-purpose .result) _ (c .before .before .find-purpose .ensures .0 ns h) (c .enum-told .given .1))) ∙ c .before .before .before .before .before .loop .inv ns h, omega (arith, space-here s j _ (c .before .before .before .before .byte-at .ensures) (c .before .before .before .if1 .taken) .1))
+    let j = c .before .before .before .before .before .loop .j in (
+      λ ns h. sym (unknown-here (isNode ns) s j
+          (space-here s j _ (c .before .before .before .before .byte-at .ensures) (c .before .before .before .if1 .taken) .0)
+          (found-absent (c .before .before .find-purpose .result) _ (c .before .before .find-purpose .ensures .0 ns h) (c .enum-told .given .1))) ∙ c .before .before .before .before .before .loop .inv ns h,
+      omega
+          (arith, space-here s j _ (c .before .before .before .before .byte-at .ensures) (c .before .before .before .if1 .taken) .1),
+    )
 
 enum-told-2 : tie.Need-enum-told-2 Inv-loop μ-loop
 enum-told-2 c =
@@ -72,7 +77,9 @@ loop-again : tie.Need-loop-again Inv-loop μ-loop
 loop-again c =
     let s = c .before .before .before .before .before .before .before .before .before .args .line .now in
     let j = c .before .before .before .before .before .before .loop .j in
-    λ ns h. unknown-on (isNode ns) s j (c .word-end .result) (c .word-end .ensures) (space-here s j _ (c .before .before .before .before .before .byte-at .ensures) (c .before .before .before .before .if1 .taken) .0) (found-there (c .before .before .before .find-purpose .result) _ (c .before .before .before .find-purpose .ensures .0 ns h) (c .before .enum-told2 .given .0 .0) (c .before .enum-told2 .given .1)) ∙ c .before .before .before .before .before .before .loop .inv ns h
+    λ ns h. unknown-on (isNode ns) s j (c .word-end .result) (c .word-end .ensures)
+    (space-here s j _ (c .before .before .before .before .before .byte-at .ensures) (c .before .before .before .before .if1 .taken) .0)
+    (found-there (c .before .before .before .find-purpose .result) _ (c .before .before .before .find-purpose .ensures .0 ns h) (c .before .enum-told2 .given .0 .0) (c .before .enum-told2 .given .1)) ∙ c .before .before .before .before .before .before .loop .inv ns h
 
 returns-2 : tie.Need-returns-2 Inv-loop μ-loop
 returns-2 c =

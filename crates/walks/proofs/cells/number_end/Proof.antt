@@ -24,10 +24,14 @@ enum-told : tie.Need-enum-told
 enum-told c = search needs
 
 returns-2 : tie.Need-returns-2
-returns-2 c = ap numberEnd (sym (c .before .n .given .1) ∙ c .before .before .before .read-number .ensures) ∙ typed-number (c .before .before .before .before .before .before .before .args .line .now) (c .before .before .before .before .before .before .before .args .at) (λ z. c .before .before .before .before .if1 .left (c .before .before .before .before .before .byte-at .ensures ∙ z))
+returns-2 c = ap numberEnd (sym (c .before .n .given .1) ∙ c .before .before .before .read-number .ensures) ∙ typed-number
+    (c .before .before .before .before .before .before .before .args .line .now) (c .before .before .before .before .before .before .before .args .at)
+    (λ z. c .before .before .before .before .if1 .left (c .before .before .before .before .before .byte-at .ensures ∙ z))
 
 returns-3 : tie.Need-returns-3
-returns-3 c = ap numberEnd (sym (c .enum-told .given .1) ∙ c .before .before .read-number .ensures) ∙ typed-number (c .before .before .before .before .before .before .args .line .now) (c .before .before .before .before .before .before .args .at) (λ z. c .before .before .before .if1 .left (c .before .before .before .before .byte-at .ensures ∙ z))
+returns-3 c = ap numberEnd (sym (c .enum-told .given .1) ∙ c .before .before .read-number .ensures) ∙ typed-number
+    (c .before .before .before .before .before .before .args .line .now) (c .before .before .before .before .before .before .args .at)
+    (λ z. c .before .before .before .if1 .left (c .before .before .before .before .byte-at .ensures ∙ z))
 
 pub number-end-spec : {M : Type 1} → statement M
 number-end-spec =

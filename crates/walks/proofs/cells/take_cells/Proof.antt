@@ -25,7 +25,9 @@ Inv-loop text at line labels labels-count tables x n rows₀ k is m c₀ j₀ ro
     (c ≤ n)
     × (length line < 2 ^ 64)
     × KeepsRows text rows₀ rows k
-    × ((d : Policy) (count : ℕ) (sets ls : List ℕ) → LineAt text at line → Labels text labels sets labels-count (d .labels) → Tables text tables count (d .tables) → x < count → n ≡ length (columnsAt d x) → k < 1024 → FillingRow text rows₀ k 0 m [] ls → CellsPassed text rows₀ rows line k n m ls c d (columnsAt d x) is j)
+    × ((d : Policy) (count : ℕ) (sets ls : List ℕ) → LineAt text at line → Labels text labels sets labels-count (d .labels) → Tables text tables count
+    (d .tables) → x < count → n ≡ length
+    (columnsAt d x) → k < 1024 → FillingRow text rows₀ k 0 m [] ls → CellsPassed text rows₀ rows line k n m ls c d (columnsAt d x) is j)
 
 abbrev μ-loop : tie.MeasureT-loop
 μ-loop text at line labels labels-count tables x n rows₀ k is m c₀ j₀ rows c j = n - c
@@ -85,16 +87,32 @@ enum-told-2 : tie.Need-enum-told-2 Inv-loop μ-loop
 enum-told-2 c = search needs
 
 returns-4 : tie.Need-returns-4 Inv-loop μ-loop
-returns-4 c = (λ rs h. c .before .before .take-label .ensures .0 rs (c .before .before .before .before .set-value .ensures .kept _ _ rs (omega arith) (c .before .before .before .before .before .before .before .before .before .before .before .before .before .before .before .before .before .loop .inv .2 rs h)), λ d count sets ls l N T b w small h. tt)
+returns-4 c = (
+  λ rs h. c .before .before .take-label .ensures .0 rs
+      (c .before .before .before .before .set-value .ensures .kept _ _ rs (omega arith) (c .before .before .before .before .before .before .before .before .before .before .before .before .before .before .before .before .before .loop .inv .2 rs h)),
+  λ d count sets ls l N T b w small h. tt,
+)
 
 byte-at-requires-3 : tie.Need-byte-at-requires-3 Inv-loop μ-loop
 byte-at-requires-3 c κs = search needs
 
 returns-5 : tie.Need-returns-5 Inv-loop μ-loop
-returns-5 c = (λ rs h. c .before .before .before .before .before .take-label .ensures .0 rs (c .before .before .before .before .before .before .before .set-value .ensures .kept _ _ rs (omega arith) (c .before .before .before .before .before .before .before .before .before .before .before .before .before .before .before .before .before .before .before .before .loop .inv .2 rs h)), λ d count sets ls l N T b w small h. tt)
+returns-5 c = (
+  λ rs h. c .before .before .before .before .before .take-label .ensures .0 rs
+      (c .before .before .before .before .before .before .before .set-value .ensures .kept _ _ rs (omega arith)
+      (c .before .before .before .before .before .before .before .before .before .before .before .before .before .before .before .before .before .before .before .before .loop .inv .2 rs h)),
+  λ d count sets ls l N T b w small h. tt,
+)
 
 add-j : tie.Need-add-j Inv-loop μ-loop
-add-j c = omega (arith, before-end (c .before .before .before .before .before .before .before .before .before .before .before .before .before .before .before .before .before .before .before .before .before .before .before .args .line .now) (c .before .before .before .l .given .0 .0) (λ z. absurd (omega (arith, z, c .before .byte-at3 .ensures, c .if3 .left))), c .before .before .before .before .before .before .before .before .before .before .before .before .before .before .before .before .before .before .before .before .loop .inv .1)
+add-j c = omega (
+  arith,
+  before-end
+      (c .before .before .before .before .before .before .before .before .before .before .before .before .before .before .before .before .before .before .before .before .before .before .before .args .line .now)
+      (c .before .before .before .l .given .0 .0)
+      (λ z. absurd (omega (arith, z, c .before .byte-at3 .ensures, c .if3 .left))),
+  c .before .before .before .before .before .before .before .before .before .before .before .before .before .before .before .before .before .before .before .before .loop .inv .1,
+)
 
 add-c : tie.Need-add-c Inv-loop μ-loop
 add-c c = omega (arith, c .before .before .before .before .before .before .before .before .before .before .before .before .before .before .before .before .before .before .before .loop-test .taken, c .before .before .before .before .before .before .before .before .before .before .before .before .before .before .before .before .before .before .before .before .before .before .before .fits .n)
@@ -106,10 +124,15 @@ loop-again : tie.Need-loop-again Inv-loop μ-loop
 loop-again c = (
   omega (arith, c .before .before .before .before .before .before .before .before .before .before .before .before .before .before .before .before .before .before .before .loop-test .taken),
   c .before .before .before .before .before .before .before .before .before .before .before .before .before .before .before .before .before .before .before .before .loop .inv .1,
-  λ rs h. c .before .before .before .before .before .take-label .ensures .0 rs (c .before .before .before .before .before .before .before .set-value .ensures .kept _ _ rs (omega arith) (c .before .before .before .before .before .before .before .before .before .before .before .before .before .before .before .before .before .before .before .before .loop .inv .2 rs h)),
+  λ rs h. c .before .before .before .before .before .take-label .ensures .0 rs
+      (c .before .before .before .before .before .before .before .set-value .ensures .kept _ _ rs (omega arith) (c .before .before .before .before .before .before .before .before .before .before .before .before .before .before .before .before .before .before .before .before .loop .inv .2 rs h)),
   λ d count sets ls l N T b w small h.
       cells-turn d T b w ls (c .before .before .before .before .before .before .before .before .before .before .before .before .before .before .before .before .before .before .before .before .before .before .before .args .is) (c .before .before .before .before .before .before .before .before .before .before .before .before .before .before .before .before .before .before .before .before .loop .j) (kindOf (c .before .before .before .before .before .before .before .before .before .before .before .before .before .before .column-kind .result)) l small (c .before .before .before .before .before .before .before .before .before .before .before .before .before .before .before .before .before .before .before .before .before .before .before .pre) (c .before .before .before .before .before .before .before .before .before .before .before .before .before .before .before .before .before .before .before .loop-test .taken) (sym (c .before .before .before .before .before .before .before .before .before .before .before .before .before .before .before .before .before .before .byte-at .ensures) ∙ c .before .before .before .before .before .before .before .before .before .before .before .before .before .before .before .before .before .if1 .left) (sym (c .before .before .before .before .before .before .before .before .before .before .before .before .before .before .before .before .byte-at2 .ensures) ∙ c .before .before .before .before .before .before .before .before .before .before .before .before .before .before .before .if2 .left) (c .before .before .before .before .before .before .before .before .before .before .before .before .before .before .column-kind .ensures)
-      (sym (c .before .before .before .before .before .before .before .before .before .before .before .before .before .typed-end .ensures) ∙ c .before .before .before .before .before .before .before .before .before .before .before .r .given .1) (c .before .before .before .before .before .before .before .before .before .place .ensures) (c .before .before .before .before .before .before .before .set-value .ensures) (label-at (c .before .before .before .l .given .1) (c .before .before .before .before .before .take-label .ensures .1 d sets N)) (sym (c .before .byte-at3 .ensures) ∙ c .if3 .left)
+      (sym (c .before .before .before .before .before .before .before .before .before .before .before .before .before .typed-end .ensures) ∙ c .before .before .before .before .before .before .before .before .before .before .before .r .given .1)
+      (c .before .before .before .before .before .before .before .before .before .place .ensures)
+      (c .before .before .before .before .before .before .before .set-value .ensures)
+      (label-at (c .before .before .before .l .given .1) (c .before .before .before .before .before .take-label .ensures .1 d sets N))
+      (sym (c .before .byte-at3 .ensures) ∙ c .if3 .left)
       (c .before .before .before .before .before .before .before .before .before .before .before .before .before .before .before .before .before .before .before .before .loop .inv .3 d count sets ls l N T b w small h),
 )
 

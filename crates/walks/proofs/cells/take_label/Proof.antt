@@ -31,7 +31,8 @@ returns-2 : tie.Need-returns-2
 returns-2 c = (λ rs h. h, λ d sets N. tt)
 
 add-find-label-to : tie.Need-add-find-label-to
-add-find-label-to c = omega (arith, space-here (c .before .before .before .before .before .before .before .before .args .line .now) (c .before .before .before .before .before .before .before .before .args .at) _ (c .before .before .before .before .before .byte-at .ensures) (c .before .before .before .before .if1 .left) .1)
+add-find-label-to c = omega
+    (arith, space-here (c .before .before .before .before .before .before .before .before .args .line .now) (c .before .before .before .before .before .before .before .before .args .at) _ (c .before .before .before .before .before .byte-at .ensures) (c .before .before .before .before .if1 .left) .1)
 
 find-label-to-requires : tie.Need-find-label-to-requires
 find-label-to-requires c κs = search needs
@@ -52,7 +53,11 @@ returns-4 : tie.Need-returns-4
 unfolding labelOf
 returns-4 c = (
   λ rs h. c .set-label .ensures .kept _ _ rs (omega arith) h,
-  λ d sets N. label-taken (sym (c .before .before .before .before .before .before .before .before .before .before .before .byte-at .ensures) ∙ c .before .before .before .before .before .before .before .before .before .before .if1 .left) (sym (c .before .before .before .before .before .before .before .before .before .name-end .ensures) ∙ c .before .before .before .before .before .before .before .r .given .1) (λ ended. sym (ap foundAs (c .before .before .before .found .given .1)) ∙ c .before .before .before .before .before .find-label-to .ensures .0 sets _ ended N) (c .set-label .ensures),
+  λ d sets N. label-taken
+      (sym (c .before .before .before .before .before .before .before .before .before .before .before .byte-at .ensures) ∙ c .before .before .before .before .before .before .before .before .before .before .if1 .left)
+      (sym (c .before .before .before .before .before .before .before .before .before .name-end .ensures) ∙ c .before .before .before .before .before .before .before .r .given .1)
+      (λ ended. sym (ap foundAs (c .before .before .before .found .given .1)) ∙ c .before .before .before .before .before .find-label-to .ensures .0 sets _ ended N)
+      (c .set-label .ensures),
 )
 
 pub take-label-spec : {M : Type 1} → statement M

@@ -69,8 +69,23 @@ loop-less c = omega (arith, c .before .before .before .before .before .before .b
 loop-again : tie.Need-loop-again Inv-loop μ-loop
 loop-again c = (
   omega (arith, c .before .before .before .before .before .before .before .before .before .before .loop-test .taken),
-  λ rs h. c .set-value .ensures .kept (c .before .before .before .before .before .before .before .before .before .before .before .before .before .before .args .text .now) (c .before .before .before .before .before .before .before .before .before .before .before .before .before .before .args .k) rs (omega arith) (c .before .before .before .before .before .before .before .before .before .before .before .loop .inv .1 rs h),
-  λ d count marks ls l T i w small h. values-turn d T i w (c .before .before .before .before .before .before .before .before .before .before .before .before .before .before .args .is) (c .before .before .before .before .before .before .before .before .before .before .before .loop .j) (kindOf (c .before .before .before .before .before .before .before .column-kind .result)) l small (c .before .before .before .before .before .before .before .before .before .before .loop-test .taken) (space-here (c .before .before .before .before .before .before .before .before .before .before .before .before .before .before .args .line .now) (c .before .before .before .before .before .before .before .before .before .before .before .loop .j) _ (c .before .before .before .before .before .before .before .before .before .byte-at .ensures) (c .before .before .before .before .before .before .before .before .if1 .left)) (c .before .before .before .before .before .before .before .column-kind .ensures) (sym (c .before .before .before .before .before .before .typed-end .ensures) ∙ c .before .before .before .before .r .given .1) (c .before .before .place .ensures) (c .set-value .ensures) (c .before .before .before .before .before .before .before .before .before .before .before .loop .inv .2 d count marks ls l T i w small h),
+  λ rs h. c .set-value .ensures .kept
+      (c .before .before .before .before .before .before .before .before .before .before .before .before .before .before .args .text .now)
+      (c .before .before .before .before .before .before .before .before .before .before .before .before .before .before .args .k) rs (omega arith)
+      (c .before .before .before .before .before .before .before .before .before .before .before .loop .inv .1 rs h),
+  λ d count marks ls l T i w small h. values-turn d T i w
+      (c .before .before .before .before .before .before .before .before .before .before .before .before .before .before .args .is)
+      (c .before .before .before .before .before .before .before .before .before .before .before .loop .j) (kindOf
+      (c .before .before .before .before .before .before .before .column-kind .result)) l small
+      (c .before .before .before .before .before .before .before .before .before .before .loop-test .taken) (space-here
+      (c .before .before .before .before .before .before .before .before .before .before .before .before .before .before .args .line .now)
+      (c .before .before .before .before .before .before .before .before .before .before .before .loop .j) _
+      (c .before .before .before .before .before .before .before .before .before .byte-at .ensures)
+      (c .before .before .before .before .before .before .before .before .if1 .left))
+      (c .before .before .before .before .before .before .before .column-kind .ensures) (sym
+      (c .before .before .before .before .before .before .typed-end .ensures) ∙ c .before .before .before .before .r .given .1)
+      (c .before .before .place .ensures) (c .set-value .ensures)
+      (c .before .before .before .before .before .before .before .before .before .before .before .loop .inv .2 d count marks ls l T i w small h),
 )
 
 returns-3 : tie.Need-returns-3 Inv-loop μ-loop

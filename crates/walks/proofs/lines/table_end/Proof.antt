@@ -47,7 +47,9 @@ name-end-requires c κs = search needs
 
 returns-4 : tie.Need-returns-4
 unfolding tableEnd
-returns-4 c = rw (opens (c .before .before .before .before .before .before), is-row (c .before .before .before), eq-eqb (getD (c .before .before .before .before .before .before .before .before .before .args .line .now) 4 0) 32 (sym (c .before .before .byte-at2 .ensures) ∙ c .before .if3 .left)) (c .name-end .ensures)
+returns-4 c = rw
+    (opens (c .before .before .before .before .before .before), is-row (c .before .before .before), eq-eqb (getD (c .before .before .before .before .before .before .before .before .before .args .line .now) 4 0) 32 (sym (c .before .before .byte-at2 .ensures) ∙ c .before .if3 .left))
+    (c .name-end .ensures)
 
 pub table-end-spec : {M : Type 1} → statement M
 table-end-spec =

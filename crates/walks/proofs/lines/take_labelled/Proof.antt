@@ -41,9 +41,14 @@ returns-3 c d sets count l L T table inside u v small N =
     let a = c .before .before .before .before .before .before .before .before .before .before .before .before .args in
     let n : ℕ = c .before .before .before .before .before .before .before .before .before .table-width .result in
     let wide = width-read (a .text .now) (a .tables .now) count (a .x) (d .policy) T inside n (c .before .before .before .before .before .before .before .before .before .table-width .ensures) in
-    let t = subst (CellsWalked (a .text .now) (a .rows .now) (c .before .before .before .before .before .before .before .take-cells .last .1 .1 .1 .1 .1 .1 .1 .1 .0) (a .line .now) (a .k) n 0 [] (d .policy) (columnsAt (d .policy) (a .x)) (a .is)) (c .before .before .before .before .before .r .given .1)
+    let t = subst
+    (CellsWalked (a .text .now) (a .rows .now) (c .before .before .before .before .before .before .before .take-cells .last .1 .1 .1 .1 .1 .1 .1 .1 .0) (a .line .now) (a .k) n 0 [] (d .policy) (columnsAt (d .policy) (a .x)) (a .is))
+    (c .before .before .before .before .before .r .given .1)
     (c .before .before .before .before .before .before .before .take-cells .ensures .1 (d .policy) count sets [] l L T inside wide small (row-empty (a .text .now) (a .rows .now) (a .k))) in
-    cells-taken d (a .line .now) (a .is) (c .before .before .before .before .before .r .given .0 .0) N small table (sym (c .before .before .before .closes .ensures) ∙ not-false _ (c .before .before .if1 .left)) wide (c .before .before .before .before .before .before .before .before .before .table-width .ensures .few) u v t (c .add-row .ensures (a .text .now))
+    cells-taken d (a .line .now) (a .is) (c .before .before .before .before .before .r .given .0 .0) N small table
+    (sym (c .before .before .before .closes .ensures) ∙ not-false _ (c .before .before .if1 .left)) wide
+    (c .before .before .before .before .before .before .before .before .before .table-width .ensures .few) u v t
+    (c .add-row .ensures (a .text .now))
 
 pub take-labelled-spec : {M : Type 1} → statement M
 take-labelled-spec =

@@ -60,11 +60,22 @@ returns-4 c d sets count l L T table inside u v small N =
     let n : ℕ = c .before .before .before .before .before .before .before .before .before .table-width .result in
     let label : List ℕ = orZero (labelOf (d .policy) (wordOf (a .line .now) (a .is + 1))) ∷ [] in
     let wide = width-read (a .text .now) (a .tables .now) count (a .x) (d .policy) T inside n (c .before .before .before .before .before .before .before .before .before .table-width .ensures) in
-    let m = subst (LabelWalked (a .rows .now) (c .before .before .before .before .before .before .before .before .before .before .before .before .before .take-label .last .1 .1 .1 .1 .0) (a .line .now) (d .policy) (a .k) 0 (a .is)) (c .before .before .before .before .before .before .before .before .before .before .before .l .given .1) (c .before .before .before .before .before .before .before .before .before .before .before .before .before .take-label .ensures .1 (d .policy) sets L) in
+    let m = subst
+    (LabelWalked (a .rows .now) (c .before .before .before .before .before .before .before .before .before .before .before .before .before .take-label .last .1 .1 .1 .1 .0) (a .line .now) (d .policy) (a .k) 0 (a .is))
+    (c .before .before .before .before .before .before .before .before .before .before .before .l .given .1)
+    (c .before .before .before .before .before .before .before .before .before .before .before .before .before .take-label .ensures .1 (d .policy) sets L) in
     let marked = m .stored .grown (a .text .now) 0 [] [] small (omega arith) (row-empty (a .text .now) (a .rows .now) (a .k)) in
-    let t = subst (CellsWalked (a .text .now) (c .before .before .before .before .before .before .before .before .before .before .before .before .before .take-label .last .1 .1 .1 .1 .0) (c .before .before .before .before .before .before .before .take-cells .last .1 .1 .1 .1 .1 .1 .1 .1 .0) (a .line .now) (a .k) n 1 label (d .policy) (columnsAt (d .policy) (a .x)) (c .before .before .before .before .before .before .before .before .before .before .before .l .given .0 .0)) (c .before .before .before .before .before .r .given .1)
+    let t = subst (CellsWalked (a .text .now)
+    (c .before .before .before .before .before .before .before .before .before .before .before .before .before .take-label .last .1 .1 .1 .1 .0)
+    (c .before .before .before .before .before .before .before .take-cells .last .1 .1 .1 .1 .1 .1 .1 .1 .0) (a .line .now) (a .k) n 1 label
+    (d .policy) (columnsAt (d .policy) (a .x))
+    (c .before .before .before .before .before .before .before .before .before .before .before .l .given .0 .0))
+    (c .before .before .before .before .before .r .given .1)
     (c .before .before .before .before .before .before .before .take-cells .ensures .1 (d .policy) count sets label l L T inside wide small marked) in
-    nested-taken d (a .line .now) (a .is) (c .before .before .before .before .before .r .given .0 .0) N small table (sym (c .before .before .before .closes .ensures) ∙ not-false _ (c .before .before .if1 .left)) wide (c .before .before .before .before .before .before .before .before .before .table-width .ensures .few) m u v t refl (c .add-row .ensures (a .text .now))
+    nested-taken d (a .line .now) (a .is) (c .before .before .before .before .before .r .given .0 .0) N small table
+    (sym (c .before .before .before .closes .ensures) ∙ not-false _ (c .before .before .if1 .left)) wide
+    (c .before .before .before .before .before .before .before .before .before .table-width .ensures .few) m u v t refl
+    (c .add-row .ensures (a .text .now))
 
 pub take-nested-spec : {M : Type 1} → statement M
 take-nested-spec =

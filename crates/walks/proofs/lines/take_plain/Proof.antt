@@ -43,7 +43,10 @@ returns-3 c d count l T table inside u v small N =
     let wide = width-read (a .text .now) (a .tables .now) count (a .x) (d .policy) T inside n (c .before .before .before .before .before .before .before .before .before .table-width .ensures) in
     let t = subst (ValuesWalked (a .text .now) (a .rows .now) (c .before .before .before .before .before .before .before .take-values .last .1 .1 .1 .1 .1 .1 .0) (a .line .now) (a .k) n 0 [] (columnsAt (d .policy) (a .x)) (a .is)) (c .before .before .before .before .before .r .given .1)
     (c .before .before .before .before .before .before .before .take-values .ensures .1 (d .policy) count 0 [] l T inside wide small (row-empty (a .text .now) (a .rows .now) (a .k))) in
-    plain-taken d (a .line .now) (a .is) (c .before .before .before .before .before .r .given .0 .0) N small table (sym (c .before .before .before .closes .ensures) ∙ not-false _ (c .before .before .if1 .left)) wide (c .before .before .before .before .before .before .before .before .before .table-width .ensures .few) u v t (c .add-row .ensures (a .text .now))
+    plain-taken d (a .line .now) (a .is) (c .before .before .before .before .before .r .given .0 .0) N small table
+    (sym (c .before .before .before .closes .ensures) ∙ not-false _ (c .before .before .if1 .left)) wide
+    (c .before .before .before .before .before .before .before .before .before .table-width .ensures .few) u v t
+    (c .add-row .ensures (a .text .now))
 
 pub take-plain-spec : {M : Type 1} → statement M
 take-plain-spec =

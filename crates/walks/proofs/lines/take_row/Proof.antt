@@ -28,13 +28,34 @@ room c = c .before .before .before .before .before .before .before .before .befo
 ends : (c : tie.After-table-scheme) → tableEnd (c .before .before .before .before .before .before .before .before .before .before .before .before .args .line .now) ≡ At (c .before .before .before .before .before .before .t .given .0 .0)
 ends c = sym (c .before .before .before .before .before .before .before .before .table-end .ensures) ∙ c .before .before .before .before .before .before .t .given .1
 
-found : (c : tie.After-table-scheme) (d : Doc) {s : coded.Scheme} → Tables (c .before .before .before .before .before .before .before .before .before .before .before .before .args .text .now) (c .before .before .before .before .before .before .before .before .before .before .before .before .args .tables .now) (c .before .before .before .before .before .before .before .before .before .before .before .before .args .tables-count) (d .policy .tables) → c .table-scheme .result ≡ s
-    → TableTold (c .before .before .before .before .before .before .before .before .before .before .before .before .args .tables .now) (c .before .before .before .before .before .before .before .before .before .before .before .before .args .tables-count) (c .before .before .found .given .0 .0) s (wordOf (c .before .before .before .before .before .before .before .before .before .before .before .before .args .line .now) 5) (d .policy)
+found : (c : tie.After-table-scheme) (d : Doc) {s : coded.Scheme} → Tables
+    (c .before .before .before .before .before .before .before .before .before .before .before .before .args .text .now)
+    (c .before .before .before .before .before .before .before .before .before .before .before .before .args .tables .now)
+    (c .before .before .before .before .before .before .before .before .before .before .before .before .args .tables-count)
+    (d .policy .tables) → c .table-scheme .result ≡ s
+    → TableTold (c .before .before .before .before .before .before .before .before .before .before .before .before .args .tables .now)
+    (c .before .before .before .before .before .before .before .before .before .before .before .before .args .tables-count)
+    (c .before .before .found .given .0 .0) s
+    (wordOf (c .before .before .before .before .before .before .before .before .before .before .before .before .args .line .now) 5) (d .policy)
 unfolding tableOf wordEndAt
-found c d T told = table-told (wordOf (c .before .before .before .before .before .before .before .before .before .before .before .before .args .line .now) 5) (d .policy) T (c .before .before .found .given .1) (c .before .before .before .before .find-table-to .ensures .0 _ (name-ends (c .before .before .before .before .before .before .before .before .before .before .before .before .args .line .now) (c .before .before .before .before .before .before .t .given .0 .0) (ends c)) T) (c .before .before .before .before .find-table-to .ensures .1) told (c .table-scheme .ensures)
+found c d T told = table-told
+    (wordOf (c .before .before .before .before .before .before .before .before .before .before .before .before .args .line .now) 5) (d .policy) T
+    (c .before .before .found .given .1)
+    (c .before .before .before .before .find-table-to .ensures .0 _ (name-ends (c .before .before .before .before .before .before .before .before .before .before .before .before .args .line .now) (c .before .before .before .before .before .before .t .given .0 .0) (ends c)) T)
+    (c .before .before .before .before .find-table-to .ensures .1) told (c .table-scheme .ensures)
 
-as-line : (c : tie.After-table-scheme) (after : List ℕ) (d : Doc) (r : Bool) → TakesItems (c .before .before .before .before .before .before .before .before .before .before .before .before .args .text .now) (c .before .before .before .before .before .before .before .before .before .before .before .before .args .line .now) after (c .before .before .before .before .before .before .before .before .before .before .before .before .args .k) (c .before .before .before .before .before .before .t .given .0 .0) d r → TakesRow (c .before .before .before .before .before .before .before .before .before .before .before .before .args .text .now) (c .before .before .before .before .before .before .before .before .before .before .before .before .args .line .now) after (c .before .before .before .before .before .before .before .before .before .before .before .before .args .k) d r
-as-line c after d r = line-taken (c .before .before .before .before .before .before .before .before .before .before .before .before .args .line .now) (c .before .before .before .before .before .before .t .given .0 .0) (ends c) (c .before .before .before .before .before .before .before .before .before .before .before .before .args .text .now) after (c .before .before .before .before .before .before .before .before .before .before .before .before .args .k) d r
+as-line : (c : tie.After-table-scheme) (after : List ℕ) (d : Doc) (r : Bool) → TakesItems
+    (c .before .before .before .before .before .before .before .before .before .before .before .before .args .text .now)
+    (c .before .before .before .before .before .before .before .before .before .before .before .before .args .line .now) after
+    (c .before .before .before .before .before .before .before .before .before .before .before .before .args .k)
+    (c .before .before .before .before .before .before .t .given .0 .0) d r → TakesRow
+    (c .before .before .before .before .before .before .before .before .before .before .before .before .args .text .now)
+    (c .before .before .before .before .before .before .before .before .before .before .before .before .args .line .now) after
+    (c .before .before .before .before .before .before .before .before .before .before .before .before .args .k) d r
+as-line c after d r = line-taken (c .before .before .before .before .before .before .before .before .before .before .before .before .args .line .now)
+    (c .before .before .before .before .before .before .t .given .0 .0) (ends c)
+    (c .before .before .before .before .before .before .before .before .before .before .before .before .args .text .now) after
+    (c .before .before .before .before .before .before .before .before .before .before .before .before .args .k) d r
 
 returns : tie.Need-returns
 returns c = (λ d sets l L T N. N, λ e. true-not-false e refl)
@@ -76,25 +97,53 @@ take-nested-requires : tie.Need-take-nested-requires
 take-nested-requires c κs = search needs
 
 returns-4 : tie.Need-returns-4
-returns-4 c = (λ d sets l L T N. let g = found ((c .before .before .before .before .before .before)) d T refl in as-line ((c .before .before .before .before .before .before)) _ d (c .take-nested .result) (c .take-nested .ensures d sets _ l L T (g .table) (g .inside) (ap leadsLabel (g .scheme) ∙ sym (c .before .before .before .before .leads-label .ensures _ _) ∙ c .before .before .before .if2 .taken) (ap hasBrackets (g .scheme) ∙ sym (c .before .before .before .before .before .has-brackets .ensures _ _) ∙ c .before .before .if3 .taken) (room ((c .before .before .before .before .before .before))) N), λ e. room ((c .before .before .before .before .before .before)))
+returns-4 c = (
+  λ d sets l L T N. let g = found ((c .before .before .before .before .before .before)) d T refl in as-line
+      ((c .before .before .before .before .before .before)) _ d (c .take-nested .result) (c .take-nested .ensures d sets _ l L T (g .table) (g .inside)
+      (ap leadsLabel (g .scheme) ∙ sym (c .before .before .before .before .leads-label .ensures _ _) ∙ c .before .before .before .if2 .taken)
+      (ap hasBrackets (g .scheme) ∙ sym (c .before .before .before .before .before .has-brackets .ensures _ _) ∙ c .before .before .if3 .taken)
+      (room ((c .before .before .before .before .before .before))) N),
+  λ e. room ((c .before .before .before .before .before .before)),
+)
 
 take-led-requires : tie.Need-take-led-requires
 take-led-requires c κs = search needs
 
 returns-5 : tie.Need-returns-5
-returns-5 c = (λ d sets l L T N. let g = found ((c .before .before .before .before .before .before)) d T refl in as-line ((c .before .before .before .before .before .before)) _ d (c .take-led .result) (c .take-led .ensures d sets _ l L T (g .table) (g .inside) (ap leadsLabel (g .scheme) ∙ sym (c .before .before .before .before .leads-label .ensures _ _) ∙ c .before .before .before .if2 .taken) (ap hasBrackets (g .scheme) ∙ sym (c .before .before .before .before .before .has-brackets .ensures _ _) ∙ c .before .before .if3 .left) (room ((c .before .before .before .before .before .before))) N), λ e. room ((c .before .before .before .before .before .before)))
+returns-5 c = (
+  λ d sets l L T N. let g = found ((c .before .before .before .before .before .before)) d T refl in as-line
+      ((c .before .before .before .before .before .before)) _ d (c .take-led .result) (c .take-led .ensures d sets _ l L T (g .table) (g .inside)
+      (ap leadsLabel (g .scheme) ∙ sym (c .before .before .before .before .leads-label .ensures _ _) ∙ c .before .before .before .if2 .taken)
+      (ap hasBrackets (g .scheme) ∙ sym (c .before .before .before .before .before .has-brackets .ensures _ _) ∙ c .before .before .if3 .left)
+      (room ((c .before .before .before .before .before .before))) N),
+  λ e. room ((c .before .before .before .before .before .before)),
+)
 
 take-labelled-requires : tie.Need-take-labelled-requires
 take-labelled-requires c κs = search needs
 
 returns-6 : tie.Need-returns-6
-returns-6 c = (λ d sets l L T N. let g = found ((c .before .before .before .before .before .before)) d T refl in as-line ((c .before .before .before .before .before .before)) _ d (c .take-labelled .result) (c .take-labelled .ensures d sets _ l L T (g .table) (g .inside) (ap leadsLabel (g .scheme) ∙ sym (c .before .before .before .before .leads-label .ensures _ _) ∙ c .before .before .before .if2 .left) (ap hasBrackets (g .scheme) ∙ sym (c .before .before .before .before .before .has-brackets .ensures _ _) ∙ c .before .before .if4 .taken) (room ((c .before .before .before .before .before .before))) N), λ e. room ((c .before .before .before .before .before .before)))
+returns-6 c = (
+  λ d sets l L T N. let g = found ((c .before .before .before .before .before .before)) d T refl in as-line
+      ((c .before .before .before .before .before .before)) _ d (c .take-labelled .result) (c .take-labelled .ensures d sets _ l L T (g .table)
+      (g .inside) (ap leadsLabel (g .scheme) ∙ sym (c .before .before .before .before .leads-label .ensures _ _) ∙ c .before .before .before .if2 .left)
+      (ap hasBrackets (g .scheme) ∙ sym (c .before .before .before .before .before .has-brackets .ensures _ _) ∙ c .before .before .if4 .taken)
+      (room ((c .before .before .before .before .before .before))) N),
+  λ e. room ((c .before .before .before .before .before .before)),
+)
 
 take-plain-requires : tie.Need-take-plain-requires
 take-plain-requires c κs = search needs
 
 returns-7 : tie.Need-returns-7
-returns-7 c = (λ d sets l L T N. let g = found ((c .before .before .before .before .before .before)) d T refl in as-line ((c .before .before .before .before .before .before)) _ d (c .take-plain .result) (c .take-plain .ensures d _ l T (g .table) (g .inside) (ap leadsLabel (g .scheme) ∙ sym (c .before .before .before .before .leads-label .ensures _ _) ∙ c .before .before .before .if2 .left) (ap hasBrackets (g .scheme) ∙ sym (c .before .before .before .before .before .has-brackets .ensures _ _) ∙ c .before .before .if4 .left) (room ((c .before .before .before .before .before .before))) N), λ e. room ((c .before .before .before .before .before .before)))
+returns-7 c = (
+  λ d sets l L T N. let g = found ((c .before .before .before .before .before .before)) d T refl in as-line
+      ((c .before .before .before .before .before .before)) _ d (c .take-plain .result) (c .take-plain .ensures d _ l T (g .table) (g .inside)
+      (ap leadsLabel (g .scheme) ∙ sym (c .before .before .before .before .leads-label .ensures _ _) ∙ c .before .before .before .if2 .left)
+      (ap hasBrackets (g .scheme) ∙ sym (c .before .before .before .before .before .has-brackets .ensures _ _) ∙ c .before .before .if4 .left)
+      (room ((c .before .before .before .before .before .before))) N),
+  λ e. room ((c .before .before .before .before .before .before)),
+)
 
 pub take-row-spec : {M : Type 1} → statement M
 take-row-spec =

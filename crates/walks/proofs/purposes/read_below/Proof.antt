@@ -75,13 +75,22 @@ returns-7 c = search needs
 returns-8 : tie.Need-returns-8
 returns-8 c =
     let s = c .before .before .before .before .before .before .before .before .before .before .before .before .before .before .before .before .before .before .before .args .line .now in
-    let b = sym (c .before .before .before .before .before .before .before .before .before .before .before .before .before .before .before .before .begins .ensures) ∙ not-false _ (c .before .before .before .before .before .before .before .before .before .before .before .before .before .before .before .if1 .left) in
+    let b = sym
+    (c .before .before .before .before .before .before .before .before .before .before .before .before .before .before .before .before .begins .ensures) ∙ not-false _
+    (c .before .before .before .before .before .before .before .before .before .before .before .before .before .before .before .if1 .left) in
     let n = c .before .before .before .before .before .before .before .before .before .before .before .before .before .before .seek-purpose .ensures in
     let p = c .before .before .before .before .before .before .before .seek-purpose2 .ensures in
     let first = space s b in
-    let inside : 8 < length (c .before .before .before .before .before .before .before .before .before .before .before .before .before .before .before .before .before .before .before .args .line .now) = before-end (c .before .before .before .before .before .before .before .before .before .before .before .before .before .before .before .before .before .before .before .args .line .now) 8 (λ z. absurd (omega (arith, first, z))) in
+    let inside : 8 < length
+    (c .before .before .before .before .before .before .before .before .before .before .before .before .before .before .before .before .before .before .before .args .line .now) = before-end
+    (c .before .before .before .before .before .before .before .before .before .before .before .before .before .before .before .before .before .before .before .args .line .now) 8
+    (λ z. absurd (omega (arith, first, z))) in
     record {
-      form = below-form s b _ _ (n .ends) (c .before .before .before .before .before .before .before .before .before .before .before .before .before .is-name-to .ensures (not-false _ (c .before .before .before .before .before .before .before .before .before .before .before .before .if2 .left)) (n .ends)) (parted ((c .before .before .before .before .before .before .before .before .before .before))) (p .ends) (c .before .before .before .before .before .before .is-name-to2 .ensures (not-false _ (c .before .before .before .before .before .if4 .left)) (p .ends)) (sym (c .before .before .before .before .closes .ensures) ∙ not-false _ (c .before .before .before .if5 .left));
+      form = below-form s b _ _ (n .ends)
+          (c .before .before .before .before .before .before .before .before .before .before .before .before .before .is-name-to .ensures (not-false _ (c .before .before .before .before .before .before .before .before .before .before .before .before .if2 .left)) (n .ends))
+          (parted ((c .before .before .before .before .before .before .before .before .before .before))) (p .ends)
+          (c .before .before .before .before .before .before .is-name-to2 .ensures (not-false _ (c .before .before .before .before .before .if4 .left)) (p .ends))
+          (sym (c .before .before .before .before .closes .ensures) ∙ not-false _ (c .before .before .before .if5 .left));
       within = omega (arith, inside);
       hash = n .hash;
       fresh = λ ns N. sym (ap foundAs (c .before .before .before .before .before .before .before .before .enum-told2 .given .1)) ∙ n .is ns N;
