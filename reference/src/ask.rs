@@ -1,10 +1,11 @@
-//! 01, "Asking": the numbers 1 to 18 in their order, 27 of 02, Q-12 and 31 of Q-14 among them, then the answer.
+//! 01, "Asking": the numbers 1 to 18 in their order, 25 of 02, Q-11, 27 of Q-12 and 31 of Q-14 among them, then the answer.
 
 use crate::answer::{label_open, write, Answer, Request, Written};
 use crate::check::read_document;
 use crate::clock::Clock;
 use crate::condition::Certainty;
 use crate::forms::{Value, Word};
+use crate::nest::Sets;
 use crate::policy::{Labelling, Policy, User};
 use crate::query::{read_query, Query, Verb};
 use crate::refusal::{leftmost, of_query, Refusal};
@@ -105,6 +106,7 @@ fn answered(doc: &[u8], query: &[u8], clock: Clock) -> Result<(Written, usize), 
             Verb::Possible => Some(Certainty::Possible),
             Verb::Select | Verb::Count | Verb::Blank => None,
         },
+        sets: policy.labels.iter().map(|label| Sets::of_label(&policy.tree, label)).collect(),
         condition: parsed.condition.as_ref(),
     };
     Ok((write(&policy, &request), grant))
@@ -146,7 +148,7 @@ fn ranged_columns(policy: &Policy, table: usize, named: &[Word]) -> Vec<Span> {
 }
 
 /// 01: "table label closed, or a named column's label closed, refuses the query"; 02, Q-2: "`none` is closed to every purpose,
-/// and its queries are refused with 17 at the table name", unless the table is public.
+/// and its queries are refused with 17 at the table name", unless the table is public; Q-11: "A nest table gives no 17".
 fn closed_parts(policy: &Policy, query: &Query, table: usize, named: &[Word], purpose: usize) -> Vec<Span> {
     match policy.tables[table].labelling {
         Labelling::None if !policy.tables[table].public => vec![query.table.span],
@@ -160,6 +162,6 @@ fn closed_parts(policy: &Policy, query: &Query, table: usize, named: &[Word], pu
             })
             .map(|word| word.span)
             .collect(),
-        _ => Vec::new(),
+        Labelling::None | Labelling::Table(_) | Labelling::Row | Labelling::Cell | Labelling::Nest => Vec::new(),
     }
 }

@@ -22,7 +22,7 @@ pub fn check(doc: &[u8]) -> Result<Accepted, Refusal> {
     read_document(doc).map(|(policy, lines)| Accepted { lines, reserve: reserve(&policy) })
 }
 
-/// The policy of an accepted document and its number of lines, or the refusal: 1 to 9, 28 or 31.
+/// The policy of an accepted document and its number of lines, or the refusal: 1 to 9, 25, 28 or 31.
 pub fn read_document(doc: &[u8]) -> Result<(Policy<'_>, usize), Refusal> {
     // 01: "A text over 60,000 bytes is 1", its part "empty at the start".
     if doc.len() > LONGEST_DOCUMENT {
@@ -56,7 +56,7 @@ pub fn read_document(doc: &[u8]) -> Result<(Policy<'_>, usize), Refusal> {
 }
 
 /// 01: "the lowest number"; "the whole line .. for 2, 3, 6, 7, 9; the leftmost offending item for 4, 5, 8". 02, Q-12: 28 "after 8";
-/// 31 "after 28 in a document".
+/// 31 "after 28 in a document"; Q-11: 25 "after 9, at the whole line".
 fn fault(policy: &Policy, form: &Form, whole: Span) -> Option<(u32, Span)> {
     if rules::bound_exceeded(policy, form) {
         return Some((3, whole));
@@ -84,6 +84,9 @@ fn fault(policy: &Policy, form: &Form, whole: Span) -> Option<(u32, Span)> {
     }
     if rules::late_attribute(policy, form) {
         return Some((9, whole));
+    }
+    if rules::misplaced_label(policy, form) {
+        return Some((25, whole));
     }
     None
 }

@@ -1,4 +1,5 @@
-//! 01, "Document forms": items to one of the nine forms, or the `public` line of 02, Q-2, by shape alone.
+//! 01, "Document forms": items to one of the nine forms, or to a `public` line of 02, Q-2, or a `weak` or `strong` one of Q-11, by
+//! shape alone.
 
 use crate::condition::{read_condition, Condition};
 use crate::date::Date;
@@ -46,7 +47,7 @@ impl Value<'_> {
     }
 }
 
-/// The five schemes of a table form; only `table` names a label of its own.
+/// The five schemes of a table form, and `nest` of 02, Q-11; only `table` names a label of its own.
 #[derive(Clone, Copy, Debug)]
 pub enum Scheme<'a> {
     None,
@@ -54,6 +55,14 @@ pub enum Scheme<'a> {
     Column,
     Row,
     Cell,
+    Nest,
+}
+
+/// 02, Q-11: "Source document 000 lets a label be strong or weak".
+#[derive(Clone, Copy, Debug, PartialEq, Eq)]
+pub enum Strength {
+    Weak,
+    Strong,
 }
 
 /// `(COL num)`, or `(COL num L)` under scheme column.
@@ -85,6 +94,7 @@ pub enum Form<'a> {
     Table { name: Word<'a>, scheme: Scheme<'a>, columns: Vec<ColumnForm<'a>> },
     Row { table: Word<'a>, items: Vec<RowItem<'a>> },
     Public { table: Word<'a> },
+    Inherited { strength: Strength, table: Word<'a>, label: Word<'a> },
 }
 
 /// A name item.
@@ -147,6 +157,8 @@ pub fn read_line(line: &[u8], base: usize) -> Option<Form<'_>> {
         b"table" => table(rest),
         b"row" => row(rest),
         b"public" => public(rest),
+        b"weak" => inherited(Strength::Weak, rest),
+        b"strong" => inherited(Strength::Strong, rest),
         _ => None,
     }
 }
@@ -206,7 +218,7 @@ fn purpose_set<'a>(item: &Item<'a>, keyword: &str) -> Option<Vec<Word<'a>>> {
     purposes.iter().map(word).collect()
 }
 
-/// 01, "Tables": the five table forms, "at least one column".
+/// 01, "Tables": the five table forms, "at least one column"; 02, Q-11: "A `(table T nest (COL num) ..)`".
 fn table<'a>(items: &[Item<'a>]) -> Option<Form<'a>> {
     let [name, scheme_word, rest @ ..] = items else { return None };
     let Kind::Name(keyword) = scheme_word.kind else { return None };
@@ -219,6 +231,7 @@ fn table<'a>(items: &[Item<'a>]) -> Option<Form<'a>> {
         b"column" => (Scheme::Column, rest),
         b"row" => (Scheme::Row, rest),
         b"cell" => (Scheme::Cell, rest),
+        b"nest" => (Scheme::Nest, rest),
         _ => return None,
     };
     if columns.is_empty() {
@@ -260,6 +273,12 @@ fn row<'a>(items: &[Item<'a>]) -> Option<Form<'a>> {
 fn public<'a>(items: &[Item<'a>]) -> Option<Form<'a>> {
     let [table] = items else { return None };
     Some(Form::Public { table: word(table)? })
+}
+
+/// 02, Q-11: "lines `(weak T L)` and `(strong T L)`".
+fn inherited<'a>(strength: Strength, items: &[Item<'a>]) -> Option<Form<'a>> {
+    let [table, label] = items else { return None };
+    Some(Form::Inherited { strength, table: word(table)?, label: word(label)? })
 }
 
 /// A value, or `(v L)`. Two or three numbers in a bracket are a value, and a number and a name are not, so no item is both.

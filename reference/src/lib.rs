@@ -8,6 +8,7 @@ mod condition;
 mod date;
 mod forms;
 mod import;
+mod nest;
 mod policy;
 pub mod program;
 pub mod purpose;

@@ -1,7 +1,7 @@
 //! What the accepted lines of a document define, each kind in document order.
 
 use crate::condition::Condition;
-use crate::forms::{Form, RowItem, Scheme, Type, Value};
+use crate::forms::{Form, RowItem, Scheme, Strength, Type, Value};
 use crate::purpose::{Label, Tree};
 use crate::text::Name;
 
@@ -50,6 +50,20 @@ pub enum Labelling {
     Column,
     Row,
     Cell,
+    /// 02, Q-11: a label for the row and one for each cell, below those of the table.
+    Nest,
+}
+
+impl Labelling {
+    /// `(row T L v ..)` and, of a nest table, `(row T L (v L) ..)`.
+    pub fn rows_have_labels(self) -> bool {
+        matches!(self, Labelling::Row | Labelling::Nest)
+    }
+
+    /// `(row T (v L) ..)` and, of a nest table, `(row T L (v L) ..)`.
+    pub fn cells_have_labels(self) -> bool {
+        matches!(self, Labelling::Cell | Labelling::Nest)
+    }
 }
 
 #[derive(Debug)]
@@ -65,7 +79,28 @@ pub struct Table<'a> {
     pub labelling: Labelling,
     /// 02, Q-2: whether a `public` line names it, on a labelled table too, "where it does nothing".
     pub public: bool,
+    /// 02, Q-11: the labels of its `weak` and `strong` lines, "each optional".
+    pub weak: Option<usize>,
+    pub strong: Option<usize>,
     pub columns: Vec<Column<'a>>,
+}
+
+impl Table<'_> {
+    /// The label that the table's `weak` or `strong` line gives.
+    pub fn inherited(&self, strength: Strength) -> Option<usize> {
+        match strength {
+            Strength::Weak => self.weak,
+            Strength::Strong => self.strong,
+        }
+    }
+
+    /// Where that label is kept.
+    fn inherited_mut(&mut self, strength: Strength) -> &mut Option<usize> {
+        match strength {
+            Strength::Weak => &mut self.weak,
+            Strength::Strong => &mut self.strong,
+        }
+    }
 }
 
 #[derive(Debug)]
@@ -163,7 +198,7 @@ impl<'a> Policy<'a> {
         self.attributes_of(role).into_iter().find(|attribute| attribute.name == name).map(|attribute| attribute.kind)
     }
 
-    /// Takes a line that the rules 3 to 9 found without fault; none if one of its names isn't known after all.
+    /// Takes a line that the rules found without fault; none if one of its names isn't known after all.
     pub fn record(&mut self, form: Form<'a>) -> Option<()> {
         match form {
             Form::Purpose { name, parent } => {
@@ -212,6 +247,7 @@ impl<'a> Policy<'a> {
                     Scheme::Column => Labelling::Column,
                     Scheme::Row => Labelling::Row,
                     Scheme::Cell => Labelling::Cell,
+                    Scheme::Nest => Labelling::Nest,
                 };
                 let mut kept = Vec::new();
                 for column in &columns {
@@ -221,13 +257,13 @@ impl<'a> Policy<'a> {
                     };
                     kept.push(Column { name: column.name.text, kind: column.kind, label });
                 }
-                self.tables.push(Table { name: name.text, labelling, public: false, columns: kept });
+                self.tables.push(Table { name: name.text, labelling, public: false, weak: None, strong: None, columns: kept });
             }
             Form::Row { table, items } => {
                 let table = self.table(table.text)?;
                 let mut rest = &items[..];
                 let mut label = None;
-                if self.tables[table].labelling == Labelling::Row {
+                if self.tables[table].labelling.rows_have_labels() {
                     let (first, others) = items.split_first()?;
                     label = Some(self.label(row_label(first)?)?);
                     rest = others;
@@ -245,12 +281,17 @@ impl<'a> Policy<'a> {
                 let table = self.table(table.text)?;
                 self.tables[table].public = true;
             }
+            Form::Inherited { strength, table, label } => {
+                let table = self.table(table.text)?;
+                let label = self.label(label.text)?;
+                *self.tables[table].inherited_mut(strength) = Some(label);
+            }
         }
         Some(())
     }
 }
 
-/// 01: "in a row table, the first item if that is a name".
+/// 01: "in a row table, the first item if that is a name"; 02, Q-11: in a nest table too.
 pub fn row_label<'a>(first: &RowItem<'a>) -> Option<Name<'a>> {
     match first {
         RowItem::Plain(given) => match given.value {

@@ -20,7 +20,7 @@ pub struct Refusal {
     pub len: usize,
 }
 
-/// A refusal whose part stands in the document (01, numbers 1 to 9; 02, 28 and 31).
+/// A refusal whose part stands in the document (01, numbers 1 to 9; 02, 25, 28 and 31).
 pub fn of_document(number: u32, part: Span) -> Refusal {
     Refusal { number, source: Source::Document, start: part.start, len: part.len }
 }

@@ -1,4 +1,5 @@
-//! 01, "Checking a document": the numbers 3 to 9, 28 of 02, Q-12 and 31 of Q-14, one function each, for a line whose form is right.
+//! 01, "Checking a document": the numbers 3 to 9, 28 of 02, Q-12, 31 of Q-14 and 25 of Q-11, one function each, for a line whose form
+//! is right.
 
 use crate::forms::{Form, Given, RowItem, Scheme, Type, Value, Word};
 use crate::policy::{row_label, Labelling, Policy, CLOCK_NAMES};
@@ -28,8 +29,8 @@ pub fn bound_exceeded(policy: &Policy, form: &Form) -> bool {
         Form::Label { .. } => policy.labels.len() >= MOST_LABELS,
         Form::Table { columns, .. } => policy.tables.len() >= MOST_TABLES || columns.len() > MOST_COLUMNS,
         Form::Row { .. } => policy.rows.len() >= MOST_ROWS,
-        // One for each table is all that 4 lets stand.
-        Form::Public { .. } => false,
+        // One for each table is all that 4 lets stand, and 25 two for each.
+        Form::Public { .. } | Form::Inherited { .. } => false,
     }
 }
 
@@ -85,6 +86,8 @@ pub fn names_taken(policy: &Policy, form: &Form) -> Vec<Span> {
         Form::Public { table } => {
             taken_if(policy.table(table.text).is_some_and(|place| policy.tables[place].public), table)
         }
+        // A second such line is 25.
+        Form::Inherited { .. } => Vec::new(),
     }
 }
 
@@ -147,29 +150,32 @@ pub fn names_unknown(policy: &Policy, form: &Form) -> Vec<Span> {
             }
         }
         // 01: "For 5 it uses T and, in a row table, the first item if that is a name, in a cell table each bracket's L."
+        // 02, Q-11: those of a nest table are "looked up for 5 as in row and cell tables".
         Form::Row { table, items } => {
             let known_table = policy.table(table.text);
             uses(table, known_table.is_some());
-            match known_table.map(|place| policy.tables[place].labelling) {
-                Some(Labelling::Row) => {
-                    if let Some(RowItem::Plain(first)) = items.first() {
-                        if let Some(name) = row_label(&items[0]) {
-                            uses(&Word { text: name, span: first.span }, policy.label(name).is_some());
-                        }
+            let labelling = known_table.map(|place| policy.tables[place].labelling);
+            if labelling.is_some_and(Labelling::rows_have_labels) {
+                if let Some(RowItem::Plain(first)) = items.first() {
+                    if let Some(name) = row_label(&items[0]) {
+                        uses(&Word { text: name, span: first.span }, policy.label(name).is_some());
                     }
                 }
-                Some(Labelling::Cell) => {
-                    for item in items {
-                        if let RowItem::Labelled(_, label) = item {
-                            uses(label, policy.label(label.text).is_some());
-                        }
+            }
+            if labelling.is_some_and(Labelling::cells_have_labels) {
+                for item in items {
+                    if let RowItem::Labelled(_, label) = item {
+                        uses(label, policy.label(label.text).is_some());
                     }
                 }
-                _ => {}
             }
         }
         // 02, Q-2: "T unknown is 5".
         Form::Public { table } => uses(table, policy.table(table.text).is_some()),
+        Form::Inherited { table, label, .. } => {
+            uses(table, policy.table(table.text).is_some());
+            uses(label, policy.label(label.text).is_some());
+        }
     }
     unknown
 }
@@ -209,9 +215,10 @@ pub fn wrong_values(policy: &Policy, form: &Form) -> bool {
     }
 }
 
-/// The values of a row whose items are shaped for the scheme: `(row T v ..)`, `(row T L v ..)`, `(row T (v L) ..)`.
+/// The values of a row whose items are shaped for the scheme: `(row T v ..)`, `(row T L v ..)`, `(row T (v L) ..)`, and for nest
+/// `(row T L (v L) ..)`.
 fn row_values<'a>(labelling: Labelling, items: &[RowItem<'a>]) -> Option<Vec<Given<'a>>> {
-    let values = if labelling == Labelling::Row {
+    let values = if labelling.rows_have_labels() {
         let (first, rest) = items.split_first()?;
         row_label(first)?;
         rest
@@ -220,11 +227,10 @@ fn row_values<'a>(labelling: Labelling, items: &[RowItem<'a>]) -> Option<Vec<Giv
     };
     values
         .iter()
-        .map(|item| match (item, labelling) {
-            (RowItem::Labelled(given, _), Labelling::Cell) => Some(*given),
-            (RowItem::Plain(_), Labelling::Cell) => None,
-            (RowItem::Plain(given), _) => Some(*given),
-            (RowItem::Labelled(..), _) => None,
+        .map(|item| match (item, labelling.cells_have_labels()) {
+            (RowItem::Labelled(given, _), true) => Some(*given),
+            (RowItem::Plain(given), false) => Some(*given),
+            _ => None,
         })
         .collect()
 }
@@ -292,4 +298,14 @@ pub fn late_attribute(policy: &Policy, form: &Form) -> bool {
         Form::Attr { .. } => !policy.users.is_empty(),
         _ => false,
     }
+}
+
+/// 02, Q-11, 25: "a strong or weak line given twice, after a row or for a table of another scheme".
+pub fn misplaced_label(policy: &Policy, form: &Form) -> bool {
+    let Form::Inherited { strength, table, .. } = form else { return false };
+    let Some(place) = policy.table(table.text) else { return false };
+    let table = &policy.tables[place];
+    table.labelling != Labelling::Nest
+        || table.inherited(*strength).is_some()
+        || policy.rows.iter().any(|row| row.table == place)
 }

@@ -21,13 +21,14 @@ impl Dice {
 }
 
 /// Pieces that texts are made of, so that many random texts come close to forms.
-const PIECES: [&str; 63] = [
+const PIECES: [&str; 72] = [
     "(", ")", " ", "\n", "(purpose a)\n", "(purpose b a)\n", "(role r)\n", "(role s r)\n", "(attr r k num)\n", "(attr s w name)\n",
     "(user u r (k 5))\n", "(user u s (k 5) (w x))\n", "(cond-role c r (gt k 1))\n", "(grant a c)\n", "(grant b c)\n",
     "(label l (allow a) (deny))\n", "(label m (allow a) (deny b))\n", "(table t cell (p num) (q name))\n", "(table v row (p num))\n", "(table n none (p num))\n", "(public n)\n", "(public t)\n", "(count u r a n)",
     "(table y column (p num l) (q num m))\n", "(row t (1 l) (x m))\n", "(row v m 4)\n", "(row y 1 2)\n", "(select u r a t (p q))",
     "(select u r b t (p) (eq q x))", "(count u s b v (gt p 3))", "(count u r a y)", "(blank u r b t (q p))", "(blank u r b t (q) (gt p 0))", "blank", "(row t ((1 5) l) (x m))\n", "(row v m (-2 4))\n", "(sure u r a t (p q) (gt p 0))", "(possible u r b v (p) (eq p 3))", "(9 1)", "(table d cell (p date) (q num))\n",
-    "(row d ((2028 2 29) l) (1 m))\n", "(row d ((2027 2 29) l) (1 m))\n", "(select u r a d (p) (lt p (2028 3 1)))", "(count u r a d (eq p (1900 2 29)))", "(2000 2 29)", "date", "purpose", "role", "row", "table", "(eq p 1)",
+    "(row d ((2028 2 29) l) (1 m))\n", "(row d ((2027 2 29) l) (1 m))\n", "(select u r a d (p) (lt p (2028 3 1)))", "(count u r a d (eq p (1900 2 29)))", "(2000 2 29)", "date", "(table e nest (p num) (q name))\n", "(weak e m)\n", "(strong e l)\n",
+    "(row e m (1 l) (x m))\n", "(row e l (-2 m) (x l))\n", "(select u r b e (p q))", "(blank u r b e (q p))", "nest", "(weak t l)\n", "purpose", "role", "row", "table", "(eq p 1)",
     "(not ", "(and ", "a", "b", "t", "-1", "0", "01", "9223372036854775808", "\u{0}", "\u{e9}", "year",
 ];
 
@@ -72,8 +73,9 @@ fn try_one(doc: &[u8], query: &[u8], clock: Clock, room: usize) -> u32 {
                 Source::File => panic!("a file where none was given"),
             };
             assert!(refusal.start + refusal.len <= text.len());
-            let of_document = refusal.number <= 9 || refusal.number == 28;
-            assert_eq!(refusal.source == Source::Document, of_document);
+            let of_document = refusal.source == Source::Document;
+            // 31 is given of both.
+            assert!(refusal.number == 31 || of_document == (refusal.number <= 9 || matches!(refusal.number, 25 | 28)));
             assert_eq!(of_document, checked == Err(refusal));
             refusal.number
         }
@@ -83,7 +85,7 @@ fn try_one(doc: &[u8], query: &[u8], clock: Clock, room: usize) -> u32 {
 #[test]
 fn arbitrary_texts() {
     let mut dice = Dice(0x5eed);
-    let mut seen = [0usize; 29];
+    let mut seen = [0usize; 32];
     for round in 0..30_000 {
         let mut doc = if round % 2 == 0 { assemble(&mut dice, 24) } else { SAMPLE.as_bytes().to_vec() };
         let mut query = if round % 3 == 0 { assemble(&mut dice, 6) } else { QUERY.as_bytes().to_vec() };
