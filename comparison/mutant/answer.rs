@@ -1,4 +1,5 @@
-//! A copy of the reference's `answer`, with blunders 1, 3, 6, 7, 8, 30, 31, 36, 41 to 43, 45 to 48, 52 to 54, 59, 60, 66, 67, 77 and 78.
+//! A copy of the reference's `answer`, with blunders 1, 3, 6, 7, 8, 30, 31, 36, 41 to 43, 45 to 48, 52 to 54, 59, 60, 66, 67, 77, 78, 97
+//! and 100 to 102.
 
 use std::cell::RefCell;
 
@@ -6,6 +7,7 @@ use crate::condition::{Certainty, Condition, Operator};
 use crate::date::Date;
 use crate::dates;
 use crate::forms::Value;
+use crate::nest::{self, Sets};
 use crate::policy::{Labelling, Policy, Row, Table};
 use crate::on;
 use crate::purpose::{open, Label, Tree};
@@ -40,6 +42,8 @@ pub struct Request<'q, 'p> {
     pub blanks: bool,
     /// 02, Q-12: whether rows pass where the condition is sure, or possible; none where it has to hold.
     pub certainty: Option<Certainty>,
+    /// 02, Q-11: the sets of each label, by its place.
+    pub sets: Vec<Sets>,
     pub condition: Option<&'q Condition<'p>>,
 }
 
@@ -69,7 +73,7 @@ fn open_downwards(tree: &Tree, label: &Label, p: usize) -> bool {
 /// 01: "A row not withheld is passed if the condition holds or is absent, else unmatched."
 fn fate<'p>(policy: &Policy<'p>, request: &Request<'_, 'p>, row: &Row<'p>) -> Fate {
     let table = &policy.tables[request.table];
-    let mut closed = withheld(policy, request, table.labelling, row) && !(on(36) && table.public);
+    let mut closed = withheld(policy, request, table, row) && !(on(36) && table.public);
     if on(6) && table.labelling == Labelling::Cell {
         closed = reached_closed(policy, request, table, row);
     }
@@ -93,16 +97,38 @@ fn fate<'p>(policy: &Policy<'p>, request: &Request<'_, 'p>, row: &Row<'p>) -> Fa
     }
 }
 
-/// 01: "Scheme row withholds a row whose label is closed ..  Scheme cell withholds a row with a closed named cell."
-fn withheld(policy: &Policy, request: &Request, labelling: Labelling, row: &Row) -> bool {
+/// 01: "Scheme row withholds a row whose label is closed ..  Scheme cell withholds a row with a closed named cell." 02, Q-11: a nest
+/// table's "row is withheld only for a closed named cell (for blank, one in the condition)".
+fn withheld(policy: &Policy, request: &Request, table: &Table, row: &Row) -> bool {
     let unnamed = request.selected.is_none() && request.condition.is_none();
-    match labelling {
+    match table.labelling {
         Labelling::None | Labelling::Table(_) | Labelling::Column => false,
         Labelling::Row if on(7) => !unnamed && closed(policy, request, row.label),
         Labelling::Row if on(47) && request.blanks => false,
         Labelling::Row => closed(policy, request, row.label),
-        Labelling::Cell => request.withholding.iter().any(|&column| closed(policy, request, row.cells[column].label)),
+        Labelling::Nest if on(97) && closed(policy, request, row.label) => true,
+        Labelling::Nest if on(102) && request.blanks => {
+            let selected = request.selected.iter().flatten();
+            selected.chain(&request.withholding).any(|&column| cell_closed(policy, request, table, row, column))
+        }
+        Labelling::Cell | Labelling::Nest => {
+            request.withholding.iter().any(|&column| cell_closed(policy, request, table, row, column))
+        }
     }
+}
+
+/// Whether a cell with a label of its own is closed: by that label alone, or in a nest table by all that come down to it (02, Q-11).
+fn cell_closed(policy: &Policy, request: &Request, table: &Table, row: &Row, column: usize) -> bool {
+    let own = row.cells[column].label;
+    if table.labelling != Labelling::Nest {
+        return closed(policy, request, own);
+    }
+    if on(100) && table.public {
+        return false;
+    }
+    let absent = Sets::absent(&policy.tree);
+    let sets = |label: Option<usize>| label.and_then(|label| request.sets.get(label)).unwrap_or(&absent);
+    !nest::open(&policy.tree, sets(table.strong), [sets(table.weak), sets(row.label), sets(own)], request.purpose)
 }
 
 /// Whether a row's or a cell's own label is closed to the request's purpose; where there is none it isn't.
@@ -184,6 +210,8 @@ fn value_in<'p>(table: &Table, row: &Row<'p>, name: Name) -> Option<Value<'p>> {
 
 /// 01: "Select writes `(row v ..)` for each passed row in document order; both end with `(end PASSED WITHHELD UNMATCHED)`, each line with a line feed."
 pub fn write<'p>(policy: &Policy<'p>, request: &Request<'_, 'p>) -> Written {
+    let table = &policy.tables[request.table];
+    let printed = on(101) && table.labelling == Labelling::Nest;
     let mut written = Written { text: Vec::new(), passed: 0, withheld: 0, unmatched: 0 };
     for row in policy.rows.iter().filter(|row| row.table == request.table) {
         match fate(policy, request, row) {
@@ -192,7 +220,7 @@ pub fn write<'p>(policy: &Policy<'p>, request: &Request<'_, 'p>) -> Written {
             Fate::Passed => {
                 written.passed += 1;
                 if let Some(selected) = &request.selected {
-                    let blank = |column: usize| request.blanks && closed(policy, request, row.cells[column].label);
+                    let blank = |column: usize| request.blanks && !printed && cell_closed(policy, request, table, row, column);
                     write_row(&mut written.text, row, selected, &blank);
                 }
             }

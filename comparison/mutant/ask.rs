@@ -1,4 +1,4 @@
-//! A copy of the reference's `ask`, with blunders 2, 4, 5, 8, 9, 10, 16, 29, 33 to 36, 40, 44, 49 to 51, 55 to 57 and 71 to 76.
+//! A copy of the reference's `ask`, with blunders 2, 4, 5, 8, 9, 10, 16, 29, 33 to 36, 40, 44, 49 to 51, 55 to 57, 71 to 76, 98 and 99.
 
 use crate::answer::{label_open, write, Answer, Request};
 use crate::check::read_document;
@@ -6,6 +6,7 @@ use crate::clock::Clock;
 use crate::condition::{Certainty, Operator};
 use crate::dates;
 use crate::forms::{Type, Value, Word};
+use crate::nest::Sets;
 use crate::on;
 use crate::policy::{Grant, Labelling, Policy, Row, User};
 use crate::query::{read_query, Query, Verb};
@@ -136,6 +137,7 @@ pub fn ask(doc: &[u8], query: &[u8], clock: Clock, out: &mut [u8]) -> Result<Ans
             Verb::Possible => Some(Certainty::Possible),
             Verb::Select | Verb::Count | Verb::Blank => None,
         },
+        sets: policy.labels.iter().map(|label| Sets::of_label(&policy.tree, label)).collect(),
         condition: parsed.condition.as_ref(),
     };
     let written = write(&policy, &request);
@@ -213,6 +215,8 @@ fn closed_parts(policy: &Policy, query: &Query, table: usize, named: &[Word], pu
     match policy.tables[table].labelling {
         _ if on(36) && policy.tables[table].public => Vec::new(),
         Labelling::None if !policy.tables[table].public && !on(35) => vec![query.table.span],
+        Labelling::Nest if on(98) && policy.tables[table].weak.is_some_and(|label| !label_open(policy, label, purpose)) => vec![query.table.span],
+        Labelling::Nest if on(99) && !policy.tables[table].public => vec![query.table.span],
         Labelling::Table(label) if !label_open(policy, label, purpose) => vec![query.table.span],
         Labelling::Column => named
             .iter()

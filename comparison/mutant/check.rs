@@ -1,10 +1,10 @@
-//! A copy of the reference's `check`, with blunders 11 to 15, 32, 37 to 39, 58, 61, 68 and 69.
+//! A copy of the reference's `check`, with blunders 11 to 15, 32, 37 to 39, 58, 61, 68, 69, 103 to 113 and 115.
 
 use crate::answer::reserve;
 use crate::dates;
 use crate::forms::{read_line, Form, RowItem, Value};
 use crate::on;
-use crate::policy::{Labelling, Policy};
+use crate::policy::{row_label, Labelling, Policy};
 use crate::refusal::{leftmost, of_document, Refusal};
 use crate::rules;
 use crate::text::{Name, Span};
@@ -24,7 +24,7 @@ pub fn check(doc: &[u8]) -> Result<Accepted, Refusal> {
     read_document(doc).map(|(policy, lines)| Accepted { lines, reserve: reserve(&policy) })
 }
 
-/// The policy of an accepted document and its number of lines, or the refusal: 1 to 9, 28 or 31.
+/// The policy of an accepted document and its number of lines, or the refusal: 1 to 9, 25, 28 or 31.
 pub fn read_document(doc: &[u8]) -> Result<(Policy<'_>, usize), Refusal> {
     // 01: "A text over 60,000 bytes is 1", its part "empty at the start".
     if doc.len() > LONGEST_DOCUMENT {
@@ -63,7 +63,7 @@ pub fn read_document(doc: &[u8]) -> Result<(Policy<'_>, usize), Refusal> {
 }
 
 /// 01: "the lowest number"; "the whole line .. for 2, 3, 6, 7, 9; the leftmost offending item for 4, 5, 8". 02, Q-12: 28 "after 8";
-/// 31 "after 28 in a document".
+/// 31 "after 28 in a document"; Q-11: 25 "after 9, at the whole line".
 fn fault(policy: &Policy, form: &Form, whole: Span) -> Option<(u32, Span)> {
     if on(14) {
         if let Some(part) = leftmost(&rules::names_taken(policy, form)) {
@@ -89,7 +89,13 @@ fn fault(policy: &Policy, form: &Form, whole: Span) -> Option<(u32, Span)> {
     if on(15) && rules::late_attribute(policy, form) {
         return Some((9, whole));
     }
-    if let Some(part) = leftmost(&rules::names_unknown(policy, form)) {
+    if on(107) && misplaced(policy, form) {
+        return Some((25, whole));
+    }
+    if on(115) && unlabelled_row(policy, form) {
+        return Some((7, whole));
+    }
+    if let Some(part) = leftmost(&unknown(policy, form)) {
         return Some((5, part));
     }
     if rules::second_root(policy, form) {
@@ -126,7 +132,54 @@ fn fault(policy: &Policy, form: &Form, whole: Span) -> Option<(u32, Span)> {
     if rules::late_attribute(policy, form) {
         return Some((9, whole));
     }
+    if misplaced(policy, form) {
+        return Some((25, if on(108) { table_of(form).unwrap_or(whole) } else { whole }));
+    }
     None
+}
+
+/// Where the table of a `weak` or `strong` line stands.
+fn table_of(form: &Form) -> Option<Span> {
+    match form {
+        Form::Inherited { table, .. } => Some(table.span),
+        _ => None,
+    }
+}
+
+/// 02, Q-11, 25: "a strong or weak line given twice, after a row or for a table of another scheme", with blunders 103 to 106 and 109 to 111.
+fn misplaced(policy: &Policy, form: &Form) -> bool {
+    let Form::Inherited { strength, table, label } = form else { return false };
+    let Some(place) = policy.table(table.text) else { return false };
+    let table = &policy.tables[place];
+    let given = table.inherited(*strength);
+    let again = given.is_some() && !on(104) && !(on(105) && given == policy.label(label.text));
+    let beside = on(110) && (table.weak.is_some() || table.strong.is_some()) || on(111) && table.public;
+    let behind_row = !on(103) && policy.rows.iter().any(|row| row.table == place || on(109));
+    table.labelling != Labelling::Nest && !on(106) || again || beside || behind_row
+}
+
+/// Whether a row is one of a nest table.
+fn of_nest(policy: &Policy, form: &Form) -> bool {
+    let Form::Row { table, .. } = form else { return false };
+    policy.table(table.text).is_some_and(|place| policy.tables[place].labelling == Labelling::Nest)
+}
+
+/// Blunder 115: a nest row whose first item is no name.
+fn unlabelled_row(policy: &Policy, form: &Form) -> bool {
+    let Form::Row { items, .. } = form else { return false };
+    of_nest(policy, form) && items.first().is_none_or(|first| row_label(first).is_none())
+}
+
+/// 01, 5, with blunders 112 and 113.
+fn unknown(policy: &Policy, form: &Form) -> Vec<Span> {
+    let unknown = rules::names_unknown(policy, form);
+    let Form::Row { items, .. } = form else { return unknown };
+    let Some(RowItem::Plain(first)) = items.first() else { return unknown };
+    let others: Vec<Span> = unknown.iter().copied().filter(|part| *part != first.span).collect();
+    match of_nest(policy, form) {
+        true if on(112) || on(113) && !others.is_empty() => others,
+        _ => unknown,
+    }
 }
 
 /// Blunder 61: where the first range of a row stands.

@@ -1,5 +1,6 @@
 //! The reference with one blunder switched on, for `comparison --mutant K`: most modules are the
-//! reference's own files; `answer`, `ask`, `check` and `import` are copies with the blunders in them, and `dates` has those of dates.
+//! reference's own files; `answer`, `ask`, `check`, `import` and `nest` are copies with the blunders in them, and `dates` has those of
+//! dates.
 
 use std::ops::RangeInclusive;
 use std::sync::atomic::{AtomicU32, Ordering};
@@ -17,6 +18,7 @@ mod dates;
 #[path = "../../reference/src/forms.rs"]
 pub mod forms;
 mod import;
+mod nest;
 #[path = "../../reference/src/policy.rs"]
 pub mod policy;
 #[path = "../../reference/src/purpose.rs"]
@@ -38,7 +40,7 @@ pub use import::{import, measure_import};
 pub use refusal::{Refusal, Source};
 
 /// What each mutant does wrong, counted from 1.
-pub const BLUNDERS: [&str; 78] = [
+pub const BLUNDERS: [&str; 117] = [
     "a denied purpose closes downwards only",
     "labels tested for selected columns only",
     "withheld counted only where the condition holds",
@@ -117,6 +119,45 @@ pub const BLUNDERS: [&str; 78] = [
     "dates take `eq` and `ne` only",
     "month and day printed with two digits",
     "the reserve without a date's bracket and spaces",
+    "denied sets closed again when merged",
+    "a lower allowed set takes from its own denied set too",
+    "a lower allowed set takes nothing from what was denied above",
+    "a lower allowed set takes its members alone, not their descendants",
+    "a lower denied set takes the place of what was denied above",
+    "a lower allowed set takes the place of what was allowed above",
+    "labels merged from the cell up",
+    "the row's label merged over the cell's",
+    "weak labels decide before strong ones",
+    "strongly allowed doesn't open",
+    "strongly denied doesn't close",
+    "strongly allowed decides before strongly denied",
+    "weak denied sets closed downwards only",
+    "the strong denied set closed downwards only",
+    "weak denied sets not closed before merging",
+    "a nest cell closed by its own label alone",
+    "the table's weak label left out",
+    "the row's label left out of its cells",
+    "a nest row withheld for its own label",
+    "a nest table whose weak label is closed refused with 17",
+    "an undeclared nest table refused with 17",
+    "a `public` line opens a nest table",
+    "a nest table's closed cell printed by a blank",
+    "a blank of a nest table withheld for a closed cell that is only selected",
+    "25 not given behind a row",
+    "25 not given for a second line",
+    "25 not given for a second line with the same label",
+    "25 not given for a table of another scheme",
+    "25 tested before 5",
+    "25 at the table, not at the whole line",
+    "25 behind a row of any table",
+    "25 for the second of a weak and a strong line",
+    "25 behind a `public` line",
+    "a nest row's own label not looked up for 5",
+    "of a nest row the cells' labels looked up first",
+    "a lower allowed set takes from the strong denied set",
+    "a nest row without its own label 7 before its cells' labels are looked up",
+    "a nest table's allowed sets without the purposes from the 65th on",
+    "a nest table's denied sets without the purposes from the 193rd on",
 ];
 
 /// These blunders are of importing.

@@ -8,7 +8,7 @@ use crate::random::Random;
 use crate::recase::{self, listed, same};
 
 /// What a cell may be to a query. A run has to see each of them, most as the one reason for which the cell may differ.
-const SITUATIONS: [&str; 37] = [
+const SITUATIONS: [&str; 51] = [
     "no query",
     "unknown purpose, public table",
     "unknown purpose, undeclared table",
@@ -46,6 +46,20 @@ const SITUATIONS: [&str; 37] = [
     "closed or withheld, a date",
     "bound, asked by sure or possible",
     "closed or withheld, asked by sure or possible",
+    "closed by the labels of a nest table",
+    "bound, open by the labels of a nest table",
+    "nest: closed, strongly denied",
+    "nest: closed, strongly denied, its own label being open",
+    "nest: closed, weakly denied",
+    "nest: closed, weakly denied from above alone",
+    "nest: closed, allowed by no label",
+    "nest: closed in spite of a public line",
+    "nest: closed, written as a blank",
+    "nest: open, in a row withheld for another cell",
+    "nest: bound, strongly allowed",
+    "nest: bound, weakly allowed",
+    "nest: bound, allowed again below a label that denies",
+    "nest: bound, the row's own label being closed",
 ];
 
 /// Two to five purposes, one to three tables with two to six rows, and what these need; at times a user with a grant.
@@ -64,7 +78,8 @@ fn small(random: &mut Random) -> Model {
     }
     for _ in 0..builder.random.between(1, 3) {
         let label = builder.random.below(builder.model.labels.len());
-        let scheme = *builder.random.pick(&[Scheme::None, Scheme::None, Scheme::Table(label), Scheme::Column, Scheme::Row, Scheme::Cell, Scheme::Cell]);
+        let schemes = [Scheme::None, Scheme::None, Scheme::Table(label), Scheme::Column, Scheme::Row, Scheme::Cell, Scheme::Cell];
+        let scheme = if builder.random.chance(1, 3) { Scheme::Nest } else { *builder.random.pick(&schemes) };
         let columns = builder.random.between(1, 3);
         builder.table_of(scheme, columns);
     }
@@ -142,10 +157,36 @@ fn situations(model: &Model, query: Option<&Query>, row: &Row, column: usize) ->
         (Some(queried), Some(purpose)) => match reason(model, query, row, column, purpose) {
             // The query is then refused, by 15, and names its other columns all the same.
             Some("column not named") if names_unknown(query, queried) => vec!["column not named, another one unknown"],
-            Some(reason) => vec![reason],
-            None => bound(model, query, row, column),
+            Some(reason) => [vec![reason], of_nest(model, query, row, column, purpose, reason)].concat(),
+            None => [bound(model, query, row, column), of_nest(model, query, row, column, purpose, "bound")].concat(),
         },
     }
+}
+
+/// What the labels of a nest table make of the cell (02, Q-11), beside what it is in tables of every scheme.
+fn of_nest(model: &Model, query: &Query, row: &Row, column: usize, purpose: usize, first: &str) -> Vec<&'static str> {
+    let table = &model.tables[row.table];
+    if table.scheme != Scheme::Nest {
+        return Vec::new();
+    }
+    let own = row.cells[column].1;
+    let nested = model.nested(row, column, purpose);
+    let is = |start: &str, what: Nested| first.starts_with(start) && nested == what;
+    let seen = [
+        (is("closed", Nested::StronglyDenied), "nest: closed, strongly denied"),
+        (is("closed", Nested::StronglyDenied) && model.open(own, purpose), "nest: closed, strongly denied, its own label being open"),
+        (is("closed", Nested::WeaklyDenied), "nest: closed, weakly denied"),
+        (is("closed", Nested::WeaklyDenied) && !model.denies(own, purpose), "nest: closed, weakly denied from above alone"),
+        (is("closed", Nested::Unsaid), "nest: closed, allowed by no label"),
+        (first.starts_with("closed") && table.public, "nest: closed in spite of a public line"),
+        (first.starts_with("closed") && blanked(model, Some(query), row, column), "nest: closed, written as a blank"),
+        (first.starts_with("open, in a row withheld"), "nest: open, in a row withheld for another cell"),
+        (is("bound", Nested::StronglyAllowed), "nest: bound, strongly allowed"),
+        (is("bound", Nested::WeaklyAllowed), "nest: bound, weakly allowed"),
+        (is("bound", Nested::AllowedAgain), "nest: bound, allowed again below a label that denies"),
+        (first == "bound" && !model.open(row.label, purpose), "nest: bound, the row's own label being closed"),
+    ];
+    seen.into_iter().filter(|(seen, _)| *seen).map(|(_, situation)| situation).collect()
 }
 
 fn is_named(model: &Model, query: &Query, row: &Row, column: usize) -> bool {
@@ -194,6 +235,7 @@ fn reason(model: &Model, query: &Query, row: &Row, column: usize, purpose: usize
         (true, true, true, true) => "open, in a row withheld for another cell",
         (true, true, false, _) => match table.scheme {
             Scheme::None => "closed, undeclared table",
+            Scheme::Nest => "closed by the labels of a nest table",
             Scheme::Cell if blanked(model, Some(query), row, column) => "closed, written as a blank",
             Scheme::Cell if condition && selected => "closed, selected and in a blank's condition",
             _ if table.public => "closed by a label in spite of a public line",
@@ -217,6 +259,7 @@ fn bound(model: &Model, query: &Query, row: &Row, column: usize) -> Vec<&'static
         Scheme::Column => "bound, open by the column's label",
         Scheme::Row => "bound, open by the row's label",
         Scheme::Cell => "bound, open by its own label",
+        Scheme::Nest => "bound, open by the labels of a nest table",
     }];
     if query.columns.iter().flatten().all(|selected| !same(selected, &table.columns[column].name)) {
         seen.push("bound, named by the condition alone");

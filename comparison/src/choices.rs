@@ -59,14 +59,17 @@ fn document(random: &mut Random) -> Model {
     let mut model = builder.model;
     model.grants.push(Grant { purpose: 0, cond_role: 0 });
     model.lines.push(Line::Grant(0));
-    let scheme = *random.pick(&[Scheme::None, Scheme::Table(0), Scheme::Column, Scheme::Row, Scheme::Cell]);
+    let scheme = *random.pick(&[Scheme::None, Scheme::Table(0), Scheme::Column, Scheme::Row, Scheme::Cell, Scheme::Nest]);
     let mut columns = vec![Column { name: "id".to_string(), kind: Type::Num, ranged: false, label: random.below(model.labels.len()) }];
     for name in &["low", "high", "due"][..random.between(1, 3)] {
         columns.push(Column { name: name.to_string(), kind: Type::Num, ranged: true, label: random.below(model.labels.len()) });
     }
     let width = columns.len();
-    model.tables.push(Table { name: "sub".to_string(), scheme, public: true, columns });
+    let mut inherited = || (scheme == Scheme::Nest && random.chance(1, 2)).then(|| random.below(model.labels.len()));
+    let (weak, strong) = (inherited(), inherited());
+    model.tables.push(Table { name: "sub".to_string(), scheme, public: true, weak, strong, columns });
     model.lines.extend([Line::Table(0), Line::Public(0)]);
+    model.lines.extend(weak.map(|_| Line::Weak(0)).into_iter().chain(strong.map(|_| Line::Strong(0))));
     for id in 0..random.between(1, 4) {
         let labels = model.labels.len();
         let label = random.below(labels);

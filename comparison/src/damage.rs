@@ -6,7 +6,7 @@ use crate::random::Random;
 const BYTES: &[u8] = b"\0\n\r\t ()-_0989aAzZ/:@[`{\x7f\x80\xc3\xff.";
 
 /// Words at the edges of names and numbers, keywords, and pieces of brackets.
-const WORDS: [&str; 71] = [
+const WORDS: [&str; 77] = [
     "a23456789-123456789_1234", "a23456789-123456789_12345", "9223372036854775807", "9223372036854775808",
     "-9223372036854775808", "-9223372036854775809", "18446744073709551616", "18446744073709551617",
     "99999999999999999999999", "-0", "00", "01", "-", "-1", "0", "7", "_a", "9a", "a", "year", "day", "hour", "num", "name",
@@ -14,6 +14,7 @@ const WORDS: [&str; 71] = [
     "A", "Year", "HOUR", "NUM", "Name", "ALLOW", "Row", "EQ", "Not", "oR", "public", "Public", "blank", "BLANK", "sure", "Possible",
     "(1 5)", "(5 1)", "(5 5)", "((1 5) a)", "(-1 1)", "(1 5 7)",
     "date", "DATE", "(2028 2 29)", "(2027 2 29)", "(2000 2 29)", "((2028 2 29) a)", "(1 5 7 9)", "(-1 0 13)", "(2028 2 a)",
+    "nest", "NEST", "weak", "Weak", "strong", "STRONG",
 ];
 
 fn is_word_byte(byte: u8) -> bool {
@@ -155,7 +156,10 @@ pub fn noise(random: &mut Random) -> Vec<u8> {
         0 => text.extend((0..length).map(|_| random.next() as u8)),
         1 => text.extend((0..length).map(|_| *random.pick(BYTES))),
         _ => {
-            const HEADS: [&str; 14] = ["purpose", "role", "attr", "user", "cond-role", "grant", "label", "table", "row", "Purpose", "ROLE", "cond_role", "public", "PUBLIC"];
+            const HEADS: [&str; 17] = [
+                "purpose", "role", "attr", "user", "cond-role", "grant", "label", "table", "row", "Purpose", "ROLE", "cond_role", "public", "PUBLIC",
+                "weak", "strong", "Strong",
+            ];
             for _ in 0..random.between(1, 8) {
                 text.extend_from_slice(format!("({}", random.pick(&HEADS)).as_bytes());
                 for _ in 0..random.below(4) {

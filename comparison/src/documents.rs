@@ -6,9 +6,9 @@ use crate::recase::{self, listed, same};
 
 /// Names for every kind: few, so that kinds share them; keywords, some in several cases, and names that differ in length or last
 /// byte alone.
-const NAMES: [&str; 38] = [
+const NAMES: [&str; 41] = [
     "all", "bill", "ads", "post", "care", "desk", "boss", "a", "b", "C", "x-1", "y_2", "row", "table", "cell", "none", "num",
-    "name", "date", "allow", "deny", "select", "count", "eq", "and", "not", "purpose", "public", "blank", "sure", "possible", "Ads", "aDs", "abcdefgh", "abcdefghi",
+    "name", "date", "allow", "deny", "select", "count", "eq", "and", "not", "purpose", "public", "blank", "sure", "possible", "nest", "weak", "strong", "Ads", "aDs", "abcdefgh", "abcdefghi",
     "abcdefghijklmnop", "abcdefghijklmnopqrstuvwx", "abcdefghijklmnopqrstuvwy",
 ];
 const USERS: [&str; 8] = ["ana", "bob", "eve", "row", "user", "A", "an", "abcdefghijklmnopqrstuvwx"];
@@ -373,8 +373,13 @@ impl<'r> Builder<'r> {
     }
 
     pub fn label(&mut self) {
-        let name = self.fresh(&NAMES, |m, name| m.labels.iter().any(|l| same(&l.name, name)));
         let many = if self.random.chance(1, 30) { 256 } else { 3 };
+        self.label_of(many);
+    }
+
+    /// A label with at most so many purposes in a set, and one more.
+    fn label_of(&mut self, many: usize) {
+        let name = self.fresh(&NAMES, |m, name| m.labels.iter().any(|l| same(&l.name, name)));
         let mut allow = self.purpose_set(many);
         let deny = if self.random.chance(1, 2) { self.purpose_set(many - 1) } else { Vec::new() };
         // Labels that allow the root keep a good share of cells open.
@@ -390,12 +395,13 @@ impl<'r> Builder<'r> {
             self.label();
         }
         let labels = self.model.labels.len();
-        let scheme = match self.random.below(6) {
+        let scheme = match self.random.below(8) {
             0 => Scheme::None,
             1 => Scheme::Table(self.random.below(labels)),
             2 => Scheme::Column,
             3 => Scheme::Row,
-            _ => Scheme::Cell,
+            4 | 5 => Scheme::Cell,
+            _ => Scheme::Nest,
         };
         let columns = self.random.between(1, self.columns);
         self.table_of(scheme, columns);
@@ -417,8 +423,44 @@ impl<'r> Builder<'r> {
             let label = self.random.below(self.model.labels.len());
             list.push(Column { name, kind, ranged, label });
         }
-        self.model.tables.push(Table { name, scheme, public: false, columns: list });
-        self.model.lines.push(Line::Table(self.model.tables.len() - 1));
+        let table = self.model.tables.len();
+        self.model.tables.push(Table { name, scheme, public: false, weak: None, strong: None, columns: list });
+        self.model.lines.push(Line::Table(table));
+        // 02, Q-11: each line or none, in either order; `inherited` may add one later.
+        if scheme == Scheme::Nest {
+            let strong_first = self.random.chance(1, 2);
+            for strong in [strong_first, !strong_first] {
+                if self.random.chance(2, 5) {
+                    self.inherited_of(table, strong);
+                }
+            }
+        }
+    }
+
+    /// A `weak` or `strong` line (02, Q-11) for a nest table that has no row and no such line; nothing where there is none.
+    pub fn inherited(&mut self) {
+        let strong = self.random.chance(1, 2);
+        let free = |place: &usize| {
+            let table = &self.model.tables[*place];
+            let given = if strong { table.strong } else { table.weak };
+            table.scheme == Scheme::Nest && given.is_none() && self.model.rows.iter().all(|row| row.table != *place)
+        };
+        let tables: Vec<usize> = (0..self.model.tables.len()).filter(free).collect();
+        if !tables.is_empty() {
+            let table = *self.random.pick(&tables);
+            self.inherited_of(table, strong);
+        }
+    }
+
+    pub fn inherited_of(&mut self, table: usize, strong: bool) {
+        let label = Some(self.random.below(self.model.labels.len()));
+        if strong {
+            self.model.tables[table].strong = label;
+            self.model.lines.push(Line::Strong(table));
+        } else {
+            self.model.tables[table].weak = label;
+            self.model.lines.push(Line::Weak(table));
+        }
     }
 
     pub fn row(&mut self) {
@@ -533,7 +575,7 @@ impl<'r> Builder<'r> {
                 model.tables[last].columns.push(twice);
             }
             Line::Table(last) => model.tables[last].name = model.tables[self.random.below(last)].name.clone(),
-            Line::Attr(_) | Line::Grant(_) | Line::Row(_) | Line::Public(_) => {}
+            Line::Attr(_) | Line::Grant(_) | Line::Row(_) | Line::Public(_) | Line::Weak(_) | Line::Strong(_) => {}
         }
     }
 
@@ -567,7 +609,7 @@ impl<'r> Builder<'r> {
         self.row();
         let Some(row) = self.model.rows.last_mut() else { return };
         if self.random.chance(1, 2) {
-            let kinds = [Scheme::None, Scheme::Row, Scheme::Cell];
+            let kinds = [Scheme::None, Scheme::Row, Scheme::Cell, Scheme::Nest];
             self.model.tables[row.table].scheme = *self.random.pick(&kinds);
         }
         if self.random.chance(1, 2) {
@@ -588,7 +630,7 @@ impl<'r> Builder<'r> {
     /// Lines of all kinds, mixed.
     pub fn mix(&mut self, steps: usize) {
         for _ in 0..steps {
-            match self.random.below(44) {
+            match self.random.below(47) {
                 0..=4 if self.model.purposes.len() < 60 => self.purpose(),
                 5..=7 if self.model.roles.len() < 60 => self.role(),
                 8..=10 if self.model.attributes.len() < 30 => self.attr(),
@@ -598,7 +640,8 @@ impl<'r> Builder<'r> {
                 22..=25 if self.model.labels.len() < 60 => self.label(),
                 26..=28 if self.model.tables.len() < 7 => self.table(),
                 29..=32 => self.public(),
-                33.. if self.model.rows.len() < 1000 => self.row(),
+                33..=35 => self.inherited(),
+                36.. if self.model.rows.len() < 1000 => self.row(),
                 _ => {}
             }
         }
@@ -648,7 +691,37 @@ pub fn large(random: &mut Random) -> Model {
     builder.model
 }
 
-/// A line that mostly has one fault of 4 to 9, to stand after the document's own.
+/// A document with nest tables over 65 to 256 purposes (02, Q-5 and Q-11), and labels with few of them or many, some before the last
+/// purposes and some behind them.
+pub fn wide_nest(random: &mut Random) -> Model {
+    let mut builder = Builder::new(random);
+    builder.base();
+    builder.cond_role_of(0, Condition::Compare("ge", "hour".to_string(), Value::Num(0)));
+    builder.model.grants.push(Grant { purpose: 0, cond_role: builder.model.cond_roles.len() - 1 });
+    builder.model.lines.push(Line::Grant(builder.model.grants.len() - 1));
+    let purposes = builder.random.between(65, 256);
+    let few = builder.random.between(2, purposes);
+    while_fewer(&mut builder, few, |m| m.purposes.len(), Builder::purpose);
+    for _ in 0..builder.random.between(2, 5) {
+        let many = *builder.random.pick(&[1, 4, 24]);
+        builder.label_of(many);
+    }
+    while_fewer(&mut builder, purposes, |m| m.purposes.len(), Builder::purpose);
+    for _ in 0..builder.random.between(2, 5) {
+        let many = *builder.random.pick(&[1, 4, 24]);
+        builder.label_of(many);
+    }
+    for _ in 0..builder.random.between(1, 2) {
+        let columns = builder.random.between(1, 5);
+        builder.table_of(Scheme::Nest, columns);
+    }
+    for _ in 0..builder.random.between(4, 16) {
+        builder.row();
+    }
+    builder.model
+}
+
+/// A line that mostly has one fault of 4 to 9, 25, 28 or 31, to stand after the document's own.
 pub fn faulty_line(random: &mut Random, model: &Model) -> Vec<u8> {
     let mut builder = Builder::new(random);
     builder.model = model.clone();
@@ -657,7 +730,7 @@ pub fn faulty_line(random: &mut Random, model: &Model) -> Vec<u8> {
     let full = full_kind(&builder.model);
     let kind = match full {
         Some(kind) if builder.random.chance(1, 2) => kind,
-        _ => builder.random.below(27),
+        _ => builder.random.below(35),
     };
     match kind {
         // 6, or 4 where the name is taken.
@@ -684,7 +757,7 @@ pub fn faulty_line(random: &mut Random, model: &Model) -> Vec<u8> {
         10 => builder.grant(),
         13 | 14 => builder.user(),
         // 4 where the table is public already, whatever its labels; 5 where there is no such table (02, Q-2).
-        24.. => {
+        24..=26 => {
             let declared: Vec<usize> = (0..model.tables.len()).filter(|&place| model.tables[place].public).collect();
             let name = match builder.random.below(4) {
                 0 => fresh(builder.random, &NAMES, |_| false),
@@ -693,6 +766,14 @@ pub fn faulty_line(random: &mut Random, model: &Model) -> Vec<u8> {
                 _ => builder.random.pick(&NAMES).to_string(),
             };
             return recase::any(random, format!("(public {name})\n").into_bytes()).0;
+        }
+        27..=31 => {
+            let line = misplaced(builder.random, model);
+            return recase::any(random, line).0;
+        }
+        32.. => {
+            let line = nest_row(builder.random, model);
+            return recase::any(random, line).0;
         }
         15.. => {
             if kind < 20 {
@@ -720,6 +801,69 @@ pub fn faulty_line(random: &mut Random, model: &Model) -> Vec<u8> {
     }
     // A name taken in another case, among others.
     recase::any(random, text).0
+}
+
+/// A `weak` or `strong` line behind the document (02, Q-11): a second one, one behind a row, one for a table of another scheme, one that
+/// may stand, or one whose table or label there isn't, which is 5.
+fn misplaced(random: &mut Random, model: &Model) -> Vec<u8> {
+    let word = *random.pick(&["weak", "strong"]);
+    let given = |table: &Table| if word == "weak" { table.weak } else { table.strong };
+    let has_rows = |place: usize| model.rows.iter().any(|row| row.table == place);
+    let wanted = random.below(5);
+    let fits = |place: &usize| {
+        let table = &model.tables[*place];
+        match (table.scheme == Scheme::Nest, wanted) {
+            (nest, 0) => nest && given(table).is_some() && !has_rows(*place),
+            (nest, 1) => nest && given(table).is_none() && has_rows(*place),
+            (nest, 2) => !nest,
+            (nest, 3) => nest,
+            _ => true,
+        }
+    };
+    let tables: Vec<usize> = (0..model.tables.len()).filter(fits).collect();
+    let unknown = || "nobody".to_string();
+    let table = if tables.is_empty() || random.chance(1, 12) { None } else { Some(&model.tables[*random.pick(&tables)]) };
+    let label = match table.and_then(given) {
+        _ if model.labels.is_empty() || random.chance(1, 8) => unknown(),
+        // The same label a second time is no less 25.
+        Some(same) if random.chance(1, 3) => model.labels[same].name.clone(),
+        _ => random.pick(&model.labels).name.clone(),
+    };
+    let table = table.map_or_else(unknown, |table| table.name.clone());
+    format!("({word} {table} {label})\n").into_bytes()
+}
+
+/// A row of a nest table, if there is one, with one or more of its items not as they should be: its own label or a cell's unknown or
+/// missing, no name where a label stands, a cell too few or too many (02, Q-11): 5, the leftmost of several, or 7.
+fn nest_row(random: &mut Random, model: &Model) -> Vec<u8> {
+    let nested: Vec<&Table> = model.tables.iter().filter(|table| table.scheme == Scheme::Nest).collect();
+    if nested.is_empty() {
+        return b"(row nobody nobody)\n".to_vec();
+    }
+    let table = *random.pick(&nested);
+    let label = |random: &mut Random| match random.chance(1, 6) {
+        true => "nobody".to_string(),
+        false => random.pick(&model.labels).name.clone(),
+    };
+    let mut items = match random.below(6) {
+        0 => Vec::new(),
+        1 => vec![number(random).to_string()],
+        2 => vec![range(random).to_string()],
+        _ => vec![label(random)],
+    };
+    for column in &table.columns {
+        let given = cell(random, column);
+        items.push(if random.chance(1, 12) { given.to_string() } else { format!("({given} {})", label(random)) });
+    }
+    match random.below(8) {
+        0 => {
+            items.pop();
+        }
+        1 => items.push(format!("({} {})", number(random), label(random))),
+        _ => {}
+    }
+    let items: String = items.iter().map(|item| format!(" {item}")).collect();
+    format!("(row {}{items})\n", table.name).into_bytes()
 }
 
 /// A kind of `faulty_line` that the model has as many of as it may.
@@ -752,7 +896,8 @@ pub fn at_bound(random: &mut Random) -> (Model, bool) {
         while builder.model.lines.len() < before + 1 {
             builder.mix(1);
         }
-        let named = !matches!(builder.model.lines[before], Line::Grant(_) | Line::Row(_) | Line::Public(_));
+        let unnamed = |line: &Line| matches!(line, Line::Grant(_) | Line::Row(_) | Line::Public(_) | Line::Weak(_) | Line::Strong(_));
+        let named = !unnamed(&builder.model.lines[before]);
         builder.names = None;
         builder.mix(10);
         return (builder.model, over == 0 || !named);
@@ -779,12 +924,13 @@ pub fn at_bound(random: &mut Random) -> (Model, bool) {
         6 => while_fewer(&mut builder, count(64), |m| m.labels.len(), Builder::label),
         7 => while_fewer(&mut builder, count(8), |m| m.tables.len(), Builder::table),
         8 | 9 => {
-            let scheme = match builder.random.below(5) {
+            let scheme = match builder.random.below(6) {
                 0 => Scheme::None,
                 1 => Scheme::Table(0),
                 2 => Scheme::Column,
                 3 => Scheme::Row,
-                _ => Scheme::Cell,
+                4 => Scheme::Cell,
+                _ => Scheme::Nest,
             };
             builder.table_of(scheme, count(16));
             if builder.random.chance(2, 3) {

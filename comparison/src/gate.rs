@@ -121,7 +121,7 @@ fn refused(number: u64, figures: [u64; 5]) -> Result<Refused, String> {
     let [source, start, length, d, e] = figures;
     // A date of no day may stand in the document or in the query (02, Q-14).
     let fits = match number {
-        1..=9 | 28 => source == 1,
+        1..=9 | 25 | 28 => source == 1,
         10..=18 | 27 => source == 2,
         31 => source == 1 || source == 2,
         19..=21 => source == 3,

@@ -12,6 +12,7 @@ mod files;
 mod gate;
 mod imports;
 mod model;
+mod nests;
 mod pairs;
 mod queries;
 mod random;
@@ -28,7 +29,7 @@ use pairs::PairTally;
 use random::Random;
 use std::process::ExitCode;
 use std::time::Instant;
-use texts::{Run, Tally};
+use texts::{Run, Tally, MISPLACED, SCHEMES, VERBS};
 
 struct Options {
     texts: u64,
@@ -100,6 +101,13 @@ fn compare_all(options: &Options) -> ExitCode {
             return ExitCode::FAILURE;
         }
     }
+    let nests = match nests::all(Second::Reference, &mut buffers) {
+        Ok(nests) => nests,
+        Err(difference) => {
+            print!("{difference}");
+            return ExitCode::FAILURE;
+        }
+    };
     let mut choices = ChoiceTally::default();
     for place in 0..options.choices {
         let mut random = Random::new(options.seed, place | 1 << 42);
@@ -118,6 +126,7 @@ fn compare_all(options: &Options) -> ExitCode {
         }
     };
     summary(options, &tally, &pairs);
+    println!("all nest labels:   {nests}");
     println!("choices of ranges: {choices}");
     import_summary(&imports);
     let seconds = [texts_done, pairs_done - texts_done, start.elapsed() - pairs_done].map(|time| time.as_secs_f64());
@@ -127,7 +136,7 @@ fn compare_all(options: &Options) -> ExitCode {
         println!("FAILED: of importing never seen: {unseen:?}");
         return ExitCode::FAILURE;
     }
-    let missing: Vec<usize> = (1..=18).chain([27, 28, 31]).filter(|&number| tally.refusals[number] == 0).collect();
+    let missing: Vec<usize> = (1..=18).chain([25, 27, 28, 31]).filter(|&number| tally.refusals[number] == 0).collect();
     if !missing.is_empty() {
         println!("FAILED: refusals never seen: {missing:?}");
         return ExitCode::FAILURE;
@@ -160,6 +169,15 @@ fn compare_all(options: &Options) -> ExitCode {
         println!("FAILED: too few dates");
         return ExitCode::FAILURE;
     }
+    if options.texts > 0 && tally.answers.as_flattened().contains(&0) {
+        println!("FAILED: a verb was never answered of some scheme");
+        return ExitCode::FAILURE;
+    }
+    let of_nest = [&tally.inherited[..], &tally.misplaced, &[tally.nest_dashes, pairs.nest_closed, pairs.nest_withheld, pairs.told_apart_nest]].concat();
+    if options.texts > 0 && options.pairs > 0 && of_nest.contains(&0) || nests.lacks() {
+        println!("FAILED: too little of nest tables");
+        return ExitCode::FAILURE;
+    }
     println!("no difference");
     ExitCode::SUCCESS
 }
@@ -182,6 +200,14 @@ fn summary(options: &Options, tally: &Tally, pairs: &PairTally) {
     println!("range or number:   {} values made the other, which are no pairs alike, told apart {}", pairs.turned, pairs.told_apart_turned);
     let [select, blank, sure, possible] = tally.dates;
     println!("dates:             {select} answers to select with one, {blank} to blank, {sure} to sure, {possible} to possible; refused in {} documents and {} askings; {} pairs alike that differ in one; {} pairs not alike told apart", tally.no_date_in_document, tally.no_date_in_query, pairs.dates, pairs.told_apart_dates);
+    let by_verb = |answers: &[u64; 5]| VERBS.iter().zip(answers).map(|(verb, count)| format!("{verb} {count}")).collect::<Vec<String>>().join(", ");
+    for (scheme, answers) in SCHEMES.iter().zip(&tally.answers) {
+        println!("answers, {:<10}{}", format!("{scheme}:"), by_verb(answers));
+    }
+    let [neither, weak, strong, both] = tally.inherited;
+    println!("nest tables:       {neither} answers with neither line, {weak} with a weak one, {strong} with a strong one, {both} with both, {} with a blanked value; {} pairs alike that differ in a closed cell, {} in a row withheld; {} pairs not alike told apart", tally.nest_dashes, pairs.nest_closed, pairs.nest_withheld, pairs.told_apart_nest);
+    let misplaced: Vec<String> = MISPLACED.iter().zip(tally.misplaced).map(|(reason, count)| format!("{count} {reason}")).collect();
+    println!("misplaced lines:   {}", misplaced.join(", "));
     println!("without labels:    {} pairs alike that differ in an undeclared table; {} told apart in a public one", pairs.undeclared, pairs.told_apart_public);
 }
 

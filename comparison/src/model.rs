@@ -185,6 +185,39 @@ pub enum Scheme {
     Column,
     Row,
     Cell,
+    /// 02, Q-11.
+    Nest,
+}
+
+impl Scheme {
+    /// Whether a row line has a label of its own.
+    fn labels_rows(self) -> bool {
+        matches!(self, Scheme::Row | Scheme::Nest)
+    }
+
+    /// Whether each cell has a label beside it.
+    pub fn labels_cells(self) -> bool {
+        matches!(self, Scheme::Cell | Scheme::Nest)
+    }
+}
+
+/// What the labels of a nest table come to for a purpose (02, Q-11).
+#[derive(Clone, Copy, Debug, PartialEq, Eq)]
+pub enum Nested {
+    StronglyDenied,
+    StronglyAllowed,
+    WeaklyDenied,
+    WeaklyAllowed,
+    /// Weakly allowed by a label below one that denies it.
+    AllowedAgain,
+    /// Neither denied nor allowed.
+    Unsaid,
+}
+
+impl Nested {
+    pub fn is_open(self) -> bool {
+        matches!(self, Nested::StronglyAllowed | Nested::WeaklyAllowed | Nested::AllowedAgain)
+    }
 }
 
 #[derive(Clone, Debug)]
@@ -203,15 +236,18 @@ pub struct Table {
     pub scheme: Scheme,
     /// Whether a `public` line names it (02, Q-2).
     pub public: bool,
+    /// The labels of its `weak` and `strong` lines (02, Q-11); of a nest table alone.
+    pub weak: Option<usize>,
+    pub strong: Option<usize>,
     pub columns: Vec<Column>,
 }
 
 #[derive(Clone, Debug)]
 pub struct Row {
     pub table: usize,
-    /// A label's place, used under scheme row.
+    /// A label's place, used under the schemes row and nest.
     pub label: usize,
-    /// A value and a label's place, the latter used under scheme cell.
+    /// A value and a label's place, the latter used under the schemes cell and nest.
     pub cells: Vec<(Value, usize)>,
 }
 
@@ -229,6 +265,8 @@ pub enum Line {
     Row(usize),
     /// A table's place.
     Public(usize),
+    Weak(usize),
+    Strong(usize),
 }
 
 #[derive(Clone, Debug, Default)]
@@ -305,6 +343,7 @@ impl Model {
                     Scheme::Column => " column".to_string(),
                     Scheme::Row => " row".to_string(),
                     Scheme::Cell => " cell".to_string(),
+                    Scheme::Nest => " nest".to_string(),
                 };
                 for column in &table.columns {
                     line += &match table.scheme {
@@ -318,19 +357,27 @@ impl Model {
                 let row = &self.rows[place];
                 let table = &self.tables[row.table];
                 let mut line = format!("(row {}", table.name);
-                if table.scheme == Scheme::Row {
+                if table.scheme.labels_rows() {
                     line += &format!(" {}", self.labels[row.label].name);
                 }
                 for (value, label) in &row.cells {
-                    line += &match table.scheme {
-                        Scheme::Cell => format!(" ({value} {})", self.labels[*label].name),
-                        _ => format!(" {value}"),
+                    line += &match table.scheme.labels_cells() {
+                        true => format!(" ({value} {})", self.labels[*label].name),
+                        false => format!(" {value}"),
                     };
                 }
                 line + ")"
             }
             Line::Public(table) => format!("(public {})", self.tables[table].name),
+            Line::Weak(table) => self.inherited("weak", table, self.tables[table].weak),
+            Line::Strong(table) => self.inherited("strong", table, self.tables[table].strong),
         }
+    }
+
+    /// A `weak` or `strong` line; one without a label is never asked for.
+    fn inherited(&self, word: &str, table: usize, label: Option<usize>) -> String {
+        let label = label.map_or("nobody", |label| &self.labels[label].name);
+        format!("({word} {} {label})", self.tables[table].name)
     }
 
     /// The attributes defined at a role or above, by place.
@@ -340,45 +387,76 @@ impl Model {
 
     /// 01: "P is open under it exactly when P descends from an allowed purpose, and is neither ancestor nor descendant of a denied one".
     pub fn open(&self, label: usize, p: usize) -> bool {
-        let label = &self.labels[label];
+        self.allows(label, p) && !self.denies(label, p)
+    }
+
+    /// Whether P descends from one that the label allows.
+    fn allows(&self, label: usize, p: usize) -> bool {
+        self.labels[label].allow.iter().any(|&a| descends(&self.purposes, p, a))
+    }
+
+    /// Whether P is ancestor or descendant of one that the label denies.
+    pub fn denies(&self, label: usize, p: usize) -> bool {
         let below = |low, high| descends(&self.purposes, low, high);
-        label.allow.iter().any(|&a| below(p, a)) && !label.deny.iter().any(|&d| below(p, d) || below(d, p))
+        self.labels[label].deny.iter().any(|&d| below(p, d) || below(d, p))
+    }
+
+    /// 02, Q-11: what the labels of a nest table come to for one purpose. From the top down, a label that allows P takes back what
+    /// was denied above it, and one that denies P has the last word over its own allowing.
+    pub fn nested(&self, row: &Row, column: usize, p: usize) -> Nested {
+        let table = &self.tables[row.table];
+        if let Some(strong) = table.strong {
+            if self.denies(strong, p) {
+                return Nested::StronglyDenied;
+            }
+            if self.allows(strong, p) {
+                return Nested::StronglyAllowed;
+            }
+        }
+        let (mut allowed, mut denied, mut again) = (false, false, false);
+        for label in table.weak.into_iter().chain([row.label, row.cells[column].1]) {
+            if self.allows(label, p) {
+                again = again || denied;
+                (allowed, denied) = (true, false);
+            }
+            denied = denied || self.denies(label, p);
+        }
+        match (allowed, denied) {
+            (_, true) => Nested::WeaklyDenied,
+            (true, false) if again => Nested::AllowedAgain,
+            (true, false) => Nested::WeaklyAllowed,
+            (false, false) => Nested::Unsaid,
+        }
     }
 
     pub fn purpose(&self, name: &str) -> Option<usize> {
         self.purposes.iter().position(|purpose| same(&purpose.name, name))
     }
 
-    /// The label of a cell by its table's scheme; none under scheme none.
-    fn cell_label(&self, row: &Row, column: usize) -> Option<usize> {
+    /// 01: "A cell's label is its table's, column's, row's or its own, by scheme; the cell is closed when that label is."
+    /// 02, Q-2: "Cells of an undeclared table count as closed"; Q-11: of a nest table all labels together say it.
+    pub fn cell_open(&self, row: &Row, column: usize, p: usize) -> bool {
         let table = &self.tables[row.table];
         match table.scheme {
-            Scheme::None => None,
-            Scheme::Table(label) => Some(label),
-            Scheme::Column => Some(table.columns[column].label),
-            Scheme::Row => Some(row.label),
-            Scheme::Cell => Some(row.cells[column].1),
-        }
-    }
-
-    /// 01: "A cell's label is its table's, column's, row's or its own, by scheme; the cell is closed when that label is."
-    /// 02, Q-2: "Cells of an undeclared table count as closed".
-    pub fn cell_open(&self, row: &Row, column: usize, p: usize) -> bool {
-        match self.cell_label(row, column) {
-            Some(label) => self.open(label, p),
-            None => self.tables[row.table].public,
+            Scheme::None => table.public,
+            Scheme::Table(label) => self.open(label, p),
+            Scheme::Column => self.open(table.columns[column].label, p),
+            Scheme::Row => self.open(row.label, p),
+            Scheme::Cell => self.open(row.cells[column].1, p),
+            Scheme::Nest => self.nested(row, column, p).is_open(),
         }
     }
 
     /// 01: "Scheme row withholds a row whose label is closed, even if no column is named. Scheme cell withholds a row with a closed named cell."
-    /// 02, Q-10: of a blank, "a closed cell named in the condition"; `withholding` has the names that count.
+    /// 02, Q-10: of a blank, "a closed cell named in the condition"; `withholding` has the names that count. Q-11: a nest table's "row is
+    /// withheld only for a closed named cell".
     pub fn row_withheld(&self, row: &Row, withholding: &[&str], p: usize) -> bool {
         let table = &self.tables[row.table];
         match table.scheme {
             Scheme::None | Scheme::Table(_) | Scheme::Column => false,
             Scheme::Row => !self.open(row.label, p),
-            Scheme::Cell => (0..table.columns.len())
-                .any(|column| listed(withholding, &table.columns[column].name) && !self.open(row.cells[column].1, p)),
+            Scheme::Cell | Scheme::Nest => (0..table.columns.len())
+                .any(|column| listed(withholding, &table.columns[column].name) && !self.cell_open(row, column, p)),
         }
     }
 

@@ -35,6 +35,11 @@ pub struct PairTally {
     /// Pairs alike that differ in a date of the query's table; pairs not alike told apart in one (02, Q-14).
     pub dates: u64,
     pub told_apart_dates: u64,
+    /// Pairs alike, answered, that differ in a closed cell of a nest table which the query names, and in an open one of a row withheld;
+    /// pairs not alike told apart in a nest table (02, Q-11).
+    pub nest_closed: u64,
+    pub nest_withheld: u64,
+    pub told_apart_nest: u64,
     /// A value that may differ made a range or a number: no pair alike, since 27 may tell; how often it does.
     pub turned: u64,
     pub told_apart_turned: u64,
@@ -79,7 +84,7 @@ pub fn blanked(model: &Model, query: Option<&Query>, row: &Row, column: usize) -
     let Some(purpose) = model.purpose(&query.purpose) else { return false };
     let table = &model.tables[row.table];
     let selected = query.columns.iter().flatten().any(|name| same(name, &table.columns[column].name));
-    table.scheme == Scheme::Cell
+    table.scheme.labels_cells()
         && same(&table.name, &query.table)
         && selected
         && !model.cell_open(row, column, purpose)
@@ -159,6 +164,27 @@ fn differ_in(model: &Model, other: &Model, query: Option<&Query>, such: fn(&Valu
     model.rows.iter().zip(&other.rows).filter(|(one, _)| here(one)).any(differ)
 }
 
+/// The named cells of the query's table, if that is a nest table, in which two models differ: whether some is closed, and whether some
+/// is open and in a row withheld (02, Q-11).
+fn in_nest(model: &Model, other: &Model, query: Option<&Query>) -> (bool, bool) {
+    let Some(query) = query else { return (false, false) };
+    let Some(purpose) = model.purpose(&query.purpose) else { return (false, false) };
+    let (mut closed, mut withheld) = (false, false);
+    for (one, other) in model.rows.iter().zip(&other.rows) {
+        let table = &model.tables[one.table];
+        if table.scheme != Scheme::Nest || !same(&table.name, &query.table) {
+            continue;
+        }
+        let named = |column: &usize| listed(&query.named(), &table.columns[*column].name);
+        for column in (0..one.cells.len()).filter(named).filter(|&column| one.cells[column].0 != other.cells[column].0) {
+            let open = model.cell_open(one, column, purpose);
+            closed = closed || !open;
+            withheld = withheld || open && model.row_withheld(one, &query.withholding(), purpose);
+        }
+    }
+    (closed, withheld)
+}
+
 fn accepted(doc: &[u8]) -> bool {
     matches!(gate::check(doc), Ok(Checked::Accepted { .. }))
 }
@@ -168,6 +194,7 @@ pub fn run(random: &mut Random, subject: Subject, buffers: &mut Buffers, tally: 
     let (model, query, text, clock, alike, change) = loop {
         let model = match random.below(100) {
             0 => documents::at_bound(random).0,
+            1..=3 => documents::wide_nest(random),
             _ => documents::ordinary(random),
         };
         let clock = queries::clock(random);
@@ -197,6 +224,7 @@ pub fn run(random: &mut Random, subject: Subject, buffers: &mut Buffers, tally: 
     let undeclared = unlabelled.is_some_and(|place| !model.tables[place].public && differs(place));
     let in_ends = differ_in(&model, &alike, query.as_ref(), Value::is_range);
     let in_dates = differ_in(&model, &alike, query.as_ref(), Value::is_date);
+    let (nest_closed, nest_withheld) = in_nest(&model, &alike, query.as_ref());
     let in_blanks = model.rows.iter().zip(&alike.rows).any(|(one, other)| {
         let changed = |column: usize| one.cells[column].0 != other.cells[column].0 && blanked(&model, query.as_ref(), one, column);
         matched(&model, query.as_ref(), one) && (0..one.cells.len()).any(changed)
@@ -233,6 +261,8 @@ pub fn run(random: &mut Random, subject: Subject, buffers: &mut Buffers, tally: 
         Asked::Answered { length, .. } => {
             tally.answered += 1;
             tally.blanked += u64::from(in_blanks);
+            tally.nest_closed += u64::from(nest_closed);
+            tally.nest_withheld += u64::from(nest_withheld);
             let length = length as usize;
             put(length, buffers)?;
             put(length - 1, buffers)?;
@@ -259,6 +289,8 @@ pub fn run(random: &mut Random, subject: Subject, buffers: &mut Buffers, tally: 
         tally.told_apart_ends += u64::from(!equal && differ_in(&model, &unlike, query.as_ref(), Value::is_range));
         tally.told_apart_dates += u64::from(!equal && differ_in(&model, &unlike, query.as_ref(), Value::is_date));
         tally.told_apart_blank += u64::from(!equal && query.as_ref().is_some_and(|query| query.is_blank()));
+        let of_nest = |table: &Table| table.scheme == Scheme::Nest && query.as_ref().is_some_and(|query| same(&table.name, &query.table));
+        tally.told_apart_nest += u64::from(!equal && model.tables.iter().any(of_nest));
     }
     if let Some(unlike) = changed(random, &model, &bound, true, Change::Case) {
         let unlike = recasing.turn(&unlike.text());

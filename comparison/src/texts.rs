@@ -4,10 +4,10 @@ use crate::compare::{check, repeats_no_column, shrink, Buffers, Difference, Ques
 use crate::damage;
 use crate::documents;
 use crate::gate::{self, Asked, Checked, Refused, Second};
-use crate::model::Model;
+use crate::model::{Model, Scheme};
 use crate::queries;
 use crate::random::Random;
-use crate::recase;
+use crate::recase::{self, same};
 use reference::Clock;
 
 /// Texts over this length get fewer questions, for the time they take.
@@ -44,6 +44,14 @@ pub struct Tally {
     pub dates: [u64; 4],
     pub no_date_in_document: u64,
     pub no_date_in_query: u64,
+    /// Answers by the scheme of their table and by their verb, in the order of `SCHEMES` and `VERBS`; of valid documents alone.
+    pub answers: [[u64; 5]; 6],
+    /// Answers of nest tables with neither a weak nor a strong line, with a weak one, with a strong one, with both (02, Q-11).
+    pub inherited: [u64; 4],
+    /// Blanks of nest tables with a `-`.
+    pub nest_dashes: u64,
+    /// Refused with 25 for one reason alone, in the order of `MISPLACED`.
+    pub misplaced: [u64; 3],
     /// By refusal number.
     pub refusals: [u64; 32],
 }
@@ -63,11 +71,63 @@ impl Tally {
         }
     }
 
+    /// An answer to a query of a valid document; whether it has a `-`.
+    fn saw_answer(&mut self, model: &Model, query: &[u8], dash: bool) {
+        let words = words_of(query);
+        let (verb, table) = (&words[0], &words[4]);
+        let Some(table) = model.tables.iter().find(|known| same(&known.name, table)) else { return };
+        if let Some(verb) = VERBS.iter().position(|known| same(known, verb)) {
+            self.answers[scheme(table.scheme)][verb] += 1;
+        }
+        if table.scheme == Scheme::Nest {
+            self.inherited[usize::from(table.weak.is_some()) + 2 * usize::from(table.strong.is_some())] += 1;
+            self.nest_dashes += u64::from(dash);
+        }
+    }
+
+    /// Why a line is 25, as the lines before it have it; told only where there is one reason.
+    fn saw_misplaced(&mut self, before: &[u8], line: &[u8]) {
+        let own = words_of(line);
+        let mut reasons = [false; 3];
+        for earlier in before.split(|&byte| byte == b'\n').map(words_of).filter(|words| words.len() > 2 && same(&words[1], &own[1])) {
+            let is = |keyword: &str| same(&earlier[0], keyword);
+            reasons[0] |= is(&own[0]);
+            reasons[1] |= is("row");
+            reasons[2] |= is("table") && !same(&earlier[2], "nest");
+        }
+        let found: Vec<usize> = (0..3).filter(|&reason| reasons[reason]).collect();
+        if let [only] = found[..] {
+            self.misplaced[only] += 1;
+        }
+    }
+
     fn saw_refusal(&mut self, refused: Refused) {
         self.refusals[refused.number as usize] += 1;
         self.no_date_in_document += u64::from(refused.number == 31 && refused.source == 1);
         self.no_date_in_query += u64::from(refused.number == 31 && refused.source == 2);
     }
+}
+
+/// The schemes and the verbs that answers are counted by.
+pub const SCHEMES: [&str; 6] = ["none", "table", "column", "row", "cell", "nest"];
+pub const VERBS: [&str; 5] = ["select", "count", "blank", "sure", "possible"];
+/// The reasons for 25 (02, Q-11).
+pub const MISPLACED: [&str; 3] = ["given twice", "behind a row", "for another scheme"];
+
+fn scheme(scheme: Scheme) -> usize {
+    match scheme {
+        Scheme::None => 0,
+        Scheme::Table(_) => 1,
+        Scheme::Column => 2,
+        Scheme::Row => 3,
+        Scheme::Cell => 4,
+        Scheme::Nest => 5,
+    }
+}
+
+/// The words of a form.
+fn words_of(form: &[u8]) -> Vec<String> {
+    damage::words(form).into_iter().map(|(from, to)| String::from_utf8_lossy(&form[from..to]).into_owned()).collect()
 }
 
 /// A document text, the model it was made from, and whether the text is valid by construction.
@@ -86,6 +146,7 @@ fn document(random: &mut Random) -> Text {
             documents::at_bound(random)
         }
         6..=7 => (documents::large(random), true),
+        8..=10 => (documents::wide_nest(random), true),
         _ => (documents::ordinary(random), true),
     };
     let mut doc = model.text();
@@ -185,7 +246,12 @@ impl Run {
             let clock = queries::clock(random);
             let query = query(random, &text.model, &text.doc, clock);
             let (query, recased) = recase::any(random, query);
+            let dashes = self.tally.dashes;
             let answered = self.query(random, &text.doc, &query, clock, reserve)?;
+            if answered && text.valid {
+                let dash = self.tally.dashes > dashes;
+                self.tally.saw_answer(&text.model, &query, dash);
+            }
             self.tally.recased.queries += u64::from(recased);
             self.tally.recased.answered += u64::from(recased && answered);
         }
@@ -200,6 +266,10 @@ impl Run {
     fn check(&mut self, text: &Text) -> Result<Option<usize>, Difference> {
         let checked = check(self.second, &text.doc).map_err(|difference| smaller_check(self.second, difference))?;
         self.tally.saw_check(checked);
+        if let Checked::Refused(Refused { number: 25, start, length, .. }) = checked {
+            let (before, line) = text.doc.split_at(start as usize);
+            self.tally.saw_misplaced(before, &line[..length as usize]);
+        }
         match checked {
             Checked::Accepted { reserve, .. } => Ok(Some(reserve as usize)),
             Checked::Refused(_) if text.valid => {
