@@ -48,6 +48,13 @@ DATES = LABELS + [
     "(table two none (d date) (f date))",
 ]
 
+# labels that come down (02, Q-11): a nest table beside one of each other scheme, its weak and strong lines, and a row of it
+NEST = TABLES + ["(label shut (allow) (deny))", "(table s nest (who name) (due num))"]
+NOTED = NEST + ["(weak s noads)", "(strong s shut)"]
+NESTED = NOTED + ["(row s free (Ida noads) (40 shut))"]
+NEST_ROW = "(row s free (Ida free) (40 free))"
+NEST_DATES = NEST + ["(table z nest (d date) (k num))"]
+
 
 def after(base, *lines):
     return base + list(lines)
@@ -68,7 +75,12 @@ def no_date(name, date):
     return (f"31, {name}", dates("(2028 2 9)", date), (31, len(DATES) + 1, (date, 0)))
 
 
-KEYWORDS = r"\((?:purpose|role|attr|user|cond-role|grant|label|table|row|public|allow|deny|and|or|not|[engl][eqt])\b| (?:num|name)\b|(?<=table . )\w+"
+def out_of_place(name, base, line):
+    """A weak or strong line out of place is 25, at the whole line."""
+    return (f"25, {name}", after(base, line), (25, len(base), None))
+
+
+KEYWORDS = r"\((?:purpose|role|attr|user|cond-role|grant|label|table|row|public|weak|strong|allow|deny|and|or|not|[engl][eqt])\b| (?:num|name)\b|(?<=table . )\w+"
 
 
 def capital_keywords(line):
@@ -101,6 +113,7 @@ def row_fill(n):
 NAME24 = "a" + "b" * 23
 WIDE = "(table w none " + " ".join(f"(c{i} num)" for i in range(16)) + ")"
 WIDER = "(table w none " + " ".join(f"(c{i} num)" for i in range(17)) + ")"
+WIDE_NEST = WIDE.replace("none", "nest")
 MANY = "(cond-role many desk (and " + " ".join(["(eq level 1)"] * 64) + "))"
 MORE = "(cond-role many desk (and " + " ".join(["(eq level 1)"] * 65) + "))"
 
@@ -133,6 +146,30 @@ CASES = [
     ("the type of dates in other cases", after(LABELS, "(table x none (a DATE) (b Date))", "(row x (2028 2 9) (2028 2 9))", "(table y column (a dAte free))", "(row y (1 1 1))"), len(LABELS) + 4),
     ("date as a name", ["(purpose date)", "(role date)", "(attr date date name)", "(user date date (date date))", "(cond-role date date (eq date date))", "(label date (allow date) (deny))", "(table date cell (date date))", "(row date ((2028 2 9) date))"], 8),
     ("words of queries as names", ["(purpose sure)", "(role possible)", "(label blank (allow sure) (deny))", "(table sure cell (possible num))", "(row sure ((1 2) blank))"], 5),
+    # labels that come down (02, Q-11)
+    ("a nest table without lines and rows", NEST, len(NEST)),
+    ("a weak and a strong line", NOTED, len(NOTED)),
+    ("a row of a nest table", NESTED, len(NESTED)),
+    ("a nest table's row without its lines", after(NEST, NEST_ROW), len(NEST) + 1),
+    ("a weak line alone", after(NEST, "(weak s noads)", NEST_ROW), len(NEST) + 2),
+    ("a strong line alone", after(NEST, "(strong s noads)", NEST_ROW), len(NEST) + 2),
+    ("a strong line before the weak one", after(NEST, "(strong s free)", "(weak s noads)", NEST_ROW), len(NEST) + 3),
+    ("one label at all four places", after(NEST, "(strong s shut)", "(weak s shut)", "(row s shut (Ida shut) (40 shut))"), len(NEST) + 3),
+    ("lines behind rows of other tables", after(NEST, "(row t 1)", "(row r free 1 x)", "(weak s free)", "(row e (Ida free) (40 free))", "(strong s free)", NEST_ROW, "(row t 2)"), len(NEST) + 7),
+    ("lines behind rows of another nest table", after(NEST, "(table z nest (a num))", "(row z free (1 free))", "(weak s noads)", "(strong s noads)", NEST_ROW), len(NEST) + 5),
+    ("lines of two nest tables", after(NEST, "(table z nest (a num))", "(weak z free)", "(weak s noads)", "(strong s noads)", "(strong z shut)"), len(NEST) + 5),
+    ("a public line before a nest table's lines", after(NEST, "(public s)", "(weak s noads)", "(strong s free)", NEST_ROW), len(NEST) + 4),
+    ("a public line behind a nest table's rows", after(NESTED, NEST_ROW, "(public s)", NEST_ROW), len(NESTED) + 3),
+    ("17 labels in a row", after(NEST, WIDE_NEST, "(weak w noads)", "(row w free" + "".join(some(16, " ({} noads)")) + ")"), len(NEST) + 3),
+    ("1,024 rows of a nest table", NOTED + [NEST_ROW] * 1024, len(NOTED) + 1024),
+    ("64 labels of a nest table", some(64, "(label l{} (allow) (deny))") + ["(table s nest (a num))", "(weak s l63)", "(strong s l0)"] + [f"(row s l{n} (1 l{63 - n}))" for n in range(64)], 131),
+    ("a range in a nest table", after(NEST, "(row s free (Ida noads) ((40 75) shut))", "(row s free (Bo noads) ((-5 -5) free))"), len(NEST) + 2),
+    ("a date in a nest table", after(NEST_DATES, "(row z free ((2028 2 29) noads) (5 shut))", "(row z noads ((1 1 1) free) ((1 5) free))"), len(NEST_DATES) + 2),
+    ("a nest table in capitals", [line.upper() for line in NESTED], len(NESTED)),
+    ("a nest table's keywords in capitals", [capital_keywords(line) for line in NESTED], len(NESTED)),
+    ("a nest table's names in capitals on every other line", [capital_names(line) if n % 2 else line for n, line in enumerate(NESTED)], len(NESTED)),
+    ("a nest table in mixed case", after(NEST[:-1], "(Table S nEst (Who name) (due Num))", "(Weak s NoAds)", "(stRong S Free)", "(row s FREE (Ida free) (40 nOAds))"), len(NEST) + 3),
+    ("nest, weak and strong as names", ["(purpose nest)", "(role weak)", "(user strong weak)", "(label strong (allow nest) (deny))", "(label weak (allow) (deny nest))", "(table nest nest (nest name) (weak num))", "(weak nest weak)", "(strong nest strong)", "(row nest weak (weak strong) (5 weak))"], 9),
     # public lines (02, Q-2); a table without one is accepted all the same
     ("no public line", TABLES, len(TABLES)),
     ("a public line behind its table", after(LABELS, "(table x none (a num))", "(public x)"), len(LABELS) + 2),
@@ -264,6 +301,30 @@ CASES = [
     ("a date of four numbers in a condition", after(BASE, "(cond-role c desk (eq level (2028 2 9 1)))"), (2, len(BASE), None)),
     ("a date for a purpose", after(TABLES, "(label l (allow (2028 2 9)) (deny))"), (2, len(TABLES), None)),
     ("a date's bracket 17 deep in a condition", after(BASE, f"(cond-role deep desk {nested(15, '(eq level (2028 2 9))')})"), (2, len(BASE), None)),
+    # of nest tables and their lines (02, Q-11)
+    ("nest table without column", after(NEST, "(table x nest)"), (2, len(NEST), None)),
+    ("nest table with a label", after(NEST, "(table x nest free (a num))"), (2, len(NEST), None)),
+    ("nest table with a label at its column", after(NEST, "(table x nest (a num free))"), (2, len(NEST), None)),
+    ("weak without a table", after(NEST, "(weak)"), (2, len(NEST), None)),
+    ("weak without a label", after(NEST, "(weak s)"), (2, len(NEST), None)),
+    ("strong without a label", after(NEST, "(strong s)"), (2, len(NEST), None)),
+    ("weak with two labels", after(NEST, "(weak s free noads)"), (2, len(NEST), None)),
+    ("strong with two labels", after(NEST, "(strong s free noads)"), (2, len(NEST), None)),
+    ("weak with a bracket", after(NEST, "(weak s (free))"), (2, len(NEST), None)),
+    ("strong with sets", after(NEST, "(strong s (allow all) (deny))"), (2, len(NEST), None)),
+    ("weak with a number for its table", after(NEST, "(weak 1 free)"), (2, len(NEST), None)),
+    ("strong with a number for its label", after(NEST, "(strong s 1)"), (2, len(NEST), None)),
+    ("weak with a space before its end", after(NEST, "(weak s free )"), (2, len(NEST), None)),
+    ("weak with two spaces", after(NEST, "(weak  s free)"), (2, len(NEST), None)),
+    ("another word for weak", after(NEST, "(weaker s free)"), (2, len(NEST), None)),
+    ("another word for strong", after(NEST, "(strongest s free)"), (2, len(NEST), None)),
+    ("an unfinished weak line", ("\n".join(NEST) + "\n(weak s free)").encode(), (2, len(NEST), None)),
+    ("a nest row's label in a bracket", after(NEST, "(row s (free) (Ida free) (40 free))"), (2, len(NEST), None)),
+    ("a nest row's cell without a label", after(NEST, "(row s free (Ida) (40 free))"), (2, len(NEST), None)),
+    ("a nest row's cell with two labels", after(NEST, "(row s free (Ida free noads) (40 free))"), (2, len(NEST), None)),
+    ("a nest row's label before its value", after(NEST, "(row s free (Ida free) (free 40))"), (2, len(NEST), None)),
+    ("a nest row's cells in one bracket", after(NEST, "(row s free ((Ida free) (40 free)))"), (2, len(NEST), None)),
+    ("a nest row's value with a number for its label", after(NEST, "(row s free (Ida 5) (40 free))"), (2, len(NEST), None)),
     ("007", after(TABLES, "(row t 007)"), (2, len(TABLES), None)),
     ("12ab", after(TABLES, "(row t 12ab)"), (2, len(TABLES), None)),
     ("+5", after(TABLES, "(row t +5)"), (2, len(TABLES), None)),
@@ -281,6 +342,9 @@ CASES = [
     ("9th table", some(9, "(table t{} none (a num))"), (3, 8, None)),
     ("17 columns", after(LABELS, WIDER), (3, len(LABELS), None)),
     ("1,025th row", row_fill(1025), (3, len(TABLES) + 1024, None)),
+    ("9th table, a nest table", some(8, "(table t{} none (a num))") + ["(table s nest (a num))"], (3, 8, None)),
+    ("17 columns of a nest table", after(LABELS, WIDER.replace("none", "nest")), (3, len(LABELS), None)),
+    ("1,025th row, of a nest table", NOTED + [NEST_ROW] * 1025, (3, len(NOTED) + 1024, None)),
     # ---- 4
     ("the name of the first of 255 purposes taken", tree(255) + ["(purpose p0 p254)"], (4, 255, ("p0", 0))),
     ("the name of the last of 255 purposes taken", tree(255) + ["(purpose p254 p0)"], (4, 255, ("p254", 0))),
@@ -314,6 +378,9 @@ CASES = [
     ("purpose twice in a set, in two cases", after(LABELS, "(label l (allow ads Ads) (deny))"), (4, len(LABELS), ("Ads", 0))),
     ("unknown name twice in a set, in two cases", after(LABELS, "(label l (allow) (deny nix NIX))"), (4, len(LABELS), ("NIX", 0))),
     ("table taken in another case", after(TABLES, "(table E none (a num))"), (4, len(TABLES), ("E", 0))),
+    ("a second public line for a nest table", after(NEST, "(public s)", NEST_ROW, "(public s)"), (4, len(NEST) + 2, ("s", 0))),
+    ("table taken by a nest table", after(NEST, "(table E nest (a num))"), (4, len(NEST), ("E", 0))),
+    ("column twice in a nest table", after(NEST, "(table x nest (aa num) (aa name))"), (4, len(NEST), ("aa", 1))),
     ("column twice in two cases", after(LABELS, "(table x none (aa num) (bb num) (aA name))"), (4, len(LABELS), ("aA", 0))),
     # ---- 5
     ("own name as parent in another case", ["(purpose all)", "(purpose self Self)"], (5, 1, ("Self", 0))),
@@ -350,6 +417,35 @@ CASES = [
     ("public with no table at all", ["(public t)"], (5, 0, ("t", 0))),
     ("public with a name of another kind", after(TABLES, "(public desk)"), (5, len(TABLES), ("desk", 0))),
     ("public with a table's name and more", after(TABLES, "(public nn)"), (5, len(TABLES), ("nn", 0))),
+    # of a nest table's lines and rows (02, Q-11): T, then L; the row's own label and each bracket's, the leftmost first; before 7 and 25
+    ("weak with an unknown table", after(NEST, "(weak nix free)"), (5, len(NEST), ("nix", 0))),
+    ("strong with an unknown table", after(NEST, "(strong nix free)"), (5, len(NEST), ("nix", 0))),
+    ("weak with an unknown label", after(NEST, "(weak s nix)"), (5, len(NEST), ("nix", 0))),
+    ("strong with an unknown label", after(NEST, "(strong s nix)"), (5, len(NEST), ("nix", 0))),
+    ("weak with both unknown", after(NEST, "(weak nix nox)"), (5, len(NEST), ("nix", 0))),
+    ("strong with one name unknown twice", after(NEST, "(strong nix nix)"), (5, len(NEST), ("nix", 0))),
+    ("weak before its table", after(LABELS, "(weak s free)", "(table s nest (a num))"), (5, len(LABELS), ("s", 0))),
+    ("strong before its label", after(NEST, "(strong s late)", "(label late (allow) (deny))"), (5, len(NEST), ("late", 0))),
+    ("weak with a label for its table", after(NEST, "(weak free free)"), (5, len(NEST), ("free", 0))),
+    ("strong with a purpose for its label", after(NEST, "(strong s ads)"), (5, len(NEST), ("ads", 0))),
+    ("an unknown label for a table of another scheme", after(NEST, "(weak e nix)"), (5, len(NEST), ("nix", 0))),
+    ("an unknown label for a table without labels", after(NEST, "(strong n nix)"), (5, len(NEST), ("nix", 0))),
+    ("an unknown label behind a row", after(NESTED, "(strong s nix)"), (5, len(NESTED), ("nix", 0))),
+    ("an unknown label the second time", after(NOTED, "(weak s nix)"), (5, len(NOTED), ("nix", 0))),
+    ("nest row of an unknown table", after(NEST, "(row nix nox (Ida nux) (40 free))"), (5, len(NEST), ("nix", 0))),
+    ("nest row with an unknown label", after(NEST, "(row s nix (Ida free) (40 free))"), (5, len(NEST), ("nix", 0))),
+    ("nest row with an unknown label at its first cell", after(NEST, "(row s free (Ida nix) (40 free))"), (5, len(NEST), ("nix", 0))),
+    ("nest row with an unknown label at its last cell", after(NEST, "(row s free (Ida free) (40 nix))"), (5, len(NEST), ("nix", 0))),
+    ("nest row with unknown labels everywhere", after(NEST, "(row s nix (Ida nox) (40 nux))"), (5, len(NEST), ("nix", 0))),
+    ("nest row with unknown labels at its cells", after(NEST, "(row s free (Ida nox) (40 nux))"), (5, len(NEST), ("nox", 0))),
+    ("nest row with a value for its label", after(NEST, "(row s Ida 40)"), (5, len(NEST), ("Ida", 0))),
+    ("nest row of one unknown name", after(NEST, "(row s nix)"), (5, len(NEST), ("nix", 0))),
+    ("nest row without its label, an unknown one at a cell", after(NEST, "(row s (Ida nix) (40 free))"), (5, len(NEST), ("nix", 0))),
+    ("nest row with a number for its label, an unknown one at a cell", after(NEST, "(row s 5 (Ida free) (40 nix))"), (5, len(NEST), ("nix", 0))),
+    ("nest row with an unknown label behind a bare range", after(NEST, "(row s free (1 5) (40 nix))"), (5, len(NEST), ("nix", 0))),
+    ("nest row with an unknown label and too many cells", after(NEST, "(row s free (Ida free) (40 free) (5 nix))"), (5, len(NEST), ("nix", 0))),
+    ("nest row with an unknown label at a range", after(NEST, "(row s free (Ida free) ((75 40) nix))"), (5, len(NEST), ("nix", 0))),
+    ("nest row with an unknown label at a date", after(NEST_DATES, "(row z free ((2027 2 29) nix) (1 free))"), (5, len(NEST_DATES), ("nix", 0))),
     # ---- 6
     ("second root purpose", after(BASE, "(purpose more)"), (6, len(BASE), None)),
     # ---- 7
@@ -381,6 +477,33 @@ CASES = [
     ("date for the row's label", after(DATES, "(row r (2028 2 9) (2028 2 9) x)"), (7, len(DATES), None)),
     ("a date too many", dates("(2028 2 9) (2027 2 29)"), (7, len(DATES), None)),
     ("a date too few", after(DATES, "(row two (2027 2 29))"), (7, len(DATES), None)),
+    # rows not shaped for a nest table, and rows shaped for one (02, Q-11)
+    ("nest row without items", after(NEST, "(row s)"), (7, len(NEST), None)),
+    ("nest row of its label alone", after(NEST, "(row s free)"), (7, len(NEST), None)),
+    ("nest row without its label", after(NEST, "(row s (Ida free) (40 free))"), (7, len(NEST), None)),
+    ("nest row without its label, as many items as with it", after(NEST, "(row s (Ida free) (40 free) (5 free))"), (7, len(NEST), None)),
+    ("nest row with a cell too few", after(NEST, "(row s free (Ida free))"), (7, len(NEST), None)),
+    ("nest row with a cell too many", after(NEST, "(row s free (Ida free) (40 free) (5 free))"), (7, len(NEST), None)),
+    ("nest row with plain values", after(NEST, "(row s free Ida 40)"), (7, len(NEST), None)),
+    ("nest row with one plain value", after(NEST, "(row s free (Ida free) 40)"), (7, len(NEST), None)),
+    ("nest row with a plain name that is no label", after(NEST, "(row s free nix (40 free))"), (7, len(NEST), None)),
+    ("nest row with two labels of its own", after(NEST, "(row s free noads (Ida free) (40 free))"), (7, len(NEST), None)),
+    ("nest row with its label behind the cells", after(NEST, "(row s (Ida free) (40 free) free)"), (7, len(NEST), None)),
+    ("nest row with a number for its label", after(NEST, "(row s 5 (Ida free) (40 free))"), (7, len(NEST), None)),
+    ("nest row with a range for its label", after(NEST, "(row s (1 5) (Ida free) (40 free))"), (7, len(NEST), None)),
+    ("nest row with a date for its label", after(NEST, "(row s (2028 2 9) (Ida free) (40 free))"), (7, len(NEST), None)),
+    ("nest row with a labelled label", after(NEST, "(row s (free free) (Ida free) (40 free))"), (7, len(NEST), None)),
+    ("nest row with a bare range", after(NEST, "(row s free (Ida free) (40 75))"), (7, len(NEST), None)),
+    ("nest row with a bare reversed range", after(NEST, "(row s free (Ida free) (75 40))"), (7, len(NEST), None)),
+    ("nest row with a bare date", after(NEST_DATES, "(row z free (2028 2 9) (5 free))"), (7, len(NEST_DATES), None)),
+    ("nest row with a bare date of no day", after(NEST_DATES, "(row z free (2027 2 29) (5 free))"), (7, len(NEST_DATES), None)),
+    ("nest row, wrong types in too few cells", after(NEST, "(row s free (5 free))"), (7, len(NEST), None)),
+    ("nest row in a table without labels", after(NEST, "(row n free (1 free) (x free))"), (7, len(NEST), None)),
+    ("nest row in a table table", after(NEST, "(row t free (1 free))"), (7, len(NEST), None)),
+    ("nest row in a column table", after(NEST, "(row c free (1 free) (x free))"), (7, len(NEST), None)),
+    ("nest row in a row table", after(NEST, "(row r free (1 free) (x free))"), (7, len(NEST), None)),
+    ("nest row in a cell table", after(NEST, "(row e free (Ida free) (40 free))"), (7, len(NEST), None)),
+    ("nest row in a cell table, led by a name that is no label", after(NEST, "(row e nix (Ida free) (40 free))"), (7, len(NEST), None)),
     # ---- 8
     ("name for a number attribute", after(BASE, "(user ana desk (level high))"), (8, len(BASE), ("high", 0))),
     ("number for a name attribute", after(BASE, "(user ben clerk (level 7) (team 3))"), (8, len(BASE), ("3", 0))),
@@ -411,7 +534,14 @@ CASES = [
     ("date for a name attribute", after(BASE, "(cond-role c clerk (ne team (2028 2 9)))"), (8, len(BASE), ("(2028 2 9)", 0))),
     ("operator and date for a name attribute", after(BASE, "(cond-role c clerk (lt team (2028 2 9)))"), (8, len(BASE), ("lt", 0))),
     ("a date's bracket 16 deep in a condition", after(BASE, f"(cond-role deep desk {nested(14, '(eq level (2028 2 9))')})"), (8, len(BASE), ("(2028 2 9)", 0))),
+    ("number in a name column of a nest table", after(NEST, "(row s free (7 free) (40 free))"), (8, len(NEST), ("7", 0))),
+    ("name in a number column of a nest table", after(NEST, "(row s free (free free) (shut free))"), (8, len(NEST), ("shut", 0))),
+    ("range in a name column of a nest table", after(NEST, "(row s free ((1 5) free) ((75 40) free))"), (8, len(NEST), ("(1 5)", 0))),
+    ("date in a number column of a nest table", after(NEST, "(row s free (Ida free) ((2028 2 9) free))"), (8, len(NEST), ("(2028 2 9)", 0))),
+    ("number in a date column of a nest table", after(NEST_DATES, "(row z free (2028 free) ((5 1) free))"), (8, len(NEST_DATES), ("2028", 0))),
     # ---- 28
+    ("reversed range in a nest table", after(NEST, "(row s free (Ida free) ((75 40) noads))"), (28, len(NEST), ("(75 40)", 0))),
+    ("reversed range in a nest table right of a date of no day", after(NEST_DATES, "(row z free ((2027 2 29) free) ((5 1) free))"), (28, len(NEST_DATES), ("(5 1)", 0))),
     ("reversed range", after(TABLES, "(row t (5 1))"), (28, len(TABLES), ("(5 1)", 0))),
     ("reversed range below zero", after(TABLES, "(row t (-1 -2))"), (28, len(TABLES), ("(-1 -2)", 0))),
     ("reversed range of all numbers", after(TABLES, "(row t (9223372036854775807 -9223372036854775808))"), (28, len(TABLES), ("(9223372036854775807 -9223372036854775808)", 0))),
@@ -455,12 +585,40 @@ CASES = [
     ("31 in a column table", after(DATES, "(row c (2027 2 29) x)"), (31, len(DATES), ("(2027 2 29)", 0))),
     ("31 in a row table", after(DATES, "(row r noads (2027 2 29) x)"), (31, len(DATES), ("(2027 2 29)", 0))),
     ("31 in a cell table", after(DATES, "(row e ((2027 2 29) noads) (1 free))"), (31, len(DATES), ("(2027 2 29)", 0))),
+    ("31 in a nest table", after(NEST_DATES, "(row z free ((2027 2 29) noads) (1 free))"), (31, len(NEST_DATES), ("(2027 2 29)", 0))),
     ("two dates of no day", after(DATES, "(row two (0 1 1) (0 0 0))"), (31, len(DATES), ("(0 1 1)", 0))),
     ("a date of no day behind another", after(DATES, "(row two (1 1 1) (0 0 0))"), (31, len(DATES), ("(0 0 0)", 0))),
     ("a date of no day, and a line that fails further down", dates("(0 1 1)", "5"), (31, len(DATES), ("(0 1 1)", 0))),
     # ---- 9
     ("attr line after a user line", after(USERS, "(attr desk extra num)"), (9, len(USERS), None)),
     ("attr line after a user line, with an unknown role", after(USERS, "(attr nix extra num)"), (5, len(USERS), ("nix", 0))),
+    # ---- 25
+    out_of_place("weak twice", NOTED, "(weak s noads)"),
+    out_of_place("strong twice", NOTED, "(strong s shut)"),
+    out_of_place("weak twice, another label", NOTED, "(weak s free)"),
+    out_of_place("strong twice, another label", NOTED, "(strong s free)"),
+    out_of_place("weak twice, without a strong line", after(NEST, "(weak s noads)"), "(weak s shut)"),
+    out_of_place("strong twice, without a weak line", after(NEST, "(strong s noads)"), "(strong s noads)"),
+    out_of_place("weak twice, of a label without purposes", after(NEST, "(weak s shut)"), "(weak s shut)"),
+    out_of_place("weak twice in another case", NOTED, "(WEAK S NoAds)"),
+    out_of_place("strong twice in another case", NOTED, "(Strong S free)"),
+    out_of_place("weak twice, another table's line between", after(NOTED, "(table z nest (a num))", "(weak z free)"), "(weak s free)"),
+    out_of_place("weak twice and after a row", NESTED, "(weak s noads)"),
+    out_of_place("weak after a row", after(NEST, NEST_ROW), "(weak s noads)"),
+    out_of_place("strong after a row", after(NEST, NEST_ROW), "(strong s noads)"),
+    out_of_place("strong after a row, the weak line before it", after(NEST, "(weak s noads)", NEST_ROW), "(strong s noads)"),
+    out_of_place("weak after a row, the strong line before it", after(NEST, "(strong s noads)", NEST_ROW), "(weak s noads)"),
+    out_of_place("weak after a row and rows of other tables", after(NEST, NEST_ROW, "(row t 1)", "(row n 1 x)"), "(weak s noads)"),
+    out_of_place("weak after the first of 1,024 rows", NEST + [NEST_ROW] + ["(row t 1)"] * 1023, "(weak s noads)"),
+    out_of_place("strong after the last of 1,024 rows", NEST + ["(row t 1)"] * 1023 + [NEST_ROW], "(strong s noads)"),
+    out_of_place("weak after a row and a public line", after(NEST, NEST_ROW, "(public s)"), "(weak s noads)"),
+    *(out_of_place(f"{word} for table {table}", NEST, f"({word} {table} free)") for word in ("weak", "strong") for table in "ntcre"),
+    out_of_place("weak for a public table", after(NEST, "(public n)"), "(weak n free)"),
+    out_of_place("strong for a cell table with a row", ROWS, "(strong e free)"),
+    ("25 and a line that fails further down", after(NOTED, "(weak s free)", "(strong nix free)"), (25, len(NOTED), None)),
+    ("25 behind a line that fails", after(NOTED, "(row s free (Ida free))", "(weak s free)"), (7, len(NOTED), None)),
+    ("9 and then 25", after(NOTED, "(attr desk extra num)", "(weak s free)"), (9, len(NOTED), None)),
+    ("25 and then 9", after(NOTED, "(weak s free)", "(attr desk extra num)"), (25, len(NOTED), None)),
     # ---- the first failing line counts
     ("two failing lines", ["(purpose all)", "(purpose x nix)", "(porpoise)"], (5, 1, ("nix", 0))),
 ]
@@ -486,6 +644,9 @@ RESERVES = [
     ("reserve: a date as written", "(table t none (a date))\n(row t (2028 2 9))\n", 2, 17 + 12),
     ("reserve: the longest date", "(table t none (a date))\n(row t (1 1 1))\n(row t (9999 12 31))\n", 3, 14 + 19 + 12),
     ("reserve: a labelled date beside a range", "(label shut (allow) (deny))\n(table t cell (a date) (b num))\n(row t ((2028 10 30) shut) ((1 5) shut))\n", 3, 5 + 12 + 1 + 5 + 2 + 12),
+    ("reserve: a nest table's labels do not count", "(label shut (allow) (deny))\n(table t nest (a num) (b name))\n(strong t shut)\n(row t shut (7 shut) (x shut))\n", 4, 22),
+    ("reserve: a nest table with a range and a date", "(label shut (allow) (deny))\n(table t nest (a num) (b date))\n(row t shut ((1 5) shut) ((2028 2 9) shut))\n(ROW T Shut (7 Shut) ((1 1 1) shut))\n", 4, 5 + 5 + 1 + 10 + 2 + 5 + 1 + 1 + 7 + 2 + 12),
+    ("reserve: a nest table without rows", "(label shut (allow) (deny))\n(table t nest (a num))\n(weak t shut)\n", 3, 12),
     ("reserve: rows that name their table in two cases", "(table Sub none (a name))\n(row sub Ida)\n(ROW SUB ida)\n", 3, 2 * 10 + 12),
 ]
 
@@ -501,7 +662,7 @@ def reserve_of(text):
         elif row := re.match(rb"\(row (\S+) (.*)\)", line, re.IGNORECASE):
             name = row[1].lower()
             # A range (02, Q-12) and a date (02, Q-14) count as written.
-            items = re.findall(rb"\((\([^()]+\)|[^() ]+) [^() ]+\)", row[2]) if schemes[name] == b"cell" else row[2].split(b" ")
+            items = re.findall(rb"\((\([^()]+\)|[^() ]+) [^() ]+\)", row[2]) if schemes[name] in (b"cell", b"nest") else row[2].split(b" ")
             printed[name].append(b"(row " + b" ".join(items[1:] if schemes[name] == b"row" else items) + b")\n")
     return max((len(b"".join(rows)) + len(b"(end %d 0 0)\n" % len(rows)) for rows in printed.values()), default=0)
 

@@ -235,6 +235,85 @@ OTHER_DATES = [
     for line in DATES
 ]
 
+# labels that come down (02, Q-11): mute says nothing, again allows what the table's weak label denies, nopost denies it
+NEST_LABELS = SAMPLE[:4] + ASKER + [
+    "(grant all any)",
+    "(label mute (allow) (deny))",
+    "(label free (allow all) (deny))",
+    "(label noads (allow all) (deny ads))",
+    "(label again (allow post) (deny))",
+    "(label nopost (allow) (deny post))",
+    "(label strict (allow ads) (deny bill))",
+]
+PEOPLE = [
+    "(row sub mute (Ida mute) (40 mute))",
+    "(row sub again (Bo mute) (75 mute))",
+    "(row sub mute (Cy again) (60 mute))",
+    "(row sub again (Dot nopost) (50 mute))",
+    "(row sub nopost (Eve free) (30 again))",
+]
+
+
+def nest(*lines):
+    """A policy with a nest table, these lines about it, and its people."""
+    return NEST_LABELS + ["(table sub nest (who name) (due num))", *lines] + PEOPLE
+
+
+# To post: of Bo and Eve both cells are open, of Cy the name, of Dot the amount, of Ida neither. To ads and all: Eve's name alone. To
+# bill: everything. The strong label strict opens everything to ads and post and closes everything to all and bill; where noads is the
+# strong one, everything is open to bill and nothing to the others. Without any line the same is open to post, and Eve's name to every purpose.
+WEAK = nest("(weak sub noads)")
+STRONG = nest("(strong sub strict)", "(weak sub noads)")
+BOTH = nest("(weak sub free)", "(strong sub noads)")
+BARE = nest()
+# closed to post, the same with other values
+OTHER_PEOPLE = [line.replace("(Ida mute) (40", "(Zoe mute) (-9").replace("(60 mute)", "(9223372036854775807 mute)").replace("Dot", "Dan") for line in WEAK]
+NEST_VALUES = NEST_LABELS + [
+    "(table est nest (who name) (due num) (born date))",
+    "(weak est noads)",
+    "(row est again (Ida mute) ((3 8) mute) ((2000 2 29) mute))",
+    "(row est mute (Bo again) (5 again) ((2001 1 1) mute))",
+    "(row est free (Cy mute) ((1 9) nopost) ((1999 12 31) mute))",
+]
+# closed to post, the same with another date and other ends
+OTHER_VALUES = [line.replace("(2001 1 1)", "(1 1 1)").replace("(1 9)", "(5 5)") for line in NEST_VALUES]
+# two nest tables, a line each, and a cell table under the same labels, their rows mixed
+TWO_NESTS = NEST_LABELS + [
+    "(table one nest (k num))",
+    "(table two nest (k num))",
+    "(table cel cell (k num))",
+    "(strong two noads)",
+    "(row cel (7 again))",
+    "(weak one noads)",
+    "(row one again (1 mute))",
+    "(row two again (2 free))",
+    "(row one mute (3 mute))",
+    "(row cel (8 mute))",
+    "(row two mute (4 mute))",
+    "(row one mute (5 again))",
+]
+COLUMNS16 = " ".join(f"c{i}" for i in range(16))
+SIXTEEN_CELLS = NEST_LABELS + [
+    "(table wide nest " + " ".join(f"(c{i} num)" for i in range(16)) + ")",
+    "(weak wide noads)",
+    "(row wide mute " + " ".join(f"({i} mute)" for i in range(15)) + " (15 again))",
+    "(row wide again " + " ".join(f"({i} mute)" for i in range(15)) + " (15 nopost))",
+]
+
+
+def of_64(strong, weak, row, cell):
+    """64 labels, of which the last allows all, the one before it denies it, and the others say nothing; those of a nest table by number."""
+    silent = [f"(label l{n} (allow) (deny))" for n in range(62)]
+    said = ["(label l62 (allow) (deny all))", "(label l63 (allow all) (deny))"]
+    lines = ["(table sub nest (k num))", f"(strong sub l{strong})", f"(weak sub l{weak})", f"(row sub l{row} (7 l{cell}))"]
+    return SAMPLE[:4] + ASKER + ["(grant all any)"] + silent + said + lines
+
+
+def nest_of(policy, *lines):
+    """One of the policies of 256 purposes, its rows taken out, with a nest table."""
+    return [line for line in policy if not line.startswith(("(row ", "(table "))] + ["(table sub nest (k num))", *lines]
+
+
 DAY = "(clock 2026 100 10)"
 NIGHT = "(clock 2026 100 21)"
 LEAP = "(clock 2028 366 10)"
@@ -292,6 +371,21 @@ def dated(name, condition, names):
         one(f"{word}, {name}", f"({word} ana desk post sub (who) {condition})", [f"(row {who})" for who in names] + [ended], DAY, DATES)
         for word in ("select", "blank", "sure", "possible")
     ] + [one(f"count, {name}", f"(count ana desk post sub {condition})", [ended], DAY, DATES)]
+
+
+MUTE = "(allow) (deny)"
+
+
+def come_down(name, opened, cell=MUTE, row=MUTE, weak=None, strong=None):
+    """A session over a nest table of one cell, whose labels are given by their sets: to which of the four purposes the cell is open.
+    Of the others its row is withheld, and the table is never refused."""
+    labels = {"strong": strong, "weak": weak, "row": row, "cell": cell}
+    policy = SAMPLE[:4] + ASKER + ["(grant all any)"] + [f"(label l-{at} {sets})" for at, sets in labels.items() if sets is not None]
+    policy += ["(table sub nest (k num))"] + [f"({at} sub l-{at})" for at in ("weak", "strong") if labels[at] is not None]
+    purposes = ["all", "bill", "ads", "post"]
+    queries = [f"(select ana desk {purpose} sub (k))" for purpose in purposes]
+    answers = [["(row 7)", end(1, 0, 0)] if purpose in opened.split() else [end(0, 1, 0)] for purpose in purposes]
+    return (f"labels come down, {name}", policy + ["(row sub l-row (7 l-cell))"], [DAY, *queries], answers)
 
 
 def no_date(name, date):
@@ -671,6 +765,150 @@ SESSIONS = [
     one("a date's bracket 16 deep", "(count ana desk post sub " + nots(13, "(eq born (2000 2 29))") + ")", [end(4, 1, 1)], DAY, DATES),
     one("a date's bracket 16 deep, 31", "(count ana desk post sub " + nots(13, "(eq born (0 1 1))") + ")", (31, "(0 1 1)"), DAY, DATES),
     one("a date's bracket 17 deep", "(count ana desk post sub " + nots(14, "(eq born (2000 2 29))") + ")", (11, WHOLE), DAY, DATES),
+    # labels that come down (02, Q-11): each place alone, the others silent
+    come_down("nothing said anywhere", ""),
+    come_down("nothing said, a weak line", "", weak=MUTE),
+    come_down("nothing said, a strong line", "", strong=MUTE),
+    come_down("nothing said, both lines", "", weak=MUTE, strong=MUTE),
+    come_down("allowed at the cell", "all bill ads post", cell="(allow all) (deny)"),
+    come_down("allowed at the row", "all bill ads post", row="(allow all) (deny)"),
+    come_down("allowed by the weak line", "all bill ads post", weak="(allow all) (deny)"),
+    come_down("allowed by the strong line", "all bill ads post", strong="(allow all) (deny)"),
+    come_down("denied at the cell", "", cell="(allow) (deny bill)"),
+    come_down("denied at the row", "", row="(allow) (deny bill)"),
+    come_down("denied by the weak line", "", weak="(allow) (deny bill)"),
+    come_down("denied by the strong line", "", strong="(allow) (deny bill)"),
+    come_down("both sets at the cell", "bill", cell="(allow all) (deny ads)"),
+    come_down("both sets at the row", "bill", row="(allow all) (deny ads)"),
+    come_down("both sets in the weak line", "bill", weak="(allow all) (deny ads)"),
+    come_down("both sets in the strong line", "bill", strong="(allow all) (deny ads)"),
+    come_down("one purpose in both sets of the cell", "", cell="(allow ads) (deny ads)"),
+    come_down("one purpose in both sets of the row", "", row="(allow ads) (deny ads)"),
+    come_down("one purpose in both sets of the weak line", "", weak="(allow ads) (deny ads)"),
+    come_down("one purpose in both sets of the strong line", "", strong="(allow ads) (deny ads)"),
+    come_down("both lines, the strong one without purposes", "bill", weak="(allow all) (deny ads)", strong=MUTE),
+    come_down("both lines, the weak one without purposes", "bill", weak=MUTE, strong="(allow all) (deny ads)"),
+    # a lower label opens again, downwards from what it allows, what a higher weak one denied; merged sets are not closed again
+    come_down("post opened again at the row", "bill post", row="(allow post) (deny)", weak="(allow all) (deny ads)"),
+    come_down("post opened again at the cell", "bill post", cell="(allow post) (deny)", weak="(allow all) (deny ads)"),
+    come_down("ads opened again at the row", "bill ads post", row="(allow ads) (deny)", weak="(allow all) (deny ads)"),
+    come_down("ads opened again at the cell", "bill ads post", cell="(allow ads) (deny)", weak="(allow all) (deny ads)"),
+    come_down("all opened again at the row", "all bill ads post", row="(allow all) (deny)", weak="(allow all) (deny ads)"),
+    come_down("ads opened again at the cell, denied at the row", "bill ads post", cell="(allow ads) (deny)", row="(allow all) (deny ads)"),
+    come_down("post opened again where nothing else is allowed", "post", row="(allow post) (deny)", weak="(allow) (deny ads)"),
+    come_down("ads opened again, post denied", "bill ads post", row="(allow ads) (deny)", weak="(allow all) (deny post)"),
+    come_down("post opened again, post denied", "bill post", row="(allow post) (deny)", weak="(allow all) (deny post)"),
+    come_down("post opened again, the root denied", "post", cell="(allow post) (deny)", weak="(allow) (deny all)"),
+    come_down("all opened again, the root denied", "all bill ads post", row="(allow all) (deny)", weak="(allow) (deny all)"),
+    come_down("another purpose allowed again", "bill", row="(allow bill) (deny)", weak="(allow all) (deny ads)"),
+    come_down("denied twice, opened once", "bill post", cell="(allow post) (deny)", row="(allow) (deny ads)", weak="(allow all) (deny ads)"),
+    # a lower denied set is added last
+    come_down("opened at the row, denied again at the cell", "bill", cell="(allow) (deny post)", row="(allow post) (deny)", weak="(allow all) (deny ads)"),
+    come_down("ads opened at the row, post denied again at the cell", "bill", cell="(allow) (deny post)", row="(allow ads) (deny)", weak="(allow all) (deny ads)"),
+    come_down("opened at the row, another denied at the cell", "ads post", cell="(allow) (deny bill)", row="(allow ads) (deny)", weak="(allow all) (deny ads)"),
+    come_down("opened and denied again by one row", "bill", row="(allow ads) (deny post)", weak="(allow all) (deny ads)"),
+    come_down("allowed above, denied at the row", "ads post", row="(allow) (deny bill)", weak="(allow all) (deny)"),
+    come_down("allowed above, denied at the cell", "bill", cell="(allow) (deny ads)", weak="(allow all) (deny)"),
+    come_down("allowed at the row, denied at the cell", "ads post", cell="(allow) (deny bill)", row="(allow all) (deny)"),
+    # allowed sets unite
+    come_down("allowed at two places", "bill ads post", row="(allow bill) (deny)", weak="(allow ads) (deny)"),
+    come_down("allowed at three places", "bill ads post", cell="(allow bill) (deny)", row="(allow post) (deny)", weak="(allow ads) (deny)"),
+    come_down("allowed at two places, denied at a third", "ads post", cell="(allow) (deny bill)", row="(allow bill) (deny)", weak="(allow ads) (deny)"),
+    # what a strong label says comes first, denied before allowed, and no lower label takes from it
+    come_down("strongly denied, allowed at the cell", "bill", cell="(allow all) (deny)", strong="(allow) (deny ads)"),
+    come_down("strongly denied, allowed everywhere", "bill", cell="(allow post) (deny)", row="(allow post) (deny)", weak="(allow all) (deny)", strong="(allow) (deny ads)"),
+    come_down("strongly denied, nothing allowed", "", weak="(allow) (deny bill)", strong="(allow) (deny ads)"),
+    come_down("strongly denied root", "", cell="(allow all) (deny)", row="(allow all) (deny)", weak="(allow all) (deny)", strong="(allow all) (deny all)"),
+    come_down("strongly and weakly denied alike, allowed at the row", "bill", row="(allow post) (deny)", weak="(allow all) (deny ads)", strong="(allow all) (deny ads)"),
+    come_down("strongly allowed, denied everywhere", "ads post", cell="(allow) (deny all)", row="(allow) (deny all)", weak="(allow) (deny all)", strong="(allow ads) (deny)"),
+    come_down("strongly allowed root, denied everywhere", "all bill ads post", cell="(allow) (deny all)", row="(allow) (deny all)", weak="(allow) (deny all)", strong="(allow all) (deny)"),
+    come_down("strongly allowed, and nothing else said", "post", strong="(allow post) (deny)"),
+    come_down("strongly allowed and strongly denied below it", "bill", cell="(allow all) (deny)", strong="(allow ads) (deny post)"),
+    come_down("strongly allowed here and strongly denied there", "bill", row="(allow post) (deny)", weak="(allow all) (deny)", strong="(allow bill) (deny post)"),
+    come_down("strongly allowed and weakly denied, another weakly allowed", "bill ads post", weak="(allow ads) (deny bill)", strong="(allow bill) (deny)"),
+    come_down("strongly denied and weakly allowed, another opened again", "ads post", row="(allow ads) (deny)", weak="(allow all) (deny ads)", strong="(allow) (deny bill)"),
+    # queries of a nest table: a row is withheld for a closed named cell only, and there is no 17
+    one("nest, one column", "(select ana desk post sub (who))", ["(row Bo)", "(row Cy)", "(row Eve)", end(3, 2, 0)], DAY, WEAK),
+    one("nest, the other column", "(select ana desk post sub (due))", ["(row 75)", "(row 50)", "(row 30)", end(3, 2, 0)], DAY, WEAK),
+    one("nest, both columns", "(select ana desk post sub (who due))", ["(row Bo 75)", "(row Eve 30)", end(2, 3, 0)], DAY, WEAK),
+    one("nest, a condition", "(select ana desk post sub (who) (gt due 40))", ["(row Bo)", end(1, 3, 1)], DAY, WEAK),
+    one("nest, a branch not reached", "(count ana desk post sub (or (ge due 0) (eq who Ida)))", [end(2, 3, 0)], DAY, WEAK),
+    one("nest, withheld whatever the condition says", "(count ana desk post sub (gt due 1000))", [end(0, 2, 3)], DAY, WEAK),
+    one("nest, count", "(count ana desk post sub (gt due 40))", [end(2, 2, 1)], DAY, WEAK),
+    one("nest, nothing named", "(count ana desk post sub)", [end(5, 0, 0)], DAY, WEAK),
+    one("nest, nothing named, a purpose to which rows are closed", "(count ana desk ads sub)", [end(5, 0, 0)], DAY, WEAK),
+    one("nest, denied above what is opened again", "(select ana desk ads sub (who))", ["(row Eve)", end(1, 4, 0)], DAY, WEAK),
+    one("nest, the root", "(select ana desk all sub (who))", ["(row Eve)", end(1, 4, 0)], DAY, WEAK),
+    one("nest, every named cell closed", "(select ana desk ads sub (due))", [end(0, 5, 0)], DAY, WEAK),
+    one("nest, another purpose", "(select ana desk bill sub (who due))", ["(row Ida 40)", "(row Bo 75)", "(row Cy 60)", "(row Dot 50)", "(row Eve 30)", end(5, 0, 0)], DAY, WEAK),
+    one("nest, a blank", "(blank ana desk post sub (who due))", ["(row - -)", "(row Bo 75)", "(row Cy -)", "(row - 50)", "(row Eve 30)", end(5, 0, 0)], DAY, WEAK),
+    one("nest, a blank with a condition", "(blank ana desk post sub (who) (gt due 40))", ["(row Bo)", "(row -)", end(2, 2, 1)], DAY, WEAK),
+    one("nest, a blank that tests and shows a column", "(blank ana desk post sub (who due who) (ne who bo))", ["(row Cy - Cy)", "(row Eve 30 Eve)", end(2, 2, 1)], DAY, WEAK),
+    one("nest, a blank of closed cells", "(blank ana desk ads sub (due who))", ["(row - -)", "(row - -)", "(row - -)", "(row - -)", "(row - Eve)", end(5, 0, 0)], DAY, WEAK),
+    one("nest, a blank whose condition is closed", "(blank ana desk ads sub (who) (ge due 0))", [end(0, 5, 0)], DAY, WEAK),
+    one("nest, sure without ranges", "(sure ana desk post sub (who) (gt due 40))", ["(row Bo)", end(1, 3, 1)], DAY, WEAK),
+    one("nest, possible without ranges", "(possible ana desk post sub (due) (not (gt due 40)))", ["(row 30)", end(1, 2, 2)], DAY, WEAK),
+    one("nest, strongly open", "(select ana desk post sub (who due) (ge due 50))", ["(row Bo 75)", "(row Cy 60)", "(row Dot 50)", end(3, 0, 2)], DAY, STRONG),
+    one("nest, strongly open to a purpose above", "(count ana desk ads sub (ge due 50))", [end(3, 0, 2)], DAY, STRONG),
+    one("nest, strongly closed", "(select ana desk bill sub (who))", [end(0, 5, 0)], DAY, STRONG),
+    one("nest, strongly closed above what is open", "(select ana desk all sub (who))", [end(0, 5, 0)], DAY, STRONG),
+    one("nest, strongly closed and nothing named", "(count ana desk bill sub)", [end(5, 0, 0)], DAY, STRONG),
+    one("nest, strongly closed, a blank", "(blank ana desk bill sub (who who))", ["(row - -)"] * 5 + [end(5, 0, 0)], DAY, STRONG),
+    one("nest, strongly denied, opened again further down", "(select ana desk post sub (who))", [end(0, 5, 0)], DAY, BOTH),
+    one("nest, strongly allowed", "(select ana desk bill sub (due))", ["(row 40)", "(row 75)", "(row 60)", "(row 50)", "(row 30)", end(5, 0, 0)], DAY, BOTH),
+    one("nest, no lines", "(blank ana desk post sub (who due))", ["(row - -)", "(row Bo 75)", "(row Cy -)", "(row - 50)", "(row Eve 30)", end(5, 0, 0)], DAY, BARE),
+    one("nest, no lines, another purpose", "(select ana desk bill sub (who))", ["(row Eve)", end(1, 4, 0)], DAY, BARE),
+    one("nest, no lines, both columns", "(select ana desk bill sub (who due))", [end(0, 5, 0)], DAY, BARE),
+    # a public line does nothing
+    one("nest, public behind the rows", "(select ana desk ads sub (who))", ["(row Eve)", end(1, 4, 0)], DAY, WEAK + ["(public sub)"]),
+    one("nest, public before the rows", "(select ana desk bill sub (who))", ["(row Eve)", end(1, 4, 0)], DAY, nest("(public sub)")),
+    one("nest, public and strongly closed", "(select ana desk bill sub (who))", [end(0, 5, 0)], DAY, STRONG + ["(PUBLIC Sub)"]),
+    # what is closed has no influence
+    one("nest, closed values made others", "(select ana desk post sub (who due))", ["(row Bo 75)", "(row Eve 30)", end(2, 3, 0)], DAY, OTHER_PEOPLE),
+    one("nest, closed values made others, a condition", "(count ana desk post sub (gt due 40))", [end(2, 2, 1)], DAY, OTHER_PEOPLE),
+    one("nest, closed values made others, a blank", "(blank ana desk post sub (who due))", ["(row - -)", "(row Bo 75)", "(row Cy -)", "(row - 50)", "(row Eve 30)", end(5, 0, 0)], DAY, OTHER_PEOPLE),
+    # ranges and dates in a nest table
+    one("nest, sure", "(sure ana desk post est (who) (ge due 5))", ["(row Bo)", end(1, 1, 1)], DAY, NEST_VALUES),
+    one("nest, sure of both", "(sure ana desk post est (who due) (ge due 3))", ["(row Ida (3 8))", "(row Bo 5)", end(2, 1, 0)], DAY, NEST_VALUES),
+    one("nest, possible", "(possible ana desk post est (who) (ge due 5))", ["(row Ida)", "(row Bo)", end(2, 1, 0)], DAY, NEST_VALUES),
+    one("nest, possible without a condition", "(possible ana desk bill est (due who))", ["(row (3 8) Ida)", "(row 5 Bo)", "(row (1 9) Cy)", end(3, 0, 0)], DAY, NEST_VALUES),
+    one("nest, sure of other ends that are closed", "(sure ana desk post est (who) (ge due 5))", ["(row Bo)", end(1, 1, 1)], DAY, OTHER_VALUES),
+    one("nest, 27 of a select", "(select ana desk post est (due))", (27, "due"), DAY, NEST_VALUES),
+    one("nest, 27 of a blank", "(blank ana desk post est (who due))", (27, "due"), DAY, NEST_VALUES),
+    one("nest, 27 of a count where every row is withheld", "(count ana desk ads est (gt due 0))", (27, "due"), DAY, NEST_VALUES),
+    one("nest, dates", "(select ana desk post est (who born))", ["(row Ida (2000 2 29))", "(row Cy (1999 12 31))", end(2, 1, 0)], DAY, NEST_VALUES),
+    one("nest, a date compared", "(select ana desk post est (who) (lt born (2000 1 1)))", ["(row Cy)", end(1, 1, 1)], DAY, NEST_VALUES),
+    one("nest, a date for a gap", "(blank ana desk post est (who born))", ["(row Ida (2000 2 29))", "(row Bo -)", "(row Cy (1999 12 31))", end(3, 0, 0)], DAY, NEST_VALUES),
+    one("nest, another date that is closed", "(blank ana desk post est (who) (lt born (2000 1 1)))", ["(row Cy)", end(1, 1, 1)], DAY, OTHER_VALUES),
+    one("nest, 31", "(count ana desk post est (eq born (2001 2 29)))", (31, "(2001 2 29)"), DAY, NEST_VALUES),
+    # refused as any table is, 17 aside
+    one("nest, unknown column", "(select ana desk ads sub (who what))", (15, "what"), DAY, WEAK),
+    one("nest, a name for a number", "(count ana desk ads sub (eq due Ida))", (16, "Ida"), DAY, WEAK),
+    one("nest, an order of names", "(blank ana desk ads sub (due) (lt who Ida))", (16, "lt"), DAY, WEAK),
+    one("nest, a purpose not granted", "(count ana desk bill sub)", (14, "bill"), DAY, [line.replace("(grant all any)", "(grant ads any)") for line in WEAK]),
+    one("nest, unknown purpose", "(count ana desk sport sub)", (12, "sport"), DAY, WEAK),
+    one("nest, no rows", "(select ana desk ads sub (who))", [end(0, 0, 0)], DAY, [line for line in STRONG if not line.startswith("(row ")]),
+    one("weak is no query", "(weak sub noads)", (11, WHOLE), DAY, WEAK),
+    one("strong is no query", "(strong ana desk post sub (who))", (11, WHOLE), DAY, WEAK),
+    # several tables, 16 columns, 64 labels, 256 purposes
+    ("nest, two tables and one of cells", TWO_NESTS, [DAY, "(select ana desk post one (k))", "(select ana desk post two (k))", "(select ana desk bill two (k))", "(select ana desk post cel (k))", "(select ana desk bill one (k))", "(blank ana desk ads one (k))"], [["(row 1)", "(row 5)", end(2, 1, 0)], [end(0, 2, 0)], ["(row 2)", "(row 4)", end(2, 0, 0)], ["(row 7)", end(1, 1, 0)], ["(row 1)", "(row 3)", "(row 5)", end(3, 0, 0)], ["(row -)", "(row -)", "(row -)", end(3, 0, 0)]]),
+    one("nest, the last of 16 cells", "(select ana desk post wide (c15))", ["(row 15)", end(1, 1, 0)], DAY, SIXTEEN_CELLS),
+    one("nest, the last but one of 16 cells", "(select ana desk post wide (c14))", ["(row 14)", end(1, 1, 0)], DAY, SIXTEEN_CELLS),
+    one("nest, 16 cells", "(blank ana desk post wide (" + COLUMNS16 + "))", ["(row" + " -" * 15 + " 15)", "(row " + " ".join(map(str, range(15))) + " -)", end(2, 0, 0)], DAY, SIXTEEN_CELLS),
+    one("64 labels, the last at the cell", "(select ana desk all sub (k))", ["(row 7)", end(1, 0, 0)], DAY, of_64(0, 1, 2, 63)),
+    one("64 labels, the last at the row", "(select ana desk all sub (k))", ["(row 7)", end(1, 0, 0)], DAY, of_64(0, 1, 63, 2)),
+    one("64 labels, the last in the weak line", "(select ana desk all sub (k))", ["(row 7)", end(1, 0, 0)], DAY, of_64(0, 63, 1, 2)),
+    one("64 labels, the last in the strong line", "(select ana desk all sub (k))", ["(row 7)", end(1, 0, 0)], DAY, of_64(63, 62, 62, 62)),
+    one("64 labels, the last but one in the strong line", "(select ana desk post sub (k))", [end(0, 1, 0)], DAY, of_64(62, 63, 63, 63)),
+    one("64 labels, the last but one at the row, the last at the cell", "(select ana desk bill sub (k))", ["(row 7)", end(1, 0, 0)], DAY, of_64(0, 1, 62, 63)),
+    one("64 labels, the last at the row, the last but one at the cell", "(select ana desk bill sub (k))", [end(0, 1, 0)], DAY, of_64(0, 1, 63, 62)),
+    ("nest, a chain of 256 purposes", nest_of(chain("p0"), "(weak sub shut)", "(row sub low (1 low))", "(row sub shut (2 shut))"), [DAY, *(f"(select ana desk {p} sub (k))" for p in ("p255", "p254", "p0"))], [["(row 1)", end(1, 1, 0)], [end(0, 2, 0)], [end(0, 2, 0)]]),
+    ("nest, four words", nest_of(words("p0"), "(weak sub four)", "(row sub third (1 third))"), [DAY, *(f"(select ana desk p{n} sub (k))" for n in (0, 1, 2, 63, 64, 65, 66, 129, 130, 192, 193, 255))], [["(row 1)", end(1, 0, 0)] if n in (1, 66, 130, 192, 193, 255) else [end(0, 1, 0)] for n in (0, 1, 2, 63, 64, 65, 66, 129, 130, 192, 193, 255)]),
+    # names without case, and a long answer
+    one("nest in capitals", "(SELECT ANA DESK POST SUB (WHO DUE))", ["(row BO 75)", "(row EVE 30)", end(2, 3, 0)], DAY, [line.upper() for line in WEAK]),
+    one("nest in mixed case", "(Blank ana desk Post Sub (Who) (Gt Due 40))", ["(row Bo)", "(row -)", end(2, 2, 1)], DAY, [line.replace("(weak sub noads)", "(Weak SUB NoAds)").replace(" again", " AGAIN").replace("nest", "NeSt") for line in WEAK]),
+    one("nest, an answer of 59,696 bytes", "(select ana desk post long (" + SIXTEEN + "))", [LONG_ROW] * 147 + [end(147, 0, 0)], DAY, NEST_LABELS + ["(table long nest (who name))", "(weak long free)"] + ["(row long mute (" + "a" * 24 + " mute))"] * 147),
+    one("nest, an answer of 60,102 bytes", "(select ana desk post long (" + SIXTEEN + "))", (18, None), DAY, NEST_LABELS + ["(table long nest (who name))", "(weak long free)"] + ["(row long mute (" + "a" * 24 + " mute))"] * 148),
     # names without case (02, Q-8)
     one("user, role, purpose and table in another case", "(count Ana DESK Post SUB)", [end(4, 0, 0)]),
     one("a purpose in another case than its definition, grant and label", "(select ana desk ADS Recs (who))", ["(row Fay)", end(1, 1, 0)], DAY, TWO_CASES),
@@ -785,5 +1023,10 @@ def cases():
     yield "a reversed range", (ranges + "(row est free Gus (7 6))\n").encode(), (DAY + "\n").encode(), f"(refused 28 document {len(ranges) + 18} 5)\n".encode()
     dates = "".join(line + "\n" for line in DATES)
     yield "a date of no day", (dates + "(row sub free Gus (1900 2 29) 1)\n").encode(), (DAY + "\n").encode(), f"(refused 31 document {len(dates) + 18} 11)\n".encode()
+    weak = "".join(line + "\n" for line in WEAK[: WEAK.index("(weak sub noads)") + 1])
+    yield "a second weak line", (weak + "(weak sub free)\n").encode(), (DAY + "\n").encode(), f"(refused 25 document {len(weak)} 15)\n".encode()
+    rows = weak + "".join(line + "\n" for line in PEOPLE)
+    yield "a strong line behind rows", (rows + "(strong sub free)\n").encode(), (DAY + "\n").encode(), f"(refused 25 document {len(rows)} 17)\n".encode()
+    yield "a weak line for an unknown label", (rows + "(weak sub nix)\n").encode(), (DAY + "\n").encode(), f"(refused 5 document {len(rows) + 10} 3)\n".encode()
     yield "a zero byte in a query", sample, LEAP.encode() + b"\n(count ana desk post sub\0)\n", b"(refused 11 query 0 26)\n"
     yield "bytes above 127", sample, LEAP.encode() + b"\n\xff\xfe\xc3\xa9\n", b"(refused 11 query 0 4)\n"
