@@ -1,6 +1,6 @@
 //! The documents and queries that are measured: one kind of document for each scheme, grown by its rows.
 
-/// The five schemes of a table.
+/// The six schemes of a table.
 #[derive(Clone, Copy, Debug, PartialEq, Eq)]
 enum Scheme {
     None,
@@ -8,9 +8,10 @@ enum Scheme {
     Column,
     Row,
     Cell,
+    Nest,
 }
 
-const SCHEMES: [Scheme; 5] = [Scheme::None, Scheme::Table, Scheme::Column, Scheme::Row, Scheme::Cell];
+const SCHEMES: [Scheme; 6] = [Scheme::None, Scheme::Table, Scheme::Column, Scheme::Row, Scheme::Cell, Scheme::Nest];
 
 /// Bytes of the documents; 60,000 is the longest that is taken.
 const SIZES: [(&str, usize); 3] = [("15", 15_000), ("30", 30_000), ("60", 60_000)];
@@ -19,6 +20,11 @@ const SIZES: [(&str, usize); 3] = [("15", 15_000), ("30", 30_000), ("60", 60_000
 const MOST_ROWS: usize = 1_020;
 
 pub const CLOCK: (u64, u64, u64) = (2028, 366, 10);
+
+/// The two schemes that are held against each other: a nest document (02, Q-11) has the rows of the cell document, as many as fit, with
+/// the same cells closed.
+pub const CELL: &str = "cell";
+pub const NEST: &str = "nest";
 
 /// Two columns, two comparisons; the purpose is authorised by the third grant.
 const SELECT: &str = "(select ana desk post sub (who due) (and (gt due 5000) (ne town Ulm)))";
@@ -31,7 +37,8 @@ impl Scheme {
             Scheme::Table => "table",
             Scheme::Column => "column",
             Scheme::Row => "row",
-            Scheme::Cell => "cell",
+            Scheme::Cell => CELL,
+            Scheme::Nest => NEST,
         }
     }
 }
@@ -99,6 +106,11 @@ const TOWNS: [&str; 8] = ["Ulm", "Bern", "Graz", "Oslo", "Kiel", "Lund", "Metz",
 const OPEN: [&str; 4] = ["free", "adsonly", "nophone", "nobill"];
 /// .. and these are closed.
 const CLOSED: [&str; 4] = ["noads", "onlybill", "shut", "caring"];
+/// Of these the first alone denies it, as a closed cell of a nest table has to: a label that says nothing of a purpose leaves what comes
+/// down from the row and the table.
+const DENYING: &str = CLOSED[0];
+/// What a nest table says of itself: the strong label says nothing of `post`, so that all four labels of a cell are asked.
+const NEST_LINES: &str = "(strong sub onlybill)\n(weak sub noads)\n";
 /// The columns: name, type and, under scheme column, label. Those that the queries name are open.
 const COLUMNS: [(&str, &str, &str); 6] = [
     ("who", "name", "free"),
@@ -145,14 +157,20 @@ fn row_line(scheme: Scheme, sequence: &mut Sequence, number: usize) -> String {
         format!("{}", sequence.below(2_000) as i64 - 200),
     ];
     let mut line = String::from("(row sub");
-    if scheme == Scheme::Row {
-        line.push_str(&format!(" {}", label(sequence, 4)));
+    match scheme {
+        Scheme::Row => line.push_str(&format!(" {}", label(sequence, 4))),
+        // By the number, so that the cells are those of scheme cell.
+        Scheme::Nest => line.push_str(&format!(" {}", [OPEN, CLOSED][number % 4 / 3][number % 7 % 4])),
+        Scheme::None | Scheme::Table | Scheme::Column | Scheme::Cell => {}
     }
     for value in values {
-        if scheme == Scheme::Cell {
-            line.push_str(&format!(" ({value} {})", label(sequence, 8)));
-        } else {
-            line.push_str(&format!(" {value}"));
+        match scheme {
+            Scheme::Cell => line.push_str(&format!(" ({value} {})", label(sequence, 8))),
+            Scheme::Nest => {
+                let own = label(sequence, 8);
+                line.push_str(&format!(" ({value} {})", if CLOSED.contains(&own) { DENYING } else { own }));
+            }
+            Scheme::None | Scheme::Table | Scheme::Column | Scheme::Row => line.push_str(&format!(" {value}")),
         }
     }
     line.push_str(")\n");
@@ -184,7 +202,7 @@ impl Case {
         Case { select: sure, blank: possible, ..self }
     }
 
-    /// Whether the peers have no such values.
+    /// Whether the peers have no such values or labels.
     pub fn is_alone(&self) -> bool {
         ALONE.contains(&self.scheme)
     }
@@ -201,9 +219,11 @@ fn document(scheme: Scheme, bytes: usize) -> Vec<u8> {
     text.push_str("(table sites none (site name) (seats num))\n(public sites)\n");
     text.push_str("(row sites north 14)\n(row sites south 9)\n");
     text.push_str(&table_line(scheme));
-    if scheme == Scheme::None {
+    match scheme {
         // 02, Q-2: without this line no query of it is answered.
-        text.push_str("(public sub)\n");
+        Scheme::None => text.push_str("(public sub)\n"),
+        Scheme::Nest => text.push_str(NEST_LINES),
+        Scheme::Table | Scheme::Column | Scheme::Row | Scheme::Cell => {}
     }
     let mut sequence = Sequence(0x9e37_79b9_7f4a_7c15);
     for number in 0..MOST_ROWS {
@@ -230,12 +250,13 @@ fn refused(scheme: Scheme) -> Vec<(u64, String)> {
     match scheme {
         Scheme::Table => refused.push((17, SELECT.replace("post", "phone"))),
         Scheme::Column => refused.push((17, SELECT.replace("who due", "who since"))),
-        Scheme::None | Scheme::Row | Scheme::Cell => {}
+        // 02, Q-11: a nest table gives no 17.
+        Scheme::None | Scheme::Row | Scheme::Cell | Scheme::Nest => {}
     }
     refused
 }
 
-/// The fifteen cases of the table: five schemes, three sizes.
+/// The eighteen cases of the table: six schemes, three sizes.
 pub fn cases() -> Vec<Case> {
     let mut cases = Vec::new();
     for scheme in SCHEMES {
@@ -326,11 +347,11 @@ fn purpose(number: usize) -> String {
 }
 
 /// The cases that are made to be bad, which the goals leave out.
-pub const BAD: [&str; 12] = ["full", "turns", "dear", "front", "mixed", "nots", "cased", "alike", "wide", "gaps", "ends", "dated"];
+pub const BAD: [&str; 13] = ["full", "turns", "dear", "front", "mixed", "nots", "cased", "alike", "wide", "gaps", "ends", "dated", "merged"];
 
 /// The cases with ranges (02, Q-12), asked by sure in place of select and by possible in place of blank, and those with dates (02, Q-14)
-/// with their numbers: not asked of the peers.
-pub const ALONE: [&str; 5] = ["ranges", "ends", DATES, DAYS, "dated"];
+/// with their numbers, and nest tables (02, Q-11): not asked of the peers.
+pub const ALONE: [&str; 7] = ["ranges", "ends", DATES, DAYS, "dated", NEST, "merged"];
 
 /// Lookups that are dear: 64 labels of 24 bytes that differ in the last two, each of 16 cells in a row with the last of them.
 pub fn dear_lookups() -> Case {
@@ -375,16 +396,26 @@ fn lookups(scheme: &'static str, named: fn(usize) -> String, used: fn(String) ->
 
 /// Sixteen columns, in turns open and closed, all of them selected: a select gives no row, a blank each with eight gaps (02, Q-10).
 pub fn gaps() -> Case {
+    sixteen("gaps", "(label a (allow all) (deny))\n(label b (allow) (deny))\n", CELL, "", "")
+}
+
+/// The same of a nest table (02, Q-11), of which the table and each row deny what every other cell allows again.
+pub fn merged() -> Case {
+    sixteen("merged", "(label a (allow all) (deny))\n(label b (allow) (deny all))\n", NEST, "(weak sub b)\n", " b")
+}
+
+/// Rows of sixteen cells with the labels a and b in turns, the row's own before them.
+fn sixteen(scheme: &'static str, labels: &str, word: &str, noted: &str, own: &str) -> Case {
     let mut text = String::from("(purpose all)\n(role desk)\n(user ana desk)\n(cond-role any desk (ge hour 0))\n(grant all any)\n");
-    text.push_str("(label a (allow all) (deny))\n(label b (allow) (deny))\n(table sub cell");
+    text.push_str(&format!("{labels}(table sub {word}"));
     let columns: Vec<String> = (0..16).map(|column| format!("c{column:02}")).collect();
     text.push_str(&columns.iter().map(|column| format!(" ({column} num)")).collect::<String>());
-    text.push_str(")\n");
-    let row = format!("(row sub{})\n", " (1 a) (2 b)".repeat(8));
+    text.push_str(&format!(")\n{noted}"));
+    let row = format!("(row sub{own}{})\n", " (1 a) (2 b)".repeat(8));
     while text.len() + row.len() <= 60_000 {
         text.push_str(&row);
     }
-    Case::new("gaps", "60", text.into_bytes(), format!("(select ana desk all sub ({}))", columns.join(" ")), "(count ana desk all sub)".into())
+    Case::new(scheme, "60", text.into_bytes(), format!("(select ana desk all sub ({}))", columns.join(" ")), "(count ana desk all sub)".into())
 }
 
 /// A full document asked with a full condition: 64 comparisons, which come out alike in most rows.

@@ -300,6 +300,7 @@ fn main() -> std::io::Result<()> {
     cases.push(documents::alike_names());
     cases.push(documents::wide_answer());
     cases.push(documents::gaps());
+    cases.push(documents::merged());
     cases.push(documents::both_ends());
     cases.push(documents::next_days());
     let words: Vec<String> = std::env::args().skip(1).collect();

@@ -32,7 +32,7 @@ fn explain() {
     println!("bare: SQLite's modified query, labels as masks and tested behind the condition, every value looked at and none written.");
     println!("first: the same with the labels tested first. number: labels as numbers, and the query with the set of those that are open.");
     println!("In each form a query of its own tests first that the table or the named columns are open, or that a table without labels is public.");
-    println!("blank: the select as a blank; SQLite gives NULL for a closed cell, and its host writes the gap. PostgreSQL is not asked for blanks, and neither of them for ranges and dates.");
+    println!("blank: the select as a blank; SQLite gives NULL for a closed cell, and its host writes the gap. PostgreSQL is not asked for blanks, and neither of them for ranges, dates and nest tables.");
     println!("counted: bare with the rows written as the gate writes them, and the three counts by plain counts and difference.");
     println!("load: the check of the text, the gate's loading, and under bare SQLite's loading of rows already split into values.");
     println!("refused: the dearest of the refusals that need no row, and what part it is of the loaded select.\n");

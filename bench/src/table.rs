@@ -1,6 +1,6 @@
 //! The tables: times, ratios of the same run, goals and noise.
 
-use crate::documents::{BAD, CHAIN, Case, DATES, DAYS};
+use crate::documents::{BAD, CELL, CHAIN, Case, DATES, DAYS, NEST};
 use crate::{peers, Call, Measured, Samples, CALLS};
 
 /// The largest of some ratios, and of which row.
@@ -67,13 +67,39 @@ fn explain(turns: usize, in_a_row: usize) {
     println!("gaps: sixteen columns selected, every other cell closed, so that a select gives no row and a blank eight gaps in each.");
     println!("ranges: scheme none, a range for every other amount; ends: 64 comparisons below five nots each with the range of all numbers.");
     println!("Of these two the rows select and blank are of sure and possible.");
-    println!("dates: scheme none, three dates in each row; days: the same rows with a number for each; dated: 64 comparisons of dates.\n");
+    println!("dates: scheme none, three dates in each row; days: the same rows with a number for each; dated: 64 comparisons of dates.");
+    println!("nest: the first rows of the cell document, the same cells closed by labels that come down; merged: as gaps, in a nest table.\n");
+}
+
+/// The largest document of a scheme, and its times.
+fn full<'a>(cases: &'a [Case], measured: &'a [Measured], scheme: &str) -> Option<(&'a Case, &'a Measured)> {
+    cases.iter().zip(measured).filter(|(case, _)| case.scheme == scheme).last()
+}
+
+/// What labels that come down cost (02, Q-11): a full nest document over a full cell document, checking by the byte and asking by the row.
+fn nest_over_cell(cases: &[Case], measured: &[Measured]) {
+    let (Some((nest, of_nest)), Some((cell, of_cell))) = (full(cases, measured, NEST), full(cases, measured, CELL)) else { return };
+    let bytes = nest.text.len() as f64 / cell.text.len() as f64;
+    let rows = nest.rows() as f64 / cell.rows() as f64;
+    let over = |at: usize, loaded: bool| {
+        let time = |times: &Measured| if loaded { times.calls[at].loaded.time() } else { times.calls[at].gate.time() };
+        time(of_nest) / time(of_cell) / if at == 0 { bytes } else { rows }
+    };
+    println!("nest over cell, full documents of {} and {} rows: check and load a byte, the rest a row", nest.rows(), cell.rows());
+    for (name, loaded) in [("from the text", false), ("loaded", true)] {
+        let ratios = CALLS.into_iter().enumerate().map(|(at, call)| format!(" {} {:.2}", call.word(), over(at, loaded)));
+        println!("  {name}:{}", ratios.collect::<Vec<_>>().join(","));
+    }
+    let (mut checked, mut selected) = (Largest::new(), Largest::new());
+    checked.see(over(0, false), &called(nest, "check"));
+    selected.see(over(1, true), &called(nest, "select"));
+    checked.say(1.2, "a full nest document checked, over one of cells, a byte");
+    selected.say(1.3, "a select over it, loaded, over one of cells, a row");
 }
 
 /// What dates cost: the largest document of them over that of as many rows with numbers, in time and in bytes.
 fn dates_over_numbers(cases: &[Case], measured: &[Measured]) {
-    let full = |scheme: &str| cases.iter().zip(measured).filter(|(case, _)| case.scheme == scheme).last();
-    let (Some((dates, of_dates)), Some((days, of_days))) = (full(DATES), full(DAYS)) else { return };
+    let (Some((dates, of_dates)), Some((days, of_days))) = (full(cases, measured, DATES), full(cases, measured, DAYS)) else { return };
     print!("dates over numbers, {} rows each:", dates.rows());
     for (at, call) in CALLS.into_iter().enumerate() {
         print!(" {} {:.2},", call.word(), of_dates.calls[at].gate.time() / of_days.calls[at].gate.time());
@@ -130,6 +156,7 @@ fn from_text(cases: &[Case], measured: &[Measured]) {
     grown.say(2.2, "growth where the text doubles");
     chained.say(2.5, "query with 256 purposes over 64");
     dates_over_numbers(cases, measured);
+    nest_over_cell(cases, measured);
 }
 
 pub fn print(cases: &[Case], measured: &[Measured], turns: usize, in_a_row: usize) {

@@ -277,6 +277,14 @@ fn wide_rows(kind: &str, value: &str) -> Vec<u8> {
     filled(format!("(table sub none{columns})\n"), std::iter::repeat_n(row, 1_024))
 }
 
+/// A nest table whose weak line stands behind its one row, which is the last of 1,024.
+fn late_note() -> Vec<u8> {
+    let mut text = String::from("(label l (allow) (deny))\n(table sub nest (c num))\n(table t none (c num))\n");
+    text.push_str(&"(row t 1)\n".repeat(1_023));
+    text.push_str("(row sub l (1 l))\n(weak sub l)\n");
+    text.into_bytes()
+}
+
 /// What a row of the table is called, and its document.
 fn documents() -> Vec<(String, Vec<u8>)> {
     type Kind = (&'static str, fn(&[String]) -> Vec<u8>);
@@ -310,6 +318,8 @@ fn documents() -> Vec<(String, Vec<u8>)> {
     documents.push(("rows of 16 dates".into(), wide_rows("date", "(9999 12 31)")));
     documents.push(("rows of 16 numbers, as long as the dates".into(), wide_rows("num", "999912319999")));
     documents.push(("rows of 16 short dates".into(), wide_rows("date", "(1 1 1)")));
+    // 02, Q-11: lines about a table are looked up among tables, labels and rows; one that is out of place is found behind all rows.
+    documents.push(("a weak line behind 1,024 rows; refused with 25".into(), late_note()));
     documents
 }
 
