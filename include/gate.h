@@ -61,6 +61,8 @@ enum gate_outcome {
     GATE_RANGE_REVERSED = 28,      /* a range with LOW above HIGH; part: the range, its bracket included */
     GATE_NO_SUCH_DATE = 31,        /* no such date; part: the date, its bracket included */
     GATE_LATE_ATTRIBUTE = 9,       /* an attr line after any user line; part: the whole line */
+    GATE_NOTE_MISPLACED = 25,      /* a strong or weak line given twice, after a row or for a table of another scheme; part: the
+                                      whole line */
 
     /* of the query, by gate_ask and, but for 18, by gate_measure */
     GATE_CLOCK_OUT_OF_RANGE = 10,  /* clock out of range; part: empty, at the start */
@@ -117,7 +119,7 @@ enum gate_refused_figure {         /* any call, refused */
  * a host is compiled against the header of the library that it links, and stores no struct. */
 #define GATE_DOCUMENT_VERSION 7700003
 
-/* A loaded document: 337,040 bytes, all known when a host is compiled, which puts it where it likes (static, on the heap). What
+/* A loaded document: 345,360 bytes, all known when a host is compiled, which puts it where it likes (static, on the heap). What
  * stands in it is the gate's own; a host only passes its address.
  * What a caller owes, beside the list above:
  * - The text that was loaded stays as it was, at the same or another address, as long as the struct is asked: each call gets the very
@@ -140,13 +142,13 @@ struct gate_document {
     uint64_t rows[36864];
 };
 
-/* Checks a document. Returns GATE_ACCEPTED, or the number of a refusal, 1 to 9, 28 or 31. */
+/* Checks a document. Returns GATE_ACCEPTED, or the number of a refusal, 1 to 9, 25, 28 or 31. */
 uint64_t gate_check(const uint8_t *doc, size_t doc_len, uint64_t *figures);
 
 /* Asks a document with a query at the time of the clock: year 1 to 9999, day 1 to 365 or in a leap year 366, hour 0 to 23.
  * The document is checked each time, so gate_check need not come first; a host that asks it again loads it once (gate_load).
  * Returns GATE_ACCEPTED, the answer standing in the first bytes of `out` and the bytes behind it being as they were; or the
- * number of a refusal, 1 to 18, 27, 28 or 31, every byte of `out` being as it was. */
+ * number of a refusal, 1 to 18, 25, 27, 28 or 31, every byte of `out` being as it was. */
 uint64_t gate_ask(const uint8_t *doc, size_t doc_len, const uint8_t *query, size_t query_len, uint64_t year, uint64_t day,
                   uint64_t hour, uint8_t *out, size_t out_len, uint64_t *figures);
 
@@ -172,7 +174,7 @@ uint64_t gate_measure_arrays(const uint8_t *doc, size_t doc_len, const uint64_t 
                              const uint8_t *query, size_t query_len, const uint64_t *clock, uint64_t *figures);
 
 /* Checks a document, as gate_check does and with the same figures, and holds it in the struct, whatever that held before.
- * Returns GATE_ACCEPTED, or the number of a refusal, 1 to 9, 28 or 31; the struct then holds none. With a library of another version than
+ * Returns GATE_ACCEPTED, or the number of a refusal, 1 to 9, 25, 28 or 31; the struct then holds none. With a library of another version than
  * this header's it gives GATE_NOT_LOADED. */
 static inline uint64_t gate_load(struct gate_document *loaded, const uint8_t *doc, size_t doc_len, uint64_t *figures)
 {

@@ -170,7 +170,7 @@ fn refusal(number: u64, figures: [u64; 5]) -> Refusal {
     }
 }
 
-/// Checks a document. A refusal has a number from 1 to 9, 28 or 31.
+/// Checks a document. A refusal has a number from 1 to 9, 25, 28 or 31.
 pub fn check(doc: &[u8]) -> Result<Checked, Refusal> {
     let mut figures = [0; 5];
     // SAFETY: a slice's pointer is valid for its length and never null, and `figures` are five numbers of our own.
@@ -181,7 +181,7 @@ pub fn check(doc: &[u8]) -> Result<Checked, Refusal> {
     Ok(Checked { lines: figures[0] as usize, reserve: figures[1] as usize })
 }
 
-/// Asks a document. A refusal has a number from 1 to 18, 27, 28 or 31 and leaves `out`; an answer leaves the bytes behind it.
+/// Asks a document. A refusal has a number from 1 to 18, 25, 27, 28 or 31 and leaves `out`; an answer leaves the bytes behind it.
 pub fn ask(doc: &[u8], query: &[u8], clock: Clock, out: &mut [u8]) -> Result<Answer, Refusal> {
     let mut figures = [0; 5];
     // SAFETY: as above; and `out` is lent mutably, so it overlaps neither text.
@@ -255,7 +255,7 @@ pub struct Loaded {
 }
 
 impl Loaded {
-    /// Checks a document and holds it. A refusal has a number from 1 to 9, 28 or 31, and hands the text back.
+    /// Checks a document and holds it. A refusal has a number from 1 to 9, 25, 28 or 31, and hands the text back.
     pub fn new(text: impl Into<Box<[u8]>>) -> Result<(Loaded, Checked), (Box<[u8]>, Refusal)> {
         // A library of another version has other arrays. With one of this version no call over the struct is refused for its version.
         // SAFETY: it takes and gives numbers only.
@@ -263,7 +263,7 @@ impl Loaded {
         let text = text.into();
         let layout = std::alloc::Layout::new::<Document>();
         // SAFETY: the layout is not of size 0, and a `Document` of zeros is one, being numbers only. It is made where it stays: it has
-        // 337 KB, which not every stack has room for.
+        // 345 KB, which not every stack has room for.
         let mut document: Box<Document> = unsafe {
             let made = std::alloc::alloc_zeroed(layout);
             if made.is_null() {
