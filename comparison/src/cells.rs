@@ -73,14 +73,18 @@ fn small(random: &mut Random) -> Model {
         builder.user();
         builder.grant();
     }
-    for _ in 0..builder.random.between(2, 3) {
+    for _ in 0..builder.random.between(2, 4) {
         builder.label();
+    }
+    // A label that allows nothing leaves it to those above it, in a nest table.
+    if builder.random.chance(1, 2) {
+        builder.model.labels[0].allow.clear();
     }
     for _ in 0..builder.random.between(1, 3) {
         let label = builder.random.below(builder.model.labels.len());
-        let schemes = [Scheme::None, Scheme::None, Scheme::Table(label), Scheme::Column, Scheme::Row, Scheme::Cell, Scheme::Cell];
-        let scheme = if builder.random.chance(1, 3) { Scheme::Nest } else { *builder.random.pick(&schemes) };
-        let columns = builder.random.between(1, 3);
+        let schemes = [Scheme::None, Scheme::None, Scheme::None, Scheme::Table(label), Scheme::Table(label), Scheme::Column, Scheme::Row, Scheme::Cell, Scheme::Cell];
+        let scheme = if builder.random.chance(3, 10) { Scheme::Nest } else { *builder.random.pick(&schemes) };
+        let columns = if scheme.labels_cells() { builder.random.between(2, 3) } else { builder.random.between(1, 3) };
         builder.table_of(scheme, columns);
     }
     // `public` lines before, between and behind the rows (02, Q-2).
@@ -114,7 +118,8 @@ fn query(random: &mut Random, model: &Model) -> Query {
     if random.chance(4, 5) {
         query.columns = Some((0..random.between(1, 3)).map(|_| random.pick(&subjects).0.clone()).collect());
     }
-    if random.chance(1, 2) {
+    // Cells with labels of their own mostly get a condition: what withholds a blank's row stands there.
+    if random.chance(if table.scheme.labels_cells() { 3 } else { 2 }, 4) {
         query.condition = Some(condition(random, &subjects, 2, 3));
     }
     match random.below(20) {
