@@ -62,7 +62,7 @@ nestCases =
     ∷ asking visited (clockAt 2028 366 10) "(blank ana desk post v (on))" 60021 ⇒ answered "(row (2028 2 29))\n(row -)\n(row (2028 3 1))\n(end 3 0 0)\n" 3 0 0
     ∷ asking visited (clockAt 2028 366 10) "(blank ana desk post v (id) (ge on (2028 3 1)))" 60021 ⇒ answered "(row 3)\n(end 1 1 1)\n" 1 1 1
     ∷ asking visited (clockAt 2028 366 10) "(count ana desk post v (eq on (2027 12 31)))" 60021 ⇒ answered "(end 0 1 2)\n" 0 1 2
-    -- 27 where a select or a blank names the ranged column, open to the purpose or not, since there is no 17
+    -- 27 where a select or a blank names the ranged column, open to the purpose or not
     ∷ asking metered (clockAt 2028 366 10) "(select ana desk post m (kwh))" 60021 ⇒ refusedAt 27 25 3
     ∷ asking metered (clockAt 2028 366 10) "(select ana desk ads m (kwh))" 60021 ⇒ refusedAt 27 24 3
     ∷ asking metered (clockAt 2028 366 10) "(blank ana desk post m (id kwh))" 60021 ⇒ refusedAt 27 27 3

@@ -35,8 +35,8 @@ sees d p r c x =
 
 -- the value of cell c of the row may differ: the query, be it answered or refused, does not see it, since the cell is closed to the
 -- purpose, stands in a table or column that the query does not name, or lies in a row withheld from it, which for a blank is one that its
--- condition's columns or the row's label withhold (02, Q-10). To a purpose that the
--- document does not know every cell is closed, and a text that is no query names nothing
+-- condition's columns withhold, or by row its label (02, Q-10). To a purpose that the document does not know every cell is closed, and a
+-- text that is no query names nothing
 unfoldable pub free : Policy → Option QueryForm → Row → ℕ → Bool
 free d none r c = true
 free d (some q) r c = not (holdsOf (λ p. anyOf (sees d p r c) (sources d q)) (purposeOf d (q .purpose)))

@@ -3,20 +3,20 @@ use Prim.Native.Nat.{_<_, suc, ℕ}
 use borrow.Author.Tests.{lt-ltb}
 use lib.ListN.{getElem?, length, length-map}
 use mathlib.Core.Bool.{Bool, false, not, true, true≢false}
-use mathlib.Core.List.{List, map}
+use mathlib.Core.List.{List, [], _++_, _∷_, map}
 use mathlib.Core.Option.{Option, bind, none, some}
-use mathlib.Core.Path.{_≡_, refl}
-use Rattle.document.specs.Lookup.{settled}
+use mathlib.Core.Path.{_≡_, ap, refl}
+use Rattle.document.specs.Lookup.{givenBy, settled, strongIn, weakIn}
 use Rattle.document.specs.NoteFaults.{isNested}
 use Rattle.document.specs.Open.{Opening, cellOpen, columnOpen, labelOpen, marksAt, nestOpen, openTo, rowWithheld, tableOpen}
 use Rattle.document.specs.Policy.{Label, Node, Policy, treeOf}
-use Rattle.form.specs.Form.{Note, Scheme, byCell, byColumn, byRow, byTable, nested, unlabelled}
+use Rattle.form.specs.Form.{Note, Scheme, byCell, byColumn, byRow, byTable, nested, public, strong, unlabelled, weak}
 use Rattle.purpose.proofs.Compliance.{opens-below}
 use Rattle.purpose.proofs.Nesting.{nest-below}
 use Rattle.purpose.specs.Compliance.{descends, inTree, opens}
 use Rattle.lists.proofs.ListLaws.{any-at, any-mono}
 use Rattle.lists.proofs.Tests.{not-false, true-not-false}
-use Rattle.lists.specs.Lists.{holdsOf, member}
+use Rattle.lists.specs.Lists.{found, holdsOf, member}
 
 -- a row that is not withheld, of an open table with open columns, shows open cells only
 pub shown-open : (opening : Opening) (s : Scheme ℕ) (cs labels : List ℕ) → tableOpen opening s ≡ true
@@ -41,7 +41,8 @@ module _ (opening : Opening) (ns : List (Note ℕ)) where
   settled-column byCell c = refl
   settled-column (nested w s) c = refl
 
-  -- declaring a labelled table public does nothing: its rows are withheld as before (02, Q-2)
+  -- declaring a labelled table public does nothing: its rows are withheld as before (02, Q-2); a nest table goes by its notes, of which
+  -- `public-silent` says it
   pub settled-withheld : (s : Scheme ℕ) → isNested s ≡ false → (cs labels : List ℕ) → rowWithheld opening (settled ns s) cs labels ≡ rowWithheld opening s cs labels
   unfolding settled rowWithheld isNested
   settled-withheld (unlabelled b) h cs labels = refl
@@ -50,6 +51,25 @@ module _ (opening : Opening) (ns : List (Note ℕ)) where
   settled-withheld byRow h cs labels = refl
   settled-withheld byCell h cs labels = refl
   settled-withheld (nested w s) h cs labels = absurd (true≢false h)
+
+-- declaring a nest table public does nothing: the notes give it the labels that they give without that line (02, Q-2, Q-11)
+weak-found : (ns ms : List (Note ℕ)) → found (map weakIn (ns ++ public ∷ ms)) ≡ found (map weakIn (ns ++ ms))
+unfolding found weakIn
+weak-found [] ms = refl
+weak-found (public ∷ ns) ms = weak-found ns ms
+weak-found (weak l ∷ ns) ms = ap (λ (xs : List ℕ). l ∷ xs) (weak-found ns ms)
+weak-found (strong l ∷ ns) ms = weak-found ns ms
+
+strong-found : (ns ms : List (Note ℕ)) → found (map strongIn (ns ++ public ∷ ms)) ≡ found (map strongIn (ns ++ ms))
+unfolding found strongIn
+strong-found [] ms = refl
+strong-found (public ∷ ns) ms = strong-found ns ms
+strong-found (weak l ∷ ns) ms = strong-found ns ms
+strong-found (strong l ∷ ns) ms = ap (λ (xs : List ℕ). l ∷ xs) (strong-found ns ms)
+
+pub public-silent : (ns ms : List (Note ℕ)) (w s : Option ℕ) → settled (ns ++ public ∷ ms) (nested w s) ≡ settled (ns ++ ms) (nested w s)
+unfolding settled givenBy
+public-silent ns ms w s = λ i. nested (getElem? (weak-found ns ms i) 0) (getElem? (strong-found ns ms i) 0)
 
 -- all that is open by the first is open by the second
 pub record Wider (opening opening′ : Opening) : Type 0 where

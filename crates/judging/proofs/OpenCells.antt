@@ -95,7 +95,6 @@ module _ (d : Policy) (p : ℕ) (os : List Bool) (said : Said d p os) where
     pub nest-cell : {w s : Option ℕ} → Marks d p m (nested w s) ns → (c : ℕ) → openUnder os (underRow os m labels) labels c ≡ cellOpen (openTo d p) (settled ns (nested w s)) labels c
     unfolding cellOpen settled nestOpen isNested openUnder
     nest-cell {w} {s} h c =
-        let tree : List ℕ = treeOf (d .purposes) in
         ap (λ (x : Marking). openUnder os x labels c) (sym (under-nested os m labels (h .nested) _ refl))
         ∙ (λ i. openBy (h .strong i) (over (over (h .weak i) (said-for said (getElem? labels 0) i)) (said-for said (getElem? labels (suc c)) i)))
         ∙ sym (nest-pointwise (treeOf (d .purposes)) (marksAt d (givenBy strongIn ns)) (marksAt d (givenBy weakIn ns)) (marksAt d (getElem? labels 0)) (marksAt d (getElem? labels (suc c))) p)

@@ -25,7 +25,7 @@ unfoldable pub measuredAs : Measured → Result ℕ
 measuredAs (measured.Refused r) = refused (refusalOf r)
 measuredAs (measured.Length n) = accepted n
 
--- THE MEASURE: the code's measure r stands for what measuring gives, 1 to 17 or the length of the answer (02, Q-4)
+-- THE MEASURE: the code's measure r stands for what measuring gives, a refusal that no buffer would change or the length of the answer (02, Q-4)
 pub record Measures (doc text : List ℕ) (c : Clock) (r : Measured) : Type 0 where
   pub is : measuredAs r ≡ measure doc text c
 
