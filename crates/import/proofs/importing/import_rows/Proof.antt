@@ -23,13 +23,13 @@ put-rows-requires : tie.Need-put-rows-requires
 put-rows-requires c κs = search needs
 
 returns : tie.Need-returns
-returns c = imports-refused (c .before .before .before .before .before .before .before .before .before .args .file .now) (c .before .before .before .before .before .before .before .before .before .args .table .now) (c .before .before .before .before .before .before .before .before .before .args .label .now) (c .before .before .before .before .before .before .before .before .before .args .out .now) (c .before .j .given .0 .0) (sym (ap judgedAs (c .before .j .given .1)) ∙ c .before .before .before .judge .ensures (c .before .before .before .before .before .before .before .before .before .args .file .now) (c .before .before .before .before .scan-file .ensures))
+returns c = let entry = c .before .before .before .before .before .before .before .before .before .args in imports-refused (entry .file .now) (entry .table .now) (entry .label .now) (entry .out .now) (c .before .j .given .0 .0) (sym (ap judgedAs (c .before .j .given .1)) ∙ c .before .before .before .judge .ensures (entry .file .now) (c .before .before .before .before .scan-file .ensures))
 
 same-length : tie.Need-same-length
 same-length c = c .before .before .put-rows .ensures .kept
 
 returns-2 : tie.Need-returns-2
-returns-2 c = imports-lines (c .before .before .before .before .before .before .before .before .before .before .before .before .before .args .file .now) (c .before .before .before .before .before .before .before .before .before .before .before .before .before .args .table .now) (c .before .before .before .before .before .before .before .before .before .before .before .before .before .args .label .now) (c .before .before .before .before .before .before .before .before .before .before .before .before .before .args .out .now) _ (omega arith) (sym (ap judgedAs (c .before .before .before .before .before .j2 .given .1)) ∙ c .before .before .before .before .before .before .before .judge .ensures (c .before .before .before .before .before .before .before .before .before .before .before .before .before .args .file .now) (c .before .before .before .before .before .before .before .before .scan-file .ensures)) (c .before .before .put-rows .ensures)
+returns-2 c = let entry = c .before .before .before .before .before .before .before .before .before .before .before .before .before .args in imports-lines (entry .file .now) (entry .table .now) (entry .label .now) (entry .out .now) _ (omega arith) (sym (ap judgedAs (c .before .before .before .before .before .j2 .given .1)) ∙ c .before .before .before .before .before .before .before .judge .ensures (entry .file .now) (c .before .before .before .before .before .before .before .before .scan-file .ensures)) (c .before .before .put-rows .ensures)
 
 pub import-rows-spec : {M : Type 1} → statement M
 import-rows-spec =

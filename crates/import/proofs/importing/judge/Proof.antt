@@ -18,10 +18,10 @@ judge-scanned-requires : tie.Need-judge-scanned-requires
 judge-scanned-requires c κs = search needs
 
 returns : tie.Need-returns
-returns c = λ bytes e. judge-malformed bytes (c .before .before .before .before .before .before .args .table .now) (c .before .before .before .before .before .before .args .label .now) (c .before .before .before .before .before .before .args .room) (c .refusal-at .result) (sym e ∙ c .before .before .x .given .1) (c .refusal-at .ensures)
+returns c = let entry = c .before .before .before .before .before .before .args in λ bytes e. judge-malformed bytes (entry .table .now) (entry .label .now) (entry .room) (c .refusal-at .result) (sym e ∙ c .before .before .x .given .1) (c .refusal-at .ensures)
 
 returns-2 : tie.Need-returns-2
-returns-2 c = λ bytes e. judge-counted bytes (c .before .before .before .before .before .before .args .table .now) (c .before .before .before .before .before .before .args .label .now) (c .before .before .before .before .before .before .args .room) (sym e ∙ c .before .before .x2 .given .1) (c .judge-scanned .ensures)
+returns-2 c = let entry = c .before .before .before .before .before .before .args in λ bytes e. judge-counted bytes (entry .table .now) (entry .label .now) (entry .room) (sym e ∙ c .before .before .x2 .given .1) (c .judge-scanned .ensures)
 
 pub judge-spec : {M : Type 1} → statement M
 judge-spec =

@@ -17,7 +17,8 @@ refusal-at-requires c κs = search needs
 
 returns : tie.Need-returns
 returns c =
-    λ es s. judged-nameless (c .before .before .before .before .before .args .table .now) (c .before .before .before .before .before .args .label .now) (c .before .before .before .before .before .args .room) es s (c .refusal-at .result) (and-first (isName (c .before .before .before .before .before .args .table .now)) (isName (c .before .before .before .before .before .args .label .now)) (sym (c .before .before .is-name .ensures) ∙ not-true _ (c .before .if1 .taken))) (c .refusal-at .ensures)
+    let entry = c .before .before .before .before .before .args in
+    λ es s. judged-nameless (entry .table .now) (entry .label .now) (entry .room) es s (c .refusal-at .result) (and-first (isName (entry .table .now)) (isName (entry .label .now)) (sym (c .before .before .is-name .ensures) ∙ not-true _ (c .before .if1 .taken))) (c .refusal-at .ensures)
 
 is-name-requires-2 : tie.Need-is-name-requires-2
 is-name-requires-2 c κs = search needs
@@ -27,7 +28,8 @@ refusal-at-requires-2 c κs = search needs
 
 returns-2 : tie.Need-returns-2
 returns-2 c =
-    λ es s. judged-nameless (c .before .before .before .before .before .before .before .args .table .now) (c .before .before .before .before .before .before .before .args .label .now) (c .before .before .before .before .before .before .before .args .room) es s (c .refusal-at2 .result) (and-second (isName (c .before .before .before .before .before .before .before .args .table .now)) (isName (c .before .before .before .before .before .before .before .args .label .now)) (sym (c .before .before .is-name2 .ensures) ∙ not-true _ (c .before .if2 .taken))) (c .refusal-at2 .ensures)
+    let entry = c .before .before .before .before .before .before .before .args in
+    λ es s. judged-nameless (entry .table .now) (entry .label .now) (entry .room) es s (c .refusal-at2 .result) (and-second (isName (entry .table .now)) (isName (entry .label .now)) (sym (c .before .before .is-name2 .ensures) ∙ not-true _ (c .before .if2 .taken))) (c .refusal-at2 .ensures)
 
 enum-known-unfit : tie.Need-enum-known-unfit
 enum-known-unfit c = search needs
@@ -37,7 +39,8 @@ refusal-at-requires-3 c κs = search needs
 
 returns-3 : tie.Need-returns-3
 returns-3 c =
-    λ es s. judged-unfit (c .before .before .before .before .before .before .before .before .before .before .args .table .now) (c .before .before .before .before .before .before .before .before .before .before .args .label .now) (c .before .before .before .before .before .before .before .before .before .before .args .room) es s (and-both (isName (c .before .before .before .before .before .before .before .before .before .before .args .table .now)) (isName (c .before .before .before .before .before .before .before .before .before .before .args .label .now)) (sym (c .before .before .before .before .before .before .before .is-name .ensures) ∙ not-false _ (c .before .before .before .before .before .before .if1 .left)) (sym (c .before .before .before .before .before .is-name2 .ensures) ∙ not-false _ (c .before .before .before .before .if2 .left))) (c .refusal-at3 .result) (c .before .before .unfit .given .1) (c .refusal-at3 .ensures)
+    let entry = c .before .before .before .before .before .before .before .before .before .before .args in
+    λ es s. judged-unfit (entry .table .now) (entry .label .now) (entry .room) es s (and-both (isName (entry .table .now)) (isName (entry .label .now)) (sym (c .before .before .before .before .before .before .before .is-name .ensures) ∙ not-false _ (c .before .before .before .before .before .before .if1 .left)) (sym (c .before .before .before .before .before .is-name2 .ensures) ∙ not-false _ (c .before .before .before .before .if2 .left))) (c .refusal-at3 .result) (c .before .before .unfit .given .1) (c .refusal-at3 .ensures)
 
 enum-told : tie.Need-enum-told
 enum-told c = search needs
@@ -47,7 +50,8 @@ add-length-within c = search needs
 
 add-length-within-2 : tie.Need-add-length-within-2
 add-length-within-2 c =
-    omega (arith, name-short (c .before .before .before .before .before .before .before .before .args .table .now) (sym (c .before .before .before .before .before .is-name .ensures) ∙ not-false _ (c .before .before .before .before .if1 .left)), name-short (c .before .before .before .before .before .before .before .before .args .label .now) (sym (c .before .before .before .is-name2 .ensures) ∙ not-false _ (c .before .before .if2 .left)))
+    let entry = c .before .before .before .before .before .before .before .before .args in
+    omega (arith, name-short (entry .table .now) (sym (c .before .before .before .before .before .is-name .ensures) ∙ not-false _ (c .before .before .before .before .if1 .left)), name-short (entry .label .now) (sym (c .before .before .before .is-name2 .ensures) ∙ not-false _ (c .before .before .if2 .left)))
 
 length-within-requires : tie.Need-length-within-requires
 length-within-requires c κs = search needs
@@ -63,11 +67,13 @@ refusal-at-requires-4 c κs = search needs
 
 returns-4 : tie.Need-returns-4
 returns-4 c =
-    λ es s. judged-short (c .before .before .before .before .before .before .before .before .before .before .before .before .args .table .now) (c .before .before .before .before .before .before .before .before .before .before .before .before .args .label .now) (c .before .before .before .before .before .before .before .before .before .before .before .before .args .room) es s (and-both (isName (c .before .before .before .before .before .before .before .before .before .before .before .before .args .table .now)) (isName (c .before .before .before .before .before .before .before .before .before .before .before .before .args .label .now)) (sym (c .before .before .before .before .before .before .before .before .before .is-name .ensures) ∙ not-false _ (c .before .before .before .before .before .before .before .before .if1 .left)) (sym (c .before .before .before .before .before .before .before .is-name2 .ensures) ∙ not-false _ (c .before .before .before .before .before .before .if2 .left))) (c .before .before .before .before .enum-told .given .1) (c .refusal-at4 .result) (sym (c .before .before .before .length-within .ensures) ∙ c .before .enum-told2 .given .1) (c .refusal-at4 .ensures)
+    let entry = c .before .before .before .before .before .before .before .before .before .before .before .before .args in
+    λ es s. judged-short (entry .table .now) (entry .label .now) (entry .room) es s (and-both (isName (entry .table .now)) (isName (entry .label .now)) (sym (c .before .before .before .before .before .before .before .before .before .is-name .ensures) ∙ not-false _ (c .before .before .before .before .before .before .before .before .if1 .left)) (sym (c .before .before .before .before .before .before .before .is-name2 .ensures) ∙ not-false _ (c .before .before .before .before .before .before .if2 .left))) (c .before .before .before .before .enum-told .given .1) (c .refusal-at4 .result) (sym (c .before .before .before .length-within .ensures) ∙ c .before .enum-told2 .given .1) (c .refusal-at4 .ensures)
 
 returns-5 : tie.Need-returns-5
 returns-5 c =
-    λ es s. judged-fit (c .before .before .before .before .before .before .before .before .before .before .before .before .args .table .now) (c .before .before .before .before .before .before .before .before .before .before .before .before .args .label .now) (c .before .before .before .before .before .before .before .before .before .before .before .before .args .room) es s (and-both (isName (c .before .before .before .before .before .before .before .before .before .before .before .before .args .table .now)) (isName (c .before .before .before .before .before .before .before .before .before .before .before .before .args .label .now)) (sym (c .before .before .before .before .before .before .before .before .before .is-name .ensures) ∙ not-false _ (c .before .before .before .before .before .before .before .before .if1 .left)) (sym (c .before .before .before .before .before .before .before .is-name2 .ensures) ∙ not-false _ (c .before .before .before .before .before .before .if2 .left))) (c .before .before .before .before .enum-told .given .1) (sym (c .before .before .before .length-within .ensures) ∙ c .before .l .given .1)
+    let entry = c .before .before .before .before .before .before .before .before .before .before .before .before .args in
+    λ es s. judged-fit (entry .table .now) (entry .label .now) (entry .room) es s (and-both (isName (entry .table .now)) (isName (entry .label .now)) (sym (c .before .before .before .before .before .before .before .before .before .is-name .ensures) ∙ not-false _ (c .before .before .before .before .before .before .before .before .if1 .left)) (sym (c .before .before .before .before .before .before .before .is-name2 .ensures) ∙ not-false _ (c .before .before .before .before .before .before .if2 .left))) (c .before .before .before .before .enum-told .given .1) (sym (c .before .before .before .length-within .ensures) ∙ c .before .l .given .1)
 
 pub judge-scanned-spec : {M : Type 1} → statement M
 judge-scanned-spec =

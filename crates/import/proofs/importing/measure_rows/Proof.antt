@@ -21,11 +21,11 @@ enum-known-j-2 c = search needs
 
 returns : tie.Need-returns
 unfolding longestBuffer
-returns c = measures-refused (c .before .before .before .before .before .before .before .before .args .file .now) (c .before .before .before .before .before .before .before .before .args .table .now) (c .before .before .before .before .before .before .before .before .args .label .now) (c .before .j .given .0 .0) (sym (ap judgedAs (c .before .j .given .1)) ∙ c .before .before .before .judge .ensures (c .before .before .before .before .before .before .before .before .args .file .now) (c .before .before .before .before .scan-file .ensures))
+returns c = let entry = c .before .before .before .before .before .before .before .before .args in measures-refused (entry .file .now) (entry .table .now) (entry .label .now) (c .before .j .given .0 .0) (sym (ap judgedAs (c .before .j .given .1)) ∙ c .before .before .before .judge .ensures (entry .file .now) (c .before .before .before .before .scan-file .ensures))
 
 returns-2 : tie.Need-returns-2
 unfolding longestBuffer
-returns-2 c = measures-lines (c .before .before .before .before .before .before .before .before .args .file .now) (c .before .before .before .before .before .before .before .before .args .table .now) (c .before .before .before .before .before .before .before .before .args .label .now) (sym (ap judgedAs (c .before .j2 .given .1)) ∙ c .before .before .before .judge .ensures (c .before .before .before .before .before .before .before .before .args .file .now) (c .before .before .before .before .scan-file .ensures))
+returns-2 c = let entry = c .before .before .before .before .before .before .before .before .args in measures-lines (entry .file .now) (entry .table .now) (entry .label .now) (sym (ap judgedAs (c .before .j2 .given .1)) ∙ c .before .before .before .judge .ensures (entry .file .now) (c .before .before .before .before .scan-file .ensures))
 
 pub measure-rows-spec : {M : Type 1} → statement M
 measure-rows-spec =

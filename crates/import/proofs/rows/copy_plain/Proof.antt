@@ -15,7 +15,7 @@ same-length : tie.Need-same-length
 same-length c = c .before .before .before .before .copy-sure .ensures .kept
 
 returns : tie.Need-returns
-returns c = copy-all (c .before .before .before .before .before .before .before .before .before .args .s .now) (c .before .before .before .before .before .before .before .before .before .args .at) (c .before .before .before .before .copy-sure .result) (c .before .before .before .before .copy-sure .ensures) (c .if1 .taken)
+returns c = let entry = c .before .before .before .before .before .before .before .before .before .args in copy-all (entry .s .now) (entry .at) (c .before .before .before .before .copy-sure .result) (c .before .before .before .before .copy-sure .ensures) (c .if1 .taken)
 
 copy-slowly-requires : tie.Need-copy-slowly-requires
 copy-slowly-requires c κs = search needs
@@ -24,7 +24,7 @@ same-length-2 : tie.Need-same-length-2
 same-length-2 c = c .before .before .copy-slowly .ensures .wrote .kept ∙ c .before .before .before .before .before .before .before .before .copy-sure .ensures .kept
 
 returns-2 : tie.Need-returns-2
-returns-2 c = copy-rest (c .before .before .before .before .before .before .before .before .before .before .before .before .before .args .s .now) (c .before .before .before .before .before .before .before .before .before .before .before .before .before .args .at) (c .before .before .before .before .before .before .before .before .copy-sure .result) (c .before .before .copy-slowly .result) (c .before .before .before .before .before .before .before .before .copy-sure .ensures) (c .before .before .copy-slowly .ensures)
+returns-2 c = let entry = c .before .before .before .before .before .before .before .before .before .before .before .before .before .args in copy-rest (entry .s .now) (entry .at) (c .before .before .before .before .before .before .before .before .copy-sure .result) (c .before .before .copy-slowly .result) (c .before .before .before .before .before .before .before .before .copy-sure .ensures) (c .before .before .copy-slowly .ensures)
 
 pub copy-plain-spec : {M : Type 1} → statement M
 copy-plain-spec = tie.close (tie.spec sure-end-requires copy-sure-requires same-length returns copy-slowly-requires same-length-2 returns-2)

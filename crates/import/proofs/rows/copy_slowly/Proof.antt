@@ -29,7 +29,7 @@ same-length : tie.Need-same-length Inv-loop μ-loop
 same-length c = c .before .before .before .before .loop .inv .ahead .kept
 
 returns : tie.Need-returns Inv-loop μ-loop
-returns c = copy-stop (c .before .before .before .before .before .before .before .args .s .now) (c .before .before .before .before .before .before .before .args .at) (c .before .before .before .before .loop .inv) (c .before .before .before .loop-test .taken) (sym (c .before .is-plain .ensures) ∙ not-true _ (c .if1 .taken)) _ refl refl
+returns c = let entry = c .before .before .before .before .before .before .before .args in copy-stop (entry .s .now) (entry .at) (c .before .before .before .before .loop .inv) (c .before .before .before .loop-test .taken) (sym (c .before .is-plain .ensures) ∙ not-true _ (c .if1 .taken)) _ refl refl
 
 shared-slice-read-put-byte : tie.Need-shared-slice-read-put-byte Inv-loop μ-loop
 shared-slice-read-put-byte c = search needs
@@ -44,13 +44,13 @@ loop-less : tie.Need-loop-less Inv-loop μ-loop
 loop-less c = omega arith
 
 loop-again : tie.Need-loop-again Inv-loop μ-loop
-loop-again c = copy-more (c .before .before .before .before .before .before .before .before .before .before .before .before .args .s .now) (c .before .before .before .before .before .before .before .before .before .before .before .before .args .at) (c .before .before .before .before .before .before .before .before .before .loop .inv) (c .before .before .before .before .before .before .before .before .loop-test .taken) (sym (c .before .before .before .before .before .before .is-plain .ensures) ∙ not-false _ (c .before .before .before .before .before .if1 .left)) (c .before .before .put-byte .ensures)
+loop-again c = let entry = c .before .before .before .before .before .before .before .before .before .before .before .before .args in copy-more (entry .s .now) (entry .at) (c .before .before .before .before .before .before .before .before .before .loop .inv) (c .before .before .before .before .before .before .before .before .loop-test .taken) (sym (c .before .before .before .before .before .before .is-plain .ensures) ∙ not-false _ (c .before .before .before .before .before .if1 .left)) (c .before .before .put-byte .ensures)
 
 same-length-2 : tie.Need-same-length-2 Inv-loop μ-loop
 same-length-2 c = c .before .loop .inv .ahead .kept
 
 returns-2 : tie.Need-returns-2 Inv-loop μ-loop
-returns-2 c = copy-none (c .before .before .before .before .args .s .now) (c .before .before .before .before .args .at) (c .before .loop .inv) (c .loop-test .left) _ refl refl
+returns-2 c = let entry = c .before .before .before .before .args in copy-none (entry .s .now) (entry .at) (c .before .loop .inv) (c .loop-test .left) _ refl refl
 
 pub copy-slowly-spec : {M : Type 1} → statement M
 copy-slowly-spec =

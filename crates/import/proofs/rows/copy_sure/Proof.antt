@@ -32,8 +32,9 @@ same-length c = c .before .before .before .before .loop .inv .0 .ahead .kept
 
 returns : tie.Need-returns Inv-loop μ-loop
 returns c =
-    let h : c .before .before .before .before .loop .i < length (c .before .before .before .before .before .before .before .args .s .now) = omega (arith, c .before .before .before .loop-test .taken, c .before .before .before .before .before .before .before .pre .inside (omega (arith, c .before .before .before .loop-test .taken, c .before .before .before .before .loop .inv .1))) in
-    copy-part (c .before .before .before .before .before .before .before .args .s .now) (c .before .before .before .before .before .before .before .args .at) (c .before .before .before .before .loop .inv .0) (c .before .before .before .before .before .before .before .args .end) (λ k. plain-stop (c .before .before .before .before .before .before .before .args .s .now) (c .before .before .before .before .loop .i) h (sym (c .before .is-plain .ensures) ∙ not-true _ (c .if1 .taken)))
+    let entry = c .before .before .before .before .before .before .before .args in
+    let h : c .before .before .before .before .loop .i < length (entry .s .now) = omega (arith, c .before .before .before .loop-test .taken, c .before .before .before .before .before .before .before .pre .inside (omega (arith, c .before .before .before .loop-test .taken, c .before .before .before .before .loop .inv .1))) in
+    copy-part (entry .s .now) (entry .at) (c .before .before .before .before .loop .inv .0) (entry .end) (λ k. plain-stop (entry .s .now) (c .before .before .before .before .loop .i) h (sym (c .before .is-plain .ensures) ∙ not-true _ (c .if1 .taken)))
 
 shared-slice-read-out : tie.Need-shared-slice-read-out Inv-loop μ-loop
 shared-slice-read-out c = omega (arith, c .before .before .before .before .loop-test .taken, c .before .before .before .before .before .before .before .before .pre .inside (omega (arith, c .before .before .before .before .loop-test .taken, c .before .before .before .before .before .loop .inv .1)))
@@ -52,14 +53,15 @@ loop-less c = omega arith
 
 loop-again : tie.Need-loop-again Inv-loop μ-loop
 loop-again c =
-    let h : c .before .before .before .before .before .loop .i < length (c .before .before .before .before .before .before .before .before .args .s .now) = omega (arith, c .before .before .before .before .loop-test .taken, c .before .before .before .before .before .before .before .before .pre .inside (omega (arith, c .before .before .before .before .loop-test .taken, c .before .before .before .before .before .loop .inv .1))) in
-    (copy-more (c .before .before .before .before .before .before .before .before .args .s .now) (c .before .before .before .before .before .before .before .before .args .at) (c .before .before .before .before .before .loop .inv .0) h (sym (c .before .before .is-plain .ensures) ∙ not-false _ (c .before .if1 .left)) (wrote-byte _ _ _), omega (arith, c .before .before .before .before .before .loop .inv .1), omega (arith, c .before .before .before .before .before .loop .inv .2))
+    let entry = c .before .before .before .before .before .before .before .before .args in
+    let h : c .before .before .before .before .before .loop .i < length (entry .s .now) = omega (arith, c .before .before .before .before .loop-test .taken, c .before .before .before .before .before .before .before .before .pre .inside (omega (arith, c .before .before .before .before .loop-test .taken, c .before .before .before .before .before .loop .inv .1))) in
+    (copy-more (entry .s .now) (entry .at) (c .before .before .before .before .before .loop .inv .0) h (sym (c .before .before .is-plain .ensures) ∙ not-false _ (c .before .if1 .left)) (wrote-byte _ _ _), omega (arith, c .before .before .before .before .before .loop .inv .1), omega (arith, c .before .before .before .before .before .loop .inv .2))
 
 same-length-2 : tie.Need-same-length-2 Inv-loop μ-loop
 same-length-2 c = c .before .loop .inv .0 .ahead .kept
 
 returns-2 : tie.Need-returns-2 Inv-loop μ-loop
-returns-2 c = copy-part (c .before .before .before .before .args .s .now) (c .before .before .before .before .args .at) (c .before .loop .inv .0) (c .before .before .before .before .args .end) (λ k. absurd (omega (arith, k, c .loop-test .left)))
+returns-2 c = let entry = c .before .before .before .before .args in copy-part (entry .s .now) (entry .at) (c .before .loop .inv .0) (entry .end) (λ k. absurd (omega (arith, k, c .loop-test .left)))
 
 pub copy-sure-spec : {M : Type 1} → statement M
 copy-sure-spec =

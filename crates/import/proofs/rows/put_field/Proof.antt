@@ -27,16 +27,16 @@ ends : (c : tie.After-copy-plain) → c .copy-plain .result .at ≡ past 34 (c .
 ends c = c .copy-plain .ensures .ends ∙ ap (λ p. p + length (plainBytes (drop p (c .before .before .before .before .before .before .before .before .before .args .s .now)))) (c .before .before .before .before .before .before .skip-byte .ensures)
 
 sub-t12 : tie.Need-sub-t12
-sub-t12 c = omega (arith, c .before .before .before .before .before .before .before .before .skip-byte .ensures, past-forward 34 (c .before .before .before .before .before .before .before .before .before .before .before .args .s .now) (c .before .before .before .before .before .before .before .before .before .before .before .args .at))
+sub-t12 c = let entry = c .before .before .before .before .before .before .before .before .before .before .before .args in omega (arith, c .before .before .before .before .before .before .before .before .skip-byte .ensures, past-forward 34 (entry .s .now) (entry .at))
 
 add-t13 : tie.Need-add-t13
-add-t13 c = ⊎-elim (λ l. omega (arith, l, ends ((c .before .before .before)), c .before .before .before .before .before .before .before .before .before .skip-byte .ensures)) (λ l. omega (arith, l, ends ((c .before .before .before)), c .before .before .before .before .before .before .before .before .before .skip-byte .ensures)) (plain-room (c .before .before .before .before .before .before .before .before .before .before .before .before .args .s .now) (c .before .before .before .before .before .before .before .before .before .before .before .before .args .at))
+add-t13 c = let entry = c .before .before .before .before .before .before .before .before .before .before .before .before .args in ⊎-elim (λ l. omega (arith, l, ends ((c .before .before .before)), c .before .before .before .before .before .before .before .before .before .skip-byte .ensures)) (λ l. omega (arith, l, ends ((c .before .before .before)), c .before .before .before .before .before .before .before .before .before .skip-byte .ensures)) (plain-room (entry .s .now) (entry .at))
 
 same-length : tie.Need-same-length
 same-length c = c .before .before .before .copy-plain .ensures .wrote .kept ∙ c .before .before .before .before .before .before .before .put-byte .ensures .kept
 
 returns : tie.Need-returns
-returns c = field-placed (c .before .before .before .before .before .before .before .before .before .before .before .before .args .s .now) (c .before .before .before .before .before .before .before .before .before .before .before .before .args .at) _ (c .before .before .before .before .before .before .before .before .before .skip-byte .ensures) (c .before .before .before .before .before .before .before .put-byte .ensures) (c .before .before .before .copy-plain .ensures .wrote) (omega (arith, c .before .before .before .copy-plain .ensures .ends)) (past-forward 34 (c .before .before .before .before .before .before .before .before .before .before .before .before .args .s .now) (c .before .before .before .before .before .before .before .before .before .before .before .before .args .at))
+returns c = let entry = c .before .before .before .before .before .before .before .before .before .before .before .before .args in field-placed (entry .s .now) (entry .at) _ (c .before .before .before .before .before .before .before .before .before .skip-byte .ensures) (c .before .before .before .before .before .before .before .put-byte .ensures) (c .before .before .before .copy-plain .ensures .wrote) (omega (arith, c .before .before .before .copy-plain .ensures .ends)) (past-forward 34 (entry .s .now) (entry .at))
 
 pub put-field-spec : {M : Type 1} → statement M
 put-field-spec =

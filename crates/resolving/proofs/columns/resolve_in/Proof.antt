@@ -23,7 +23,7 @@ abbrev μ-loop : tie.MeasureT-loop
 μ-loop text tables t query places n columns₀ i₀ columns i = n - i
 
 loop-holds : tie.Need-loop-holds Inv-loop μ-loop
-loop-holds c = (omega arith, refl, λ d k h l p q. resolving-start (columnsAt d (c .before .before .before .before .args .t)) (c .before .before .before .before .args .query .now) (c .before .before .before .before .args .n) (c .before .before .before .before .args .places .now) (c .before .before .before .before .args .columns .now))
+loop-holds c = let entry = c .before .before .before .before .args in (omega arith, refl, λ d k h l p q. resolving-start (columnsAt d (entry .t)) (entry .query .now) (entry .n) (entry .places .now) (entry .columns .now))
 
 same-length : tie.Need-same-length Inv-loop μ-loop
 same-length c = c .before .before .loop .inv .1
@@ -56,7 +56,7 @@ same-length-3 : tie.Need-same-length-3 Inv-loop μ-loop
 same-length-3 c = c .before .before .before .before .before .before .before .loop .inv .1
 
 returns-3 : tie.Need-returns-3 Inv-loop μ-loop
-returns-3 c = λ d k h l p q. resolving-stop (columnsAt d (c .before .before .before .before .before .before .before .before .before .before .before .before .args .t)) (c .before .before .before .before .before .before .before .before .before .before .before .before .args .query .now) (c .before .before .before .before .before .before .before .before .before .before .before .before .args .n) (c .before .before .before .before .before .before .before .before .before .before .before .before .args .places .now) (c .before .before .before .before .before .before .before .loop .columns) (c .before .before .before .before .before .before .before .loop .i) (c .before .before .before .before .before .before .before .loop .inv .2 d k h l p q) (c .before .before .before .before .before .before .loop-test .taken) p (column-read (c .before .before .before .before .before .before .before .before .before .before .before .before .args .text .now) (c .before .before .before .before .before .before .before .before .before .before .before .before .args .tables .now) k (c .before .before .before .before .before .before .before .before .before .before .before .before .args .t) d h l (wordOf (c .before .before .before .before .before .before .before .before .before .before .before .before .args .query .now) (getD (c .before .before .before .before .before .before .before .before .before .before .before .before .args .places .now) (c .before .before .before .before .before .before .before .loop .i) 0)) _ (sym (ap foundAs (c .enum-told .given .1)) ∙ c .before .before .find-column .ensures .0 k (d .tables) h l))
+returns-3 c = let entry = c .before .before .before .before .before .before .before .before .before .before .before .before .args in λ d k h l p q. resolving-stop (columnsAt d (entry .t)) (entry .query .now) (entry .n) (entry .places .now) (c .before .before .before .before .before .before .before .loop .columns) (c .before .before .before .before .before .before .before .loop .i) (c .before .before .before .before .before .before .before .loop .inv .2 d k h l p q) (c .before .before .before .before .before .before .loop-test .taken) p (column-read (entry .text .now) (entry .tables .now) k (entry .t) d h l (wordOf (entry .query .now) (getD (entry .places .now) (c .before .before .before .before .before .before .before .loop .i) 0)) _ (sym (ap foundAs (c .enum-told .given .1)) ∙ c .before .before .find-column .ensures .0 k (d .tables) h l))
 
 mul-columns : tie.Need-mul-columns Inv-loop μ-loop
 mul-columns c = search needs
@@ -71,13 +71,13 @@ loop-less : tie.Need-loop-less Inv-loop μ-loop
 loop-less c = omega arith
 
 loop-again : tie.Need-loop-again Inv-loop μ-loop
-loop-again c = (omega arith, simp length-set (c .before .before .before .before .before .before .before .before .loop .inv .1), λ d k h l p q. resolving-more (columnsAt d (c .before .before .before .before .before .before .before .before .before .before .before .before .before .args .t)) (c .before .before .before .before .before .before .before .before .before .before .before .before .before .args .query .now) (c .before .before .before .before .before .before .before .before .before .before .before .before .before .args .n) (c .before .before .before .before .before .before .before .before .before .before .before .before .before .args .places .now) (c .before .before .before .before .before .before .before .before .loop .columns) (c .before .before .before .before .before .before .before .before .loop .i) (c .before .before .before .before .before .before .before .before .loop .inv .2 d k h l p q) (c .before .before .before .before .before .before .before .loop-test .taken) p (omega (arith, q, c .before .before .before .before .before .before .before .before .loop .inv .1)) (c .before .c .given .0 .0) (column-read (c .before .before .before .before .before .before .before .before .before .before .before .before .before .args .text .now) (c .before .before .before .before .before .before .before .before .before .before .before .before .before .args .tables .now) k (c .before .before .before .before .before .before .before .before .before .before .before .before .before .args .t) d h l (wordOf (c .before .before .before .before .before .before .before .before .before .before .before .before .before .args .query .now) (getD (c .before .before .before .before .before .before .before .before .before .before .before .before .before .args .places .now) (c .before .before .before .before .before .before .before .before .loop .i) 0)) _ (sym (ap foundAs (c .before .c .given .1)) ∙ c .before .before .before .find-column .ensures .0 k (d .tables) h l)))
+loop-again c = let entry = c .before .before .before .before .before .before .before .before .before .before .before .before .before .args in (omega arith, simp length-set (c .before .before .before .before .before .before .before .before .loop .inv .1), λ d k h l p q. resolving-more (columnsAt d (entry .t)) (entry .query .now) (entry .n) (entry .places .now) (c .before .before .before .before .before .before .before .before .loop .columns) (c .before .before .before .before .before .before .before .before .loop .i) (c .before .before .before .before .before .before .before .before .loop .inv .2 d k h l p q) (c .before .before .before .before .before .before .before .loop-test .taken) p (omega (arith, q, c .before .before .before .before .before .before .before .before .loop .inv .1)) (c .before .c .given .0 .0) (column-read (entry .text .now) (entry .tables .now) k (entry .t) d h l (wordOf (entry .query .now) (getD (entry .places .now) (c .before .before .before .before .before .before .before .before .loop .i) 0)) _ (sym (ap foundAs (c .before .c .given .1)) ∙ c .before .before .before .find-column .ensures .0 k (d .tables) h l)))
 
 same-length-4 : tie.Need-same-length-4 Inv-loop μ-loop
 same-length-4 c = c .before .loop .inv .1
 
 returns-4 : tie.Need-returns-4 Inv-loop μ-loop
-returns-4 c = λ d k h l p q. resolving-done (columnsAt d (c .before .before .before .before .before .before .args .t)) (c .before .before .before .before .before .before .args .query .now) (c .before .before .before .before .before .before .args .n) (c .before .before .before .before .before .before .args .places .now) (c .before .loop .columns) (c .before .loop .i) (c .before .loop .inv .2 d k h l p q) (omega arith) p
+returns-4 c = let entry = c .before .before .before .before .before .before .args in λ d k h l p q. resolving-done (columnsAt d (entry .t)) (entry .query .now) (entry .n) (entry .places .now) (c .before .loop .columns) (c .before .loop .i) (c .before .loop .inv .2 d k h l p q) (omega arith) p
 
 pub resolve-in-spec : {M : Type 1} → statement M
 resolve-in-spec =

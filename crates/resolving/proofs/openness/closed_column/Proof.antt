@@ -36,27 +36,27 @@ enum-told-6 c = search needs
 
 returns : tie.Need-returns
 unfolding columnOpen schemeBy
-returns c d text s k p h l a b o e = sym (columns-by text (c .before .before .before .before .before .args .tables .now) k (c .before .before .before .before .before .args .t) d p h l (c .before .before .table-scheme .result) code.Unlabelled (c .before .before .table-scheme .ensures) (c .enum-told .given .1) (wordsAt s (c .before .before .before .before .before .args .n) (c .before .before .before .before .before .args .places .now)) ∙ missing-all _ (wordsAt s (c .before .before .before .before .before .args .n) (c .before .before .before .before .before .args .places .now)) (λ w. refl))
+returns c d text s k p h l a b o e = let entry = c .before .before .before .before .before .args in sym (columns-by text (entry .tables .now) k (entry .t) d p h l (c .before .before .table-scheme .result) code.Unlabelled (c .before .before .table-scheme .ensures) (c .enum-told .given .1) (wordsAt s (entry .n) (entry .places .now)) ∙ missing-all _ (wordsAt s (entry .n) (entry .places .now)) (λ w. refl))
 
 returns-2 : tie.Need-returns-2
 unfolding columnOpen schemeBy
-returns-2 c d text s k p h l a b o e = sym (columns-by text (c .before .before .before .before .before .args .tables .now) k (c .before .before .before .before .before .args .t) d p h l (c .before .before .table-scheme .result) code.ByTable (c .before .before .table-scheme .ensures) (c .enum-told2 .given .1) (wordsAt s (c .before .before .before .before .before .args .n) (c .before .before .before .before .before .args .places .now)) ∙ missing-all _ (wordsAt s (c .before .before .before .before .before .args .n) (c .before .before .before .before .before .args .places .now)) (λ w. refl))
+returns-2 c d text s k p h l a b o e = let entry = c .before .before .before .before .before .args in sym (columns-by text (entry .tables .now) k (entry .t) d p h l (c .before .before .table-scheme .result) code.ByTable (c .before .before .table-scheme .ensures) (c .enum-told2 .given .1) (wordsAt s (entry .n) (entry .places .now)) ∙ missing-all _ (wordsAt s (entry .n) (entry .places .now)) (λ w. refl))
 
 returns-3 : tie.Need-returns-3
 unfolding columnOpen schemeBy
-returns-3 c d text s k p h l a b o e = c .first-closed .ensures d text s k p h l a b o e ∙ sym (columns-by text (c .before .before .before .before .before .before .args .tables .now) k (c .before .before .before .before .before .before .args .t) d p h l (c .before .before .before .table-scheme .result) code.ByColumn (c .before .before .before .table-scheme .ensures) (c .before .enum-told3 .given .1) (wordsAt s (c .before .before .before .before .before .before .args .n) (c .before .before .before .before .before .before .args .places .now)))
+returns-3 c d text s k p h l a b o e = let entry = c .before .before .before .before .before .before .args in c .first-closed .ensures d text s k p h l a b o e ∙ sym (columns-by text (entry .tables .now) k (entry .t) d p h l (c .before .before .before .table-scheme .result) code.ByColumn (c .before .before .before .table-scheme .ensures) (c .before .enum-told3 .given .1) (wordsAt s (entry .n) (entry .places .now)))
 
 returns-4 : tie.Need-returns-4
 unfolding columnOpen schemeBy
-returns-4 c d text s k p h l a b o e = sym (columns-by text (c .before .before .before .before .before .args .tables .now) k (c .before .before .before .before .before .args .t) d p h l (c .before .before .table-scheme .result) code.ByRow (c .before .before .table-scheme .ensures) (c .enum-told4 .given .1) (wordsAt s (c .before .before .before .before .before .args .n) (c .before .before .before .before .before .args .places .now)) ∙ missing-all _ (wordsAt s (c .before .before .before .before .before .args .n) (c .before .before .before .before .before .args .places .now)) (λ w. refl))
+returns-4 c d text s k p h l a b o e = let entry = c .before .before .before .before .before .args in sym (columns-by text (entry .tables .now) k (entry .t) d p h l (c .before .before .table-scheme .result) code.ByRow (c .before .before .table-scheme .ensures) (c .enum-told4 .given .1) (wordsAt s (entry .n) (entry .places .now)) ∙ missing-all _ (wordsAt s (entry .n) (entry .places .now)) (λ w. refl))
 
 returns-5 : tie.Need-returns-5
 unfolding columnOpen schemeBy
-returns-5 c d text s k p h l a b o e = sym (columns-by text (c .before .before .before .before .before .args .tables .now) k (c .before .before .before .before .before .args .t) d p h l (c .before .before .table-scheme .result) code.ByCell (c .before .before .table-scheme .ensures) (c .enum-told5 .given .1) (wordsAt s (c .before .before .before .before .before .args .n) (c .before .before .before .before .before .args .places .now)) ∙ missing-all _ (wordsAt s (c .before .before .before .before .before .args .n) (c .before .before .before .before .before .args .places .now)) (λ w. refl))
+returns-5 c d text s k p h l a b o e = let entry = c .before .before .before .before .before .args in sym (columns-by text (entry .tables .now) k (entry .t) d p h l (c .before .before .table-scheme .result) code.ByCell (c .before .before .table-scheme .ensures) (c .enum-told5 .given .1) (wordsAt s (entry .n) (entry .places .now)) ∙ missing-all _ (wordsAt s (entry .n) (entry .places .now)) (λ w. refl))
 
 returns-6 : tie.Need-returns-6
 unfolding columnOpen schemeBy
-returns-6 c d text s k p h l a b o e = sym (columns-by text (c .before .before .before .before .before .args .tables .now) k (c .before .before .before .before .before .args .t) d p h l (c .before .before .table-scheme .result) code.Nested (c .before .before .table-scheme .ensures) (c .enum-told6 .given .1) (wordsAt s (c .before .before .before .before .before .args .n) (c .before .before .before .before .before .args .places .now)) ∙ missing-all _ (wordsAt s (c .before .before .before .before .before .args .n) (c .before .before .before .before .before .args .places .now)) (λ w. refl))
+returns-6 c d text s k p h l a b o e = let entry = c .before .before .before .before .before .args in sym (columns-by text (entry .tables .now) k (entry .t) d p h l (c .before .before .table-scheme .result) code.Nested (c .before .before .table-scheme .ensures) (c .enum-told6 .given .1) (wordsAt s (entry .n) (entry .places .now)) ∙ missing-all _ (wordsAt s (entry .n) (entry .places .now)) (λ w. refl))
 
 pub closed-column-spec : {M : Type 1} → statement M
 closed-column-spec =

@@ -14,15 +14,16 @@ table-open-requires : tie.Need-table-open-requires
 table-open-requires c κs = search needs
 
 returns : tie.Need-returns
-returns c d text k p h m l a o e = sym (leftmost-fail (tableOpen (openTo d p) (labellingAt d (c .before .before .before .args .t))) (wordOf (c .before .before .before .args .query .now) (c .before .before .before .args .at)) _ (sym (c .before .table-open .ensures d text k p h m l o) ∙ not-true (c .before .table-open .result) (c .if1 .taken)))
+returns c d text k p h m l a o e = let entry = c .before .before .before .args in sym (leftmost-fail (tableOpen (openTo d p) (labellingAt d (entry .t))) (wordOf (entry .query .now) (entry .at)) _ (sym (c .before .table-open .ensures d text k p h m l o) ∙ not-true (c .before .table-open .result) (c .if1 .taken)))
 
 closed-column-requires : tie.Need-closed-column-requires
 closed-column-requires c κs = search needs
 
 returns-2 : tie.Need-returns-2
 returns-2 c d text k p h m l a o e =
-    c .closed-column .ensures d text (c .before .before .before .before .before .before .args .query .now) k p h l (omega (arith, a, c .before .before .closed-column-arg .given .0)) (omega (arith, a, c .before .closed-column-arg2 .given .0)) o e
-    ∙ sym (leftmost-on (tableOpen (openTo d p) (labellingAt d (c .before .before .before .before .before .before .args .t))) (wordOf (c .before .before .before .before .before .before .args .query .now) (c .before .before .before .before .before .before .args .at)) _ (sym (c .before .before .before .before .table-open .ensures d text k p h m l o) ∙ not-false (c .before .before .before .before .table-open .result) (c .before .before .before .if1 .left)))
+    let entry = c .before .before .before .before .before .before .args in
+    c .closed-column .ensures d text (entry .query .now) k p h l (omega (arith, a, c .before .before .closed-column-arg .given .0)) (omega (arith, a, c .before .closed-column-arg2 .given .0)) o e
+    ∙ sym (leftmost-on (tableOpen (openTo d p) (labellingAt d (entry .t))) (wordOf (entry .query .now) (entry .at)) _ (sym (c .before .before .before .before .table-open .ensures d text k p h m l o) ∙ not-false (c .before .before .before .before .table-open .result) (c .before .before .before .if1 .left)))
 
 pub closed-part-spec : {M : Type 1} → statement M
 closed-part-spec =

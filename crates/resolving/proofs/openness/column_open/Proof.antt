@@ -15,7 +15,7 @@ opened-at-requires : tie.Need-opened-at-requires
 opened-at-requires c κs = search needs
 
 returns : tie.Need-returns
-returns c d text k p h l o = column-there text (c .before .before .before .before .args .tables .now) k (c .before .before .before .before .args .t) d p h l (c .before .before .before .before .args .c) (c .before .before .before .table-width .result) (c .before .before .before .table-width .ensures) (c .before .before .if1 .taken) (c .before .before .before .before .args .said .now) o (c .before .column-label .result) (c .before .column-label .ensures) (c .opened-at .result) (c .opened-at .ensures)
+returns c d text k p h l o = let entry = c .before .before .before .before .args in column-there text (entry .tables .now) k (entry .t) d p h l (entry .c) (c .before .before .before .table-width .result) (c .before .before .before .table-width .ensures) (c .before .before .if1 .taken) (entry .said .now) o (c .before .column-label .result) (c .before .column-label .ensures) (c .opened-at .result) (c .opened-at .ensures)
 
 returns-2 : tie.Need-returns-2
 returns-2 c d text k p h l o = column-lacking text (c .before .before .args .tables .now) k (c .before .before .args .t) d p h l (c .before .before .args .c) (c .before .table-width .result) (c .before .table-width .ensures) (omega (arith, c .if1 .left))

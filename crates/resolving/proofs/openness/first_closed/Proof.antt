@@ -47,7 +47,8 @@ shared-slice-read-t15 c = search needs
 
 returns-3 : tie.Need-returns-3 Inv-loop μ-loop
 returns-3 c d text s k p h l a b o e =
-    let g : Named (c .before .before .before .before .before .before .before .before .before .before .args .tables .now) (c .before .before .before .before .before .before .before .before .before .before .args .t) (c .before .before .before .before .before .before .before .before .before .before .args .said .now) (c .before .before .before .before .before .before .before .before .before .before .args .places .now) (c .before .before .before .before .before .before .before .before .before .before .args .n) (c .before .before .before .before .before .before .before .before .before .before .args .columns .now) d p s = record { text = text; k = k; held = h; inside = l; longPlaces = a; longColumns = b; labels = o; are = e } in
+    let entry = c .before .before .before .before .before .before .before .before .before .before .args in
+    let g : Named (entry .tables .now) (entry .t) (entry .said .now) (entry .places .now) (entry .n) (entry .columns .now) d p s = record { text = text; k = k; held = h; inside = l; longPlaces = a; longColumns = b; labels = o; are = e } in
     first-closed g (c .before .before .before .before .before .before .before .loop .i) (c .before .before .before .before .before .before .loop-test .taken) (c .before .before .before .before .before .before .before .loop .inv .1 d p s g)
     (sym (open-found g (c .before .before .before .before .before .before .before .loop .i) (c .before .before .before .before .before .before .loop-test .taken) (c .before .before .column-open .result) (c .before .before .column-open .ensures)) ∙ not-true (c .before .before .column-open .result) (c .before .if3 .taken))
 
@@ -66,7 +67,8 @@ loop-again c = (
 
 returns-4 : tie.Need-returns-4 Inv-loop μ-loop
 returns-4 c d text s k p h l a b o e =
-    let g : Named (c .before .before .before .before .args .tables .now) (c .before .before .before .before .args .t) (c .before .before .before .before .args .said .now) (c .before .before .before .before .args .places .now) (c .before .before .before .before .args .n) (c .before .before .before .before .args .columns .now) d p s = record { text = text; k = k; held = h; inside = l; longPlaces = a; longColumns = b; labels = o; are = e } in
+    let entry = c .before .before .before .before .args in
+    let g : Named (entry .tables .now) (entry .t) (entry .said .now) (entry .places .now) (entry .n) (entry .columns .now) d p s = record { text = text; k = k; held = h; inside = l; longPlaces = a; longColumns = b; labels = o; are = e } in
     none-closed g (λ j less. c .before .loop .inv .1 d p s g j (omega (arith, less, c .loop-test .left)))
 
 pub first-closed-spec : {M : Type 1} → statement M

@@ -44,27 +44,27 @@ enum-told-6 c = search needs
 
 returns : tie.Need-returns
 unfolding tableOpen schemeBy settled
-returns c d text k p h m l o = c .is-public .ensures (table-inside text (c .before .before .before .before .args .tables .now) k (c .before .before .before .before .args .t) d h l) ∙ m .said (c .before .before .before .before .args .t) l .isPublic? ∙ sym (table-by text (c .before .before .before .before .args .tables .now) k (c .before .before .before .before .args .t) d p h l (c .before .before .before .table-scheme .result) code.Unlabelled (c .before .before .before .table-scheme .ensures) (c .before .enum-told .given .1))
+returns c d text k p h m l o = let entry = c .before .before .before .before .args in c .is-public .ensures (table-inside text (entry .tables .now) k (entry .t) d h l) ∙ m .said (entry .t) l .isPublic? ∙ sym (table-by text (entry .tables .now) k (entry .t) d p h l (c .before .before .before .table-scheme .result) code.Unlabelled (c .before .before .before .table-scheme .ensures) (c .before .enum-told .given .1))
 
 returns-2 : tie.Need-returns-2
 unfolding tableOpen schemeBy settled
-returns-2 c d text k p h m l o = c .opened-at .ensures ∙ said-open o (c .before .table-label .result) ∙ ap (λ x. labelOpen d p (some x)) (c .before .table-label .ensures (table-inside text (c .before .before .before .before .before .args .tables .now) k (c .before .before .before .before .before .args .t) d h l)) ∙ sym (table-by text (c .before .before .before .before .before .args .tables .now) k (c .before .before .before .before .before .args .t) d p h l (c .before .before .before .before .table-scheme .result) code.ByTable (c .before .before .before .before .table-scheme .ensures) (c .before .before .enum-told2 .given .1))
+returns-2 c d text k p h m l o = let entry = c .before .before .before .before .before .args in c .opened-at .ensures ∙ said-open o (c .before .table-label .result) ∙ ap (λ x. labelOpen d p (some x)) (c .before .table-label .ensures (table-inside text (entry .tables .now) k (entry .t) d h l)) ∙ sym (table-by text (entry .tables .now) k (entry .t) d p h l (c .before .before .before .before .table-scheme .result) code.ByTable (c .before .before .before .before .table-scheme .ensures) (c .before .before .enum-told2 .given .1))
 
 returns-3 : tie.Need-returns-3
 unfolding tableOpen schemeBy settled
-returns-3 c d text k p h m l o = sym (table-by text (c .before .before .before .args .tables .now) k (c .before .before .before .args .t) d p h l (c .before .before .table-scheme .result) code.ByColumn (c .before .before .table-scheme .ensures) (c .enum-told3 .given .1))
+returns-3 c d text k p h m l o = let entry = c .before .before .before .args in sym (table-by text (entry .tables .now) k (entry .t) d p h l (c .before .before .table-scheme .result) code.ByColumn (c .before .before .table-scheme .ensures) (c .enum-told3 .given .1))
 
 returns-4 : tie.Need-returns-4
 unfolding tableOpen schemeBy settled
-returns-4 c d text k p h m l o = sym (table-by text (c .before .before .before .args .tables .now) k (c .before .before .before .args .t) d p h l (c .before .before .table-scheme .result) code.ByRow (c .before .before .table-scheme .ensures) (c .enum-told4 .given .1))
+returns-4 c d text k p h m l o = let entry = c .before .before .before .args in sym (table-by text (entry .tables .now) k (entry .t) d p h l (c .before .before .table-scheme .result) code.ByRow (c .before .before .table-scheme .ensures) (c .enum-told4 .given .1))
 
 returns-5 : tie.Need-returns-5
 unfolding tableOpen schemeBy settled
-returns-5 c d text k p h m l o = sym (table-by text (c .before .before .before .args .tables .now) k (c .before .before .before .args .t) d p h l (c .before .before .table-scheme .result) code.ByCell (c .before .before .table-scheme .ensures) (c .enum-told5 .given .1))
+returns-5 c d text k p h m l o = let entry = c .before .before .before .args in sym (table-by text (entry .tables .now) k (entry .t) d p h l (c .before .before .table-scheme .result) code.ByCell (c .before .before .table-scheme .ensures) (c .enum-told5 .given .1))
 
 returns-6 : tie.Need-returns-6
 unfolding tableOpen schemeBy settled
-returns-6 c d text k p h m l o = sym (table-by text (c .before .before .before .args .tables .now) k (c .before .before .before .args .t) d p h l (c .before .before .table-scheme .result) code.Nested (c .before .before .table-scheme .ensures) (c .enum-told6 .given .1))
+returns-6 c d text k p h m l o = let entry = c .before .before .before .args in sym (table-by text (entry .tables .now) k (entry .t) d p h l (c .before .before .table-scheme .result) code.Nested (c .before .before .table-scheme .ensures) (c .enum-told6 .given .1))
 
 pub table-open-spec : {M : Type 1} → statement M
 table-open-spec =

@@ -18,13 +18,13 @@ enum-told-3 : tie.Need-enum-told-3
 enum-told-3 c = search needs
 
 returns : tie.Need-returns
-returns c = sym (date-real (c .before .before .before .before .args .line .now) (c .before .before .before .before .args .at) _ _ (sym (c .before .before .read-date .ensures) ∙ c .enum-told .given .1))
+returns c = let entry = c .before .before .before .before .args in sym (date-real (entry .line .now) (entry .at) _ _ (sym (c .before .before .read-date .ensures) ∙ c .enum-told .given .1))
 
 returns-2 : tie.Need-returns-2
-returns-2 c = sym (date-unreal (c .before .before .before .before .args .line .now) (c .before .before .before .before .args .at) _ (sym (c .before .before .read-date .ensures) ∙ c .enum-told2 .given .1))
+returns-2 c = let entry = c .before .before .before .before .args in sym (date-unreal (entry .line .now) (entry .at) _ (sym (c .before .before .read-date .ensures) ∙ c .enum-told2 .given .1))
 
 returns-3 : tie.Need-returns-3
-returns-3 c = sym (date-none (c .before .before .before .before .args .line .now) (c .before .before .before .before .args .at) (sym (c .before .before .read-date .ensures) ∙ c .enum-told3 .given .1))
+returns-3 c = let entry = c .before .before .before .before .args in sym (date-none (entry .line .now) (entry .at) (sym (c .before .before .read-date .ensures) ∙ c .enum-told3 .given .1))
 
 pub date-exists-spec : {M : Type 1} → statement M
 date-exists-spec = tie.close (tie.spec read-date-requires enum-told enum-told-2 enum-told-3 returns returns-2 returns-3)

@@ -36,10 +36,10 @@ byte-at-requires : tie.Need-byte-at-requires Inv-loop μ-loop
 byte-at-requires c κs = search needs
 
 returns : tie.Need-returns Inv-loop μ-loop
-returns c = (
+returns c = let entry = c .before .before .before .before .before .before .args in (
   λ text k d h l. sym (c .before .before .before .loop .inv text k d h l ∙ no-values-left
-      (drop (c .before .before .before .loop .c) (columnsAt d (c .before .before .before .before .before .before .args .t)))
-      (c .before .before .before .before .before .before .args .line .now) (c .before .before .before .loop .i)
+      (drop (c .before .before .before .loop .c) (columnsAt d (entry .t)))
+      (entry .line .now) (c .before .before .before .loop .i)
       (λ z. c .if1 .taken (c .before .byte-at .ensures ∙ z))),
   tt,
 )
@@ -58,12 +58,13 @@ typed-requires c κs = search needs
 
 returns-2 : tie.Need-returns-2 Inv-loop μ-loop
 returns-2 c =
-    let s = c .before .before .before .before .before .before .before .before .before .before .args .line .now in
+    let entry = c .before .before .before .before .before .before .before .before .before .before .args in
+    let s = entry .line .now in
     let i = c .before .before .before .before .before .before .before .loop .i in
     let e = space-here s i _ (c .before .before .before .before .before .byte-at .ensures) (c .before .before .before .before .if1 .left) in (
       (λ text k d h l. sym (c .before .before .before .before .before .before .before .loop .inv text k d h l
-          ∙ types-here text (c .before .before .before .before .before .before .before .before .before .before .args .tables .now) k
-          (c .before .before .before .before .before .before .before .before .before .before .args .t) d h l
+          ∙ types-here text (entry .tables .now) k
+          (entry .t) d h l
           (c .before .before .before .before .before .before .before .before .table-width .result)
           (c .before .before .before .before .before .before .before .before .table-width .ensures) s
           (c .before .before .before .before .before .before .before .loop .c) i
@@ -92,24 +93,25 @@ loop-less c = omega (arith, c .before .before .before .before .before .before .b
 
 loop-again : tie.Need-loop-again Inv-loop μ-loop
 loop-again c =
-    let s = c .before .before .before .before .before .before .before .before .before .before .before .args .line .now in
+    let entry = c .before .before .before .before .before .before .before .before .before .before .before .args in
+    let s = entry .line .now in
     let i = c .before .before .before .before .before .before .before .before .loop .i in
     let e = space-here s i _ (c .before .before .before .before .before .before .byte-at .ensures) (c .before .before .before .before .before .if1 .left) in
     λ text k d h l. c .before .before .before .before .before .before .before .before .loop .inv text k d h l
-    ∙ types-on text (c .before .before .before .before .before .before .before .before .before .before .before .args .tables .now) k
-    (c .before .before .before .before .before .before .before .before .before .before .before .args .t) d h l
+    ∙ types-on text (entry .tables .now) k
+    (entry .t) d h l
     (c .before .before .before .before .before .before .before .before .before .table-width .result)
     (c .before .before .before .before .before .before .before .before .before .table-width .ensures) s
     (c .before .before .before .before .before .before .before .before .loop .c) i
     (c .before .before .before .before .before .before .before .loop-test .taken) (e .0) (kindOf (c .before .before .before .column-kind .result))
     (c .before .before .before .column-kind .ensures)
     (c .before .before .before .before .value-place .result) (c .before .before .before .before .value-place .ensures) (c .before .before .typed .result) (c .before .before .typed .ensures) (not-false (c .before .before .typed .result) (c .before .if2 .left))
-    ∙ ap (λ j. mistypedValue (drop (c .before .before .before .before .before .before .before .before .loop .c + 1) (columnsAt d (c .before .before .before .before .before .before .before .before .before .before .before .args .t))) (valuesAt s j)) (sym (c .item-end-at .ensures))
+    ∙ ap (λ j. mistypedValue (drop (c .before .before .before .before .before .before .before .before .loop .c + 1) (columnsAt d (entry .t))) (valuesAt s j)) (sym (c .item-end-at .ensures))
 
 returns-3 : tie.Need-returns-3 Inv-loop μ-loop
-returns-3 c = (
-  λ text k d h l. sym (c .before .loop .inv text k d h l ∙ no-columns-left (columnsAt d (c .before .before .before .before .args .t)) (c .before .loop .c) (valuesAt (c .before .before .before .before .args .line .now) (c .before .loop .i))
-      (omega (arith, width-read text (c .before .before .before .before .args .tables .now) k (c .before .before .before .before .args .t) d h l (c .before .before .table-width .result) (c .before .before .table-width .ensures), c .loop-test .left))),
+returns-3 c = let entry = c .before .before .before .before .args in (
+  λ text k d h l. sym (c .before .loop .inv text k d h l ∙ no-columns-left (columnsAt d (entry .t)) (c .before .loop .c) (valuesAt (entry .line .now) (c .before .loop .i))
+      (omega (arith, width-read text (entry .tables .now) k (entry .t) d h l (c .before .before .table-width .result) (c .before .before .table-width .ensures), c .loop-test .left))),
   tt,
 )
 

@@ -15,10 +15,10 @@ enum-told : tie.Need-enum-told
 enum-told c = search needs
 
 returns : tie.Need-returns
-returns c = sym (order-range (c .before .before .before .before .before .args .line .now) (c .before .before .before .before .before .args .at) _ _ _ (sym (c .before .before .before .read-range .ensures) ∙ c .before .k .given .1))
+returns c = let entry = c .before .before .before .before .before .args in sym (order-range (entry .line .now) (entry .at) _ _ _ (sym (c .before .before .before .read-range .ensures) ∙ c .before .k .given .1))
 
 returns-2 : tie.Need-returns-2
-returns-2 c = sym (order-none (c .before .before .before .before .args .line .now) (c .before .before .before .before .args .at) (sym (c .before .before .read-range .ensures) ∙ c .enum-told .given .1))
+returns-2 c = let entry = c .before .before .before .before .args in sym (order-none (entry .line .now) (entry .at) (sym (c .before .before .read-range .ensures) ∙ c .enum-told .given .1))
 
 pub in-order-spec : {M : Type 1} → statement M
 in-order-spec = tie.close (tie.spec read-range-requires enum-known-k enum-told returns returns-2)

@@ -20,15 +20,17 @@ enum-told-2 c = search needs
 returns : tie.Need-returns
 unfolding there
 returns c =
-    let s = c .before .before .before .before .args .line .now in
-    let at = c .before .before .before .before .args .at in
+    let entry = c .before .before .before .before .args in
+    let s = entry .line .now in
+    let at = entry .at in
     sym (is-range s at ∙ ap there (end-read range s at forward-range (c .enum-told .given .0 .0) (sym (c .before .before .range-end .ensures) ∙ c .enum-told .given .1) .1))
 
 returns-2 : tie.Need-returns-2
 unfolding there
 returns-2 c =
-    let s = c .before .before .before .before .args .line .now in
-    let at = c .before .before .before .before .args .at in
+    let entry = c .before .before .before .before .args in
+    let s = entry .line .now in
+    let at = entry .at in
     sym (is-range s at ∙ ap there (end-none range s at (sym (c .before .before .range-end .ensures) ∙ c .enum-told2 .given .1)))
 
 pub is-range-spec : {M : Type 1} → statement M

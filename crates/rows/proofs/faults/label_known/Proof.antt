@@ -16,8 +16,9 @@ is-labelled-requires c κs = search needs
 
 returns : tie.Need-returns
 returns c =
-    let s = c .before .before .before .before .args .line .now in
-    let at = c .before .before .before .before .args .at in
+    let entry = c .before .before .before .before .args in
+    let s = entry .line .now in
+    let at = entry .at in
     λ sets d h. plain-known (λ w. there (labelOf d w)) s at (sym (c .before .is-labelled .ensures) ∙ not-true (c .before .is-labelled .result) (c .if1 .taken))
 
 cell-label-requires : tie.Need-cell-label-requires
@@ -35,8 +36,9 @@ enum-told-2 c = search needs
 returns-2 : tie.Need-returns-2
 unfolding labelOf there
 returns-2 c =
-    let s = c .before .before .before .before .before .before .before .before .args .line .now in
-    let at = c .before .before .before .before .before .before .before .before .args .at in
+    let entry = c .before .before .before .before .before .before .before .before .args in
+    let s = entry .line .now in
+    let at = entry .at in
     let second = c .before .before .before .cell-label .ensures in
     λ sets d h.
     bracket-known (λ w. there (labelOf d w)) s at (sym (c .before .before .before .before .before .is-labelled .ensures) ∙ not-false (c .before .before .before .before .before .is-labelled .result) (c .before .before .before .before .if1 .left)) true
@@ -45,8 +47,9 @@ returns-2 c =
 returns-3 : tie.Need-returns-3
 unfolding labelOf there
 returns-3 c =
-    let s = c .before .before .before .before .before .before .before .before .args .line .now in
-    let at = c .before .before .before .before .before .before .before .before .args .at in
+    let entry = c .before .before .before .before .before .before .before .before .args in
+    let s = entry .line .now in
+    let at = entry .at in
     let second = c .before .before .before .cell-label .ensures in
     λ sets d h.
     bracket-known (λ w. there (labelOf d w)) s at (sym (c .before .before .before .before .before .is-labelled .ensures) ∙ not-false (c .before .before .before .before .before .is-labelled .result) (c .before .before .before .before .if1 .left)) false

@@ -25,7 +25,7 @@ returns c =
     (λ sets d h. sym (ap (missing (λ w. there (labelOf d w))) (c .before .leads .ensures .1 (not-true (c .before .leads .result) (c .if1 .taken)) .0) ∙ missing-nil (λ w. there (labelOf d w))), tt)
 
 add-find-label : tie.Need-add-find-label
-add-find-label c = omega (arith, space-here (c .before .before .before .before .args .line .now) (c .before .before .before .before .args .at) _ refl (c .before .leads .ensures .0 (not-false (c .before .leads .result) (c .if1 .left)) .0) .1)
+add-find-label c = let entry = c .before .before .before .before .args in omega (arith, space-here (entry .line .now) (entry .at) _ refl (c .before .leads .ensures .0 (not-false (c .before .leads .result) (c .if1 .left)) .0) .1)
 
 find-label-requires : tie.Need-find-label-requires
 find-label-requires c κs = search needs
@@ -37,18 +37,19 @@ enum-told-2 : tie.Need-enum-told-2
 enum-told-2 c = search needs
 
 add-t11 : tie.Need-add-t11
-add-t11 c = omega (
+add-t11 c = let entry = c .before .before .before .before .before .before .before .args in omega (
   arith,
-  space-here (c .before .before .before .before .before .before .before .args .line .now)
-      (c .before .before .before .before .before .before .before .args .at) _ refl
+  space-here (entry .line .now)
+      (entry .at) _ refl
       (c .before .before .before .before .leads .ensures .0 (not-false (c .before .before .before .before .leads .result) (c .before .before .before .if1 .left)) .0) .1,
 )
 
 returns-2 : tie.Need-returns-2
 unfolding labelOf there unless
 returns-2 c =
-    let s = c .before .before .before .before .before .before .before .args .line .now in
-    let at = c .before .before .before .before .before .before .before .args .at in
+    let entry = c .before .before .before .before .before .before .before .args in
+    let s = entry .line .now in
+    let at = entry .at in
     let l = c .before .before .before .before .leads .ensures .0 (not-false (c .before .before .before .before .leads .result) (c .before .before .before .if1 .left)) in (
       (λ sets d h. sym
           (ap (missing (λ w. there (labelOf d w))) (led-name s at (l .0) (l .1) true (l .2))
@@ -60,8 +61,9 @@ returns-2 c =
 returns-3 : tie.Need-returns-3
 unfolding labelOf there unless
 returns-3 c =
-    let s = c .before .before .before .before .before .before .before .args .line .now in
-    let at = c .before .before .before .before .before .before .before .args .at in
+    let entry = c .before .before .before .before .before .before .before .args in
+    let s = entry .line .now in
+    let at = entry .at in
     let l = c .before .before .before .before .leads .ensures .0 (not-false (c .before .before .before .before .leads .result) (c .before .before .before .if1 .left)) in (
       (λ sets d h. sym
           (ap (missing (λ w. there (labelOf d w))) (led-name s at (l .0) (l .1) true (l .2))

@@ -18,19 +18,19 @@ led-values-fit-requires : tie.Need-led-values-fit-requires
 led-values-fit-requires c κs = search needs
 
 returns : tie.Need-returns
-returns c = λ l ls. c .led-values-fit .ensures ∙ sym (ap (width-fits (c .before .before .before .before .before .args .width)) (values-by
-    (schemeBy (c .before .before .before .before .before .args .scheme) l ls)
+returns c = let entry = c .before .before .before .before .before .args in λ l ls. c .led-values-fit .ensures ∙ sym (ap (width-fits (entry .width)) (values-by
+    (schemeBy (entry .scheme) l ls)
     (sym (c .before .before .leads-label .ensures l ls) ∙ c .before .if1 .taken) (sym (c .before .before .before .has-brackets .ensures l ls))
-    (itemsAt (c .before .before .before .before .before .args .line .now) (c .before .before .before .before .before .args .at))))
+    (itemsAt (entry .line .now) (entry .at))))
 
 values-fit-requires : tie.Need-values-fit-requires
 values-fit-requires c κs = search needs
 
 returns-2 : tie.Need-returns-2
-returns-2 c = λ l ls. c .values-fit .ensures ∙ sym (ap (width-fits (c .before .before .before .before .before .args .width)) (values-by
-    (schemeBy (c .before .before .before .before .before .args .scheme) l ls)
+returns-2 c = let entry = c .before .before .before .before .before .args in λ l ls. c .values-fit .ensures ∙ sym (ap (width-fits (entry .width)) (values-by
+    (schemeBy (entry .scheme) l ls)
     (sym (c .before .before .leads-label .ensures l ls) ∙ c .before .if1 .left) (sym (c .before .before .before .has-brackets .ensures l ls))
-    (itemsAt (c .before .before .before .before .before .args .line .now) (c .before .before .before .before .before .args .at))))
+    (itemsAt (entry .line .now) (entry .at))))
 
 pub row-fits-spec : {M : Type 1} → statement M
 row-fits-spec =

@@ -15,7 +15,7 @@ has-kind-requires : tie.Need-has-kind-requires
 has-kind-requires c κs = search needs
 
 returns : tie.Need-returns
-returns c = c .has-kind .ensures ∙ word-kind (c .before .before .before .before .args .line .now) (c .before .before .before .before .args .at) (kindOf (c .before .before .before .before .args .kind)) (λ z. c .before .if1 .taken (c .before .before .byte-at .ensures ∙ z))
+returns c = let entry = c .before .before .before .before .args in c .has-kind .ensures ∙ word-kind (entry .line .now) (entry .at) (kindOf (entry .kind)) (λ z. c .before .if1 .taken (c .before .before .byte-at .ensures ∙ z))
 
 enum-told : tie.Need-enum-told
 enum-told c = search needs

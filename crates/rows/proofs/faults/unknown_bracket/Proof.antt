@@ -19,17 +19,17 @@ first-unknown-label-requires : tie.Need-first-unknown-label-requires
 first-unknown-label-requires c κs = search needs
 
 returns : tie.Need-returns
-returns c = (
+returns c = let entry = c .before .before .before .before .before .args in (
   λ sets d l ls h. c .first-unknown-label .ensures .0 sets d h ∙ sym (ap
-      (λ b. missing (λ w. there (labelOf d w)) (cond b (bracketLabels (itemsAt (c .before .before .before .before .before .args .line .now) (c .before .before .before .before .before .args .at))) []))
+      (λ b. missing (λ w. there (labelOf d w)) (cond b (bracketLabels (itemsAt (entry .line .now) (entry .at))) []))
       (sym (c .before .before .has-brackets .ensures l ls) ∙ c .before .if1 .taken)),
   c .first-unknown-label .ensures .1,
 )
 
 returns-2 : tie.Need-returns-2
-returns-2 c = (
+returns-2 c = let entry = c .before .before .before .before .args in (
   λ sets d l ls h. sym
-      (ap (λ b. missing (λ w. there (labelOf d w)) (cond b (bracketLabels (itemsAt (c .before .before .before .before .args .line .now) (c .before .before .before .before .args .at))) [])) (sym (c .before .has-brackets .ensures l ls) ∙ c .if1 .left) ∙ missing-nil (λ w. there (labelOf d w))),
+      (ap (λ b. missing (λ w. there (labelOf d w)) (cond b (bracketLabels (itemsAt (entry .line .now) (entry .at))) [])) (sym (c .before .has-brackets .ensures l ls) ∙ c .if1 .left) ∙ missing-nil (λ w. there (labelOf d w))),
   tt,
 )
 

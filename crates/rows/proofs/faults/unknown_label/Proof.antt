@@ -30,22 +30,22 @@ unknown-bracket-requires c κs = search needs
 
 returns : tie.Need-returns
 unfolding rowLabels
-returns c = (
+returns c = let entry = c .before .before .before .before .before .before .args in (
   λ sets d l ls h. sym (missing-first (λ w. there (labelOf d w))
-      (wordOf (c .before .before .before .before .before .before .args .line .now) (c .before .first .given .0 .0))
-      (cond (leadsLabel (schemeBy (c .before .before .before .before .before .before .args .scheme) l ls)) (leadingName (itemsAt (c .before .before .before .before .before .before .args .line .now) (c .before .before .before .before .before .before .args .at))) [])
-      (cond (hasBrackets (schemeBy (c .before .before .before .before .before .before .args .scheme) l ls)) (bracketLabels (itemsAt (c .before .before .before .before .before .before .args .line .now) (c .before .before .before .before .before .before .args .at))) [])
-      (sym (c .before .before .before .unknown-lead .ensures .0 sets d l ls h) ∙ ap (offendingOf (c .before .before .before .before .before .before .args .line .now)) (c .before .first .given .1))),
-  subst (Near (c .before .before .before .before .before .before .args .line .now)) (c .before .first .given .1) (c .before .before .before .unknown-lead .ensures .1),
+      (wordOf (entry .line .now) (c .before .first .given .0 .0))
+      (cond (leadsLabel (schemeBy (entry .scheme) l ls)) (leadingName (itemsAt (entry .line .now) (entry .at))) [])
+      (cond (hasBrackets (schemeBy (entry .scheme) l ls)) (bracketLabels (itemsAt (entry .line .now) (entry .at))) [])
+      (sym (c .before .before .before .unknown-lead .ensures .0 sets d l ls h) ∙ ap (offendingOf (entry .line .now)) (c .before .first .given .1))),
+  subst (Near (entry .line .now)) (c .before .first .given .1) (c .before .before .before .unknown-lead .ensures .1),
 )
 
 returns-2 : tie.Need-returns-2
 unfolding rowLabels
-returns-2 c = (
+returns-2 c = let entry = c .before .before .before .before .before .before .args in (
   λ sets d l ls h. c .unknown-bracket .ensures .0 sets d l ls h ∙ sym (missing-second (λ w. there (labelOf d w))
-      (cond (leadsLabel (schemeBy (c .before .before .before .before .before .before .args .scheme) l ls)) (leadingName (itemsAt (c .before .before .before .before .before .before .args .line .now) (c .before .before .before .before .before .before .args .at))) [])
-      (cond (hasBrackets (schemeBy (c .before .before .before .before .before .before .args .scheme) l ls)) (bracketLabels (itemsAt (c .before .before .before .before .before .before .args .line .now) (c .before .before .before .before .before .before .args .at))) [])
-      (sym (c .before .before .before .unknown-lead .ensures .0 sets d l ls h) ∙ ap (offendingOf (c .before .before .before .before .before .before .args .line .now)) (c .before .enum-told .given .1))),
+      (cond (leadsLabel (schemeBy (entry .scheme) l ls)) (leadingName (itemsAt (entry .line .now) (entry .at))) [])
+      (cond (hasBrackets (schemeBy (entry .scheme) l ls)) (bracketLabels (itemsAt (entry .line .now) (entry .at))) [])
+      (sym (c .before .before .before .unknown-lead .ensures .0 sets d l ls h) ∙ ap (offendingOf (entry .line .now)) (c .before .enum-told .given .1))),
   c .unknown-bracket .ensures .1,
 )
 

@@ -19,17 +19,17 @@ leading-unknown-requires : tie.Need-leading-unknown-requires
 leading-unknown-requires c κs = search needs
 
 returns : tie.Need-returns
-returns c = (
+returns c = let entry = c .before .before .before .before .before .args in (
   λ sets d l ls h. c .leading-unknown .ensures .0 sets d h ∙ sym (ap
-      (λ b. missing (λ w. there (labelOf d w)) (cond b (leadingName (itemsAt (c .before .before .before .before .before .args .line .now) (c .before .before .before .before .before .args .at))) []))
+      (λ b. missing (λ w. there (labelOf d w)) (cond b (leadingName (itemsAt (entry .line .now) (entry .at))) []))
       (sym (c .before .before .leads-label .ensures l ls) ∙ c .before .if1 .taken)),
   c .leading-unknown .ensures .1,
 )
 
 returns-2 : tie.Need-returns-2
-returns-2 c = (
+returns-2 c = let entry = c .before .before .before .before .args in (
   λ sets d l ls h. sym
-      (ap (λ b. missing (λ w. there (labelOf d w)) (cond b (leadingName (itemsAt (c .before .before .before .before .args .line .now) (c .before .before .before .before .args .at))) [])) (sym (c .before .leads-label .ensures l ls) ∙ c .if1 .left) ∙ missing-nil (λ w. there (labelOf d w))),
+      (ap (λ b. missing (λ w. there (labelOf d w)) (cond b (leadingName (itemsAt (entry .line .now) (entry .at))) [])) (sym (c .before .leads-label .ensures l ls) ∙ c .if1 .left) ∙ missing-nil (λ w. there (labelOf d w))),
   tt,
 )
 

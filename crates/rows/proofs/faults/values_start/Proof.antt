@@ -16,13 +16,13 @@ behind-first-requires : tie.Need-behind-first-requires
 behind-first-requires c κs = search needs
 
 returns : tie.Need-returns
-returns c = λ l ls ws h. c .behind-first .ensures (hasBrackets (schemeBy (c .before .before .before .before .args .scheme) l ls)) ws
-    (sym (values-by (schemeBy (c .before .before .before .before .args .scheme) l ls) (sym (c .before .before .leads-label .ensures l ls) ∙ c .before .if1 .taken) refl (itemsAt (c .before .before .before .before .args .line .now) (c .before .before .before .before .args .at))) ∙ h)
+returns c = let entry = c .before .before .before .before .args in λ l ls ws h. c .behind-first .ensures (hasBrackets (schemeBy (entry .scheme) l ls)) ws
+    (sym (values-by (schemeBy (entry .scheme) l ls) (sym (c .before .before .leads-label .ensures l ls) ∙ c .before .if1 .taken) refl (itemsAt (entry .line .now) (entry .at))) ∙ h)
 
 returns-2 : tie.Need-returns-2
-returns-2 c = λ l ls ws h. shaped-at (hasBrackets (schemeBy (c .before .before .before .args .scheme) l ls))
-    (c .before .before .before .args .line .now) (c .before .before .before .args .at) ws
-    (sym (values-by (schemeBy (c .before .before .before .args .scheme) l ls) (sym (c .before .leads-label .ensures l ls) ∙ c .if1 .left) refl (itemsAt (c .before .before .before .args .line .now) (c .before .before .before .args .at))) ∙ h)
+returns-2 c = let entry = c .before .before .before .args in λ l ls ws h. shaped-at (hasBrackets (schemeBy (entry .scheme) l ls))
+    (entry .line .now) (entry .at) ws
+    (sym (values-by (schemeBy (entry .scheme) l ls) (sym (c .before .leads-label .ensures l ls) ∙ c .if1 .left) refl (itemsAt (entry .line .now) (entry .at))) ∙ h)
 
 pub values-start-spec : {M : Type 1} → statement M
 values-start-spec =

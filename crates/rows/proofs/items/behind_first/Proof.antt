@@ -15,20 +15,22 @@ byte-at-requires : tie.Need-byte-at-requires
 byte-at-requires c κs = search needs
 
 add-item-end-at : tie.Need-add-item-end-at
-add-item-end-at c = omega (arith, space-here (c .before .before .before .args .line .now) (c .before .before .before .args .at) _ (c .before .byte-at .ensures) (c .if1 .taken) .1)
+add-item-end-at c = let entry = c .before .before .before .args in omega (arith, space-here (entry .line .now) (entry .at) _ (c .before .byte-at .ensures) (c .if1 .taken) .1)
 
 item-end-at-requires : tie.Need-item-end-at-requires
 item-end-at-requires c κs = search needs
 
 returns : tie.Need-returns
 returns c =
-    let s = c .before .before .before .before .args .line .now in
-    λ b ws h. ap (valuesAt s) (c .item-end-at .ensures) ∙ behind-values s (c .before .before .before .before .args .at) (sym (c .before .before .byte-at .ensures) ∙ c .before .if1 .taken) b ws h
+    let entry = c .before .before .before .before .args in
+    let s = entry .line .now in
+    λ b ws h. ap (valuesAt s) (c .item-end-at .ensures) ∙ behind-values s (entry .at) (sym (c .before .before .byte-at .ensures) ∙ c .before .if1 .taken) b ws h
 
 returns-2 : tie.Need-returns-2
 returns-2 c =
-    let s = c .before .before .before .args .line .now in
-    λ b ws h. absurd (Option·none-ne-some _ (sym (no-values-behind s (c .before .before .before .args .at) (shapedValues b) (λ z. c .if1 .left (c .before .byte-at .ensures ∙ z))) ∙ h))
+    let entry = c .before .before .before .args in
+    let s = entry .line .now in
+    λ b ws h. absurd (Option·none-ne-some _ (sym (no-values-behind s (entry .at) (shapedValues b) (λ z. c .if1 .left (c .before .byte-at .ensures ∙ z))) ∙ h))
 
 pub behind-first-spec : {M : Type 1} → statement M
 behind-first-spec =

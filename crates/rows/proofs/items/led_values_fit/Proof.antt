@@ -17,7 +17,7 @@ leads-requires : tie.Need-leads-requires
 leads-requires c κs = search needs
 
 add-word-end : tie.Need-add-word-end
-add-word-end c = omega (arith, space-here (c .before .before .before .args .line .now) (c .before .before .before .args .at) _ refl (c .before .leads .ensures .0 (c .if1 .taken) .0) .1)
+add-word-end c = let entry = c .before .before .before .args in omega (arith, space-here (entry .line .now) (entry .at) _ refl (c .before .leads .ensures .0 (c .if1 .taken) .0) .1)
 
 word-end-requires : tie.Need-word-end-requires
 word-end-requires c κs = search needs
@@ -28,16 +28,17 @@ values-fit-requires c κs = search needs
 returns : tie.Need-returns
 unfolding wordEndAt
 returns c =
-    let s = c .before .before .before .before .before .args .line .now in
-    let at = c .before .before .before .before .before .args .at in
+    let entry = c .before .before .before .before .before .args in
+    let s = entry .line .now in
+    let at = entry .at in
     let l = c .before .before .before .leads .ensures .0 (c .before .before .if1 .taken) in
     c .values-fit .ensures
-    ∙ ap (λ j. width-fits (c .before .before .before .before .before .args .width) (shapedValues (c .before .before .before .before .before .args .bracketed) (itemsAt s j))) (c .before .word-end .ensures)
-    ∙ ap (width-fits (c .before .before .before .before .before .args .width)) (sym (led-values s at (l .0) (l .1) true (l .2) (shapedValues (c .before .before .before .before .before .args .bracketed))))
+    ∙ ap (λ j. width-fits (entry .width) (shapedValues (entry .bracketed) (itemsAt s j))) (c .before .word-end .ensures)
+    ∙ ap (width-fits (entry .width)) (sym (led-values s at (l .0) (l .1) true (l .2) (shapedValues (entry .bracketed))))
 
 returns-2 : tie.Need-returns-2
 unfolding holdsOf
-returns-2 c = sym (ap (width-fits (c .before .before .before .args .width)) (c .before .leads .ensures .1 (c .if1 .left) .1 (shapedValues (c .before .before .before .args .bracketed))))
+returns-2 c = let entry = c .before .before .before .args in sym (ap (width-fits (entry .width)) (c .before .leads .ensures .1 (c .if1 .left) .1 (shapedValues (entry .bracketed))))
 
 pub led-values-fit-spec : {M : Type 1} → statement M
 led-values-fit-spec =

@@ -37,11 +37,12 @@ item-fits-requires c κs = search needs
 
 returns : tie.Need-returns Inv-loop μ-loop
 returns c =
-    let s = c .before .before .before .before .before .before .args .line .now in
-    let b = c .before .before .before .before .before .before .args .bracketed in
+    let entry = c .before .before .before .before .before .before .args in
+    let s = entry .line .now in
+    let b = entry .bracketed in
     let h = space-here s (c .before .before .before .before .loop .i) _ (c .before .before .before .byte-at .ensures) (c .before .before .if1 .taken) in
     let e : isLabelledAt s (c .before .before .before .before .loop .i + 1) ≡ not b = c .before .item-fits .ensures ∙ ap (λ (r : Bool). cond r b (not b)) (not-true (c .before .item-fits .result) (c .if2 .taken)) in
-    sym (c .before .before .before .before .loop .inv .1 ∙ fits-wrong s (c .before .before .before .before .loop .i) (c .before .before .before .before .loop .n) (c .before .before .before .before .before .before .args .width) b (h .0) e)
+    sym (c .before .before .before .before .loop .inv .1 ∙ fits-wrong s (c .before .before .before .before .loop .i) (c .before .before .before .before .loop .n) (entry .width) b (h .0) e)
 
 add-n : tie.Need-add-n Inv-loop μ-loop
 add-n c = omega (arith, space-here (c .before .before .before .before .before .before .args .line .now) (c .before .before .before .before .loop .i) _ (c .before .before .before .byte-at .ensures) (c .before .before .if1 .taken) .1)
@@ -60,20 +61,22 @@ loop-less c =
 
 loop-again : tie.Need-loop-again Inv-loop μ-loop
 loop-again c =
-    let s = c .before .before .before .before .before .before .before .args .line .now in
-    let b = c .before .before .before .before .before .before .before .args .bracketed in
+    let entry = c .before .before .before .before .before .before .before .args in
+    let s = entry .line .now in
+    let b = entry .bracketed in
     let h = space-here s (c .before .before .before .before .before .loop .i) _ (c .before .before .before .before .byte-at .ensures) (c .before .before .before .if1 .taken) in
     let e : isLabelledAt s (c .before .before .before .before .before .loop .i + 1) ≡ b = c .before .before .item-fits .ensures ∙ ap (λ (r : Bool). cond r b (not b)) (not-false (c .before .before .item-fits .result) (c .before .if2 .left)) in (
       omega (arith, h .1, item-after s (c .before .before .before .before .before .loop .i), c .item-end-at .ensures),
       c .before .before .before .before .before .loop .inv .1
-          ∙ fits-more s (c .before .before .before .before .before .loop .i) (c .before .before .before .before .before .loop .n) (c .before .before .before .before .before .before .before .args .width) b (h .0) e
-          ∙ ap (λ j. countFits (c .before .before .before .before .before .loop .n + 1) (c .before .before .before .before .before .before .before .args .width) (shapedValues b (itemsAt s j))) (sym (c .item-end-at .ensures)),
+          ∙ fits-more s (c .before .before .before .before .before .loop .i) (c .before .before .before .before .before .loop .n) (entry .width) b (h .0) e
+          ∙ ap (λ j. countFits (c .before .before .before .before .before .loop .n + 1) (entry .width) (shapedValues b (itemsAt s j))) (sym (c .item-end-at .ensures)),
     )
 
 returns-2 : tie.Need-returns-2 Inv-loop μ-loop
 returns-2 c =
-    let s = c .before .before .before .before .args .line .now in
-    sym (c .before .before .loop .inv .1 ∙ fits-stop s (c .before .before .loop .i) (c .before .before .loop .n) (c .before .before .before .before .args .width) (c .before .before .before .before .args .bracketed) (λ e. c .if1 .left (c .before .byte-at .ensures ∙ e)))
+    let entry = c .before .before .before .before .args in
+    let s = entry .line .now in
+    sym (c .before .before .loop .inv .1 ∙ fits-stop s (c .before .before .loop .i) (c .before .before .loop .n) (entry .width) (entry .bracketed) (λ e. c .if1 .left (c .before .byte-at .ensures ∙ e)))
 
 pub values-fit-spec : {M : Type 1} → statement M
 values-fit-spec =

@@ -16,7 +16,7 @@ byte-at-requires : tie.Need-byte-at-requires
 byte-at-requires c κs = search needs
 
 add-w : tie.Need-add-w
-add-w c = omega (arith, space-here (c .before .before .before .before .args .line .now) (c .before .before .before .before .args .is) _ (c .before .byte-at .ensures) (c .if1 .taken) .1)
+add-w c = let entry = c .before .before .before .before .args in omega (arith, space-here (entry .line .now) (entry .is) _ (c .before .byte-at .ensures) (c .if1 .taken) .1)
 
 find-label-requires : tie.Need-find-label-requires
 find-label-requires c κs = search needs
@@ -47,7 +47,7 @@ returns c d sets rs ws l L N small h few =
     (λ short e. c .before .before .store-values .ensures 1 (c .before .before .before .before .before .before .before .number .result ∷ []) l small short e) (c .add-row .ensures (a .text .now))
 
 returns-2 : tie.Need-returns-2
-returns-2 c d sets rs ws l L N small h few = absurd (leading-space plainValues (c .before .before .before .before .args .line .now) (c .before .before .before .before .args .is) ws h (λ e. c .if1 .left (c .before .byte-at .ensures ∙ e)))
+returns-2 c d sets rs ws l L N small h few = let entry = c .before .before .before .before .args in absurd (leading-space plainValues (entry .line .now) (entry .is) ws h (λ e. c .if1 .left (c .before .byte-at .ensures ∙ e)))
 
 pub store-by-row-spec : {M : Type 1} → statement M
 store-by-row-spec =

@@ -84,15 +84,15 @@ add-c : tie.Need-add-c Inv-loop μ-loop
 add-c c = omega (arith, space-here (c .before .before .before .before .before .before .before .before .before .before .before .before .before .before .before .args .line .now) (c .before .before .before .before .before .before .before .before .before .before .before .before .loop .j) _ (c .before .before .before .before .before .before .before .before .before .before .before .byte-at .ensures) (c .before .before .before .before .before .before .before .before .before .before .if1 .taken) .1, c .before .before .before .before .before .before .before .before .before .before .before .before .loop .inv .0, c .before .before .before .before .before .before .before .before .before .before .before .before .loop .inv .1)
 
 loop-less : tie.Need-loop-less Inv-loop μ-loop
-loop-less c = omega (
+loop-less c = let entry = c .before .before .before .before .before .before .before .before .before .before .before .before .before .before .before .args in omega (
   arith,
   space-here
-      (c .before .before .before .before .before .before .before .before .before .before .before .before .before .before .before .args .line .now)
+      (entry .line .now)
       (c .before .before .before .before .before .before .before .before .before .before .before .before .loop .j) _
       (c .before .before .before .before .before .before .before .before .before .before .before .byte-at .ensures)
       (c .before .before .before .before .before .before .before .before .before .before .if1 .taken) .1,
   cell-after
-      (c .before .before .before .before .before .before .before .before .before .before .before .before .before .before .before .args .line .now)
+      (entry .line .now)
       (c .before .before .before .before .before .before .before .before .before .before .before .before .loop .j),
   c .cell-end .ensures,
 )
@@ -100,8 +100,9 @@ loop-less c = omega (
 loop-again : tie.Need-loop-again Inv-loop μ-loop
 unfolding labelOf
 loop-again c =
+    let entry = c .before .before .before .before .before .before .before .before .before .before .before .before .before .before .before .args in
     let b = space-here
-    (c .before .before .before .before .before .before .before .before .before .before .before .before .before .before .before .args .line .now)
+    (entry .line .now)
     (c .before .before .before .before .before .before .before .before .before .before .before .before .loop .j) _
     (c .before .before .before .before .before .before .before .before .before .before .before .byte-at .ensures)
     (c .before .before .before .before .before .before .before .before .before .before .if1 .taken) in (
@@ -110,14 +111,14 @@ loop-again c =
         b .1,
         c .before .before .before .before .before .before .before .before .before .before .before .before .loop .inv .0,
         cell-after
-            (c .before .before .before .before .before .before .before .before .before .before .before .before .before .before .before .args .line .now)
+            (entry .line .now)
             (c .before .before .before .before .before .before .before .before .before .before .before .before .loop .j),
         c .cell-end .ensures,
       ),
       c .before .before .before .before .before .before .before .before .before .before .before .before .loop .inv .1,
       λ d sets ls l N small few h. cell-turn l
           (c .before .before .before .before .before .before .before .before .before .before .before .before .loop .j) _ _ (b .0) (b .1) ls d
-          (c .before .before .before .before .before .before .before .before .before .before .before .before .before .before .before .args .is) _ _ _
+          (entry .is) _ _ _
           (c .before .before .before .before .before .before .before .before .before .first-in .ensures)
           (c .before .before .before .before .before .before .before .before .cell-label .ensures)
           (c .before .before .before .before .before .place .ensures)

@@ -55,13 +55,13 @@ add-c c = omega (
 
 loop-less : tie.Need-loop-less Inv-loop μ-loop
 unfolding writtenEndAt
-loop-less c = omega (
+loop-less c = let entry = c .before .before .before .before .before .before .before .before .before .args in omega (
   arith,
-  space-here (c .before .before .before .before .before .before .before .before .before .args .line .now)
+  space-here (entry .line .now)
       (c .before .before .before .before .before .before .loop .j) _ (c .before .before .before .before .before .byte-at .ensures)
       (c .before .before .before .before .if1 .taken) .1,
   value-after
-      (c .before .before .before .before .before .before .before .before .before .args .line .now)
+      (entry .line .now)
       (c .before .before .before .before .before .before .loop .j),
   c .written-end .ensures,
 )
@@ -69,11 +69,12 @@ loop-less c = omega (
 loop-again : tie.Need-loop-again Inv-loop μ-loop
 unfolding writtenEndAt
 loop-again c =
-    let b = space-here (c .before .before .before .before .before .before .before .before .before .args .line .now) (c .before .before .before .before .before .before .loop .j) _ (c .before .before .before .before .before .byte-at .ensures) (c .before .before .before .before .if1 .taken) in (
-      omega (arith, b .1, c .before .before .before .before .before .before .loop .inv .0, value-after (c .before .before .before .before .before .before .before .before .before .args .line .now) (c .before .before .before .before .before .before .loop .j), c .written-end .ensures),
+    let entry = c .before .before .before .before .before .before .before .before .before .args in
+    let b = space-here (entry .line .now) (c .before .before .before .before .before .before .loop .j) _ (c .before .before .before .before .before .byte-at .ensures) (c .before .before .before .before .if1 .taken) in (
+      omega (arith, b .1, c .before .before .before .before .before .before .loop .inv .0, value-after (entry .line .now) (c .before .before .before .before .before .before .loop .j), c .written-end .ensures),
       c .before .before .before .before .before .before .loop .inv .1,
       λ m ls l small few h. value-turn l (c .before .before .before .before .before .before .loop .j) _ _ (b .0) (b .1)
-          (c .before .before .before .before .before .before .before .before .before .args .is) (c .before .before .before .place .ensures)
+          (entry .is) (c .before .before .before .place .ensures)
           (c .written-end .ensures) (c .before .set-value .ensures) small few
           (c .before .before .before .before .before .before .loop .inv .2 m ls l small few h),
     )

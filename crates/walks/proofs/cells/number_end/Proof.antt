@@ -12,7 +12,7 @@ ordered-end-requires : tie.Need-ordered-end-requires
 ordered-end-requires c κs = search needs
 
 returns : tie.Need-returns
-returns c = c .ordered-end .ensures ∙ typed-range (c .before .before .before .before .args .line .now) (c .before .before .before .before .args .at) (sym (c .before .before .byte-at .ensures) ∙ c .before .if1 .taken)
+returns c = let entry = c .before .before .before .before .args in c .ordered-end .ensures ∙ typed-range (entry .line .now) (entry .at) (sym (c .before .before .byte-at .ensures) ∙ c .before .if1 .taken)
 
 read-number-requires : tie.Need-read-number-requires
 read-number-requires c κs = search needs
@@ -24,13 +24,13 @@ enum-told : tie.Need-enum-told
 enum-told c = search needs
 
 returns-2 : tie.Need-returns-2
-returns-2 c = ap numberEnd (sym (c .before .n .given .1) ∙ c .before .before .before .read-number .ensures) ∙ typed-number
-    (c .before .before .before .before .before .before .before .args .line .now) (c .before .before .before .before .before .before .before .args .at)
+returns-2 c = let entry = c .before .before .before .before .before .before .before .args in ap numberEnd (sym (c .before .n .given .1) ∙ c .before .before .before .read-number .ensures) ∙ typed-number
+    (entry .line .now) (entry .at)
     (λ z. c .before .before .before .before .if1 .left (c .before .before .before .before .before .byte-at .ensures ∙ z))
 
 returns-3 : tie.Need-returns-3
-returns-3 c = ap numberEnd (sym (c .enum-told .given .1) ∙ c .before .before .read-number .ensures) ∙ typed-number
-    (c .before .before .before .before .before .before .args .line .now) (c .before .before .before .before .before .before .args .at)
+returns-3 c = let entry = c .before .before .before .before .before .before .args in ap numberEnd (sym (c .enum-told .given .1) ∙ c .before .before .read-number .ensures) ∙ typed-number
+    (entry .line .now) (entry .at)
     (λ z. c .before .before .before .if1 .left (c .before .before .before .before .byte-at .ensures ∙ z))
 
 pub number-end-spec : {M : Type 1} → statement M

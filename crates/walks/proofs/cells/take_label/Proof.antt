@@ -16,7 +16,7 @@ returns : tie.Need-returns
 returns c = (λ rs h. h, λ d sets N. tt)
 
 add-name-end : tie.Need-add-name-end
-add-name-end c = omega (arith, space-here (c .before .before .before .before .args .line .now) (c .before .before .before .before .args .at) _ (c .before .byte-at .ensures) (c .if1 .left) .1)
+add-name-end c = let entry = c .before .before .before .before .args in omega (arith, space-here (entry .line .now) (entry .at) _ (c .before .byte-at .ensures) (c .if1 .left) .1)
 
 name-end-requires : tie.Need-name-end-requires
 name-end-requires c κs = search needs
@@ -31,8 +31,8 @@ returns-2 : tie.Need-returns-2
 returns-2 c = (λ rs h. h, λ d sets N. tt)
 
 add-find-label-to : tie.Need-add-find-label-to
-add-find-label-to c = omega
-    (arith, space-here (c .before .before .before .before .before .before .before .before .args .line .now) (c .before .before .before .before .before .before .before .before .args .at) _ (c .before .before .before .before .before .byte-at .ensures) (c .before .before .before .before .if1 .left) .1)
+add-find-label-to c = let entry = c .before .before .before .before .before .before .before .before .args in omega
+    (arith, space-here (entry .line .now) (entry .at) _ (c .before .before .before .before .before .byte-at .ensures) (c .before .before .before .before .if1 .left) .1)
 
 find-label-to-requires : tie.Need-find-label-to-requires
 find-label-to-requires c κs = search needs

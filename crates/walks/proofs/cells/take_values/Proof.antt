@@ -67,18 +67,18 @@ loop-less : tie.Need-loop-less Inv-loop μ-loop
 loop-less c = omega (arith, c .before .before .before .before .before .before .before .before .before .before .loop-test .taken)
 
 loop-again : tie.Need-loop-again Inv-loop μ-loop
-loop-again c = (
+loop-again c = let entry = c .before .before .before .before .before .before .before .before .before .before .before .before .before .before .args in (
   omega (arith, c .before .before .before .before .before .before .before .before .before .before .loop-test .taken),
   λ rs h. c .set-value .ensures .kept
-      (c .before .before .before .before .before .before .before .before .before .before .before .before .before .before .args .text .now)
-      (c .before .before .before .before .before .before .before .before .before .before .before .before .before .before .args .k) rs (omega arith)
+      (entry .text .now)
+      (entry .k) rs (omega arith)
       (c .before .before .before .before .before .before .before .before .before .before .before .loop .inv .1 rs h),
   λ d count marks ls l T i w small h. values-turn d T i w
-      (c .before .before .before .before .before .before .before .before .before .before .before .before .before .before .args .is)
+      (entry .is)
       (c .before .before .before .before .before .before .before .before .before .before .before .loop .j) (kindOf
       (c .before .before .before .before .before .before .before .column-kind .result)) l small
       (c .before .before .before .before .before .before .before .before .before .before .loop-test .taken) (space-here
-      (c .before .before .before .before .before .before .before .before .before .before .before .before .before .before .args .line .now)
+      (entry .line .now)
       (c .before .before .before .before .before .before .before .before .before .before .before .loop .j) _
       (c .before .before .before .before .before .before .before .before .before .byte-at .ensures)
       (c .before .before .before .before .before .before .before .before .if1 .left))

@@ -17,14 +17,14 @@ byte-at-requires c κs = search needs
 
 returns : tie.Need-returns
 unfolding closesAt
-returns c = rw (ne-eqb (getD (c .before .before .before .args .line .now) (c .before .before .before .args .at) 0) 41 (λ z. c .if1 .taken (c .before .byte-at .ensures ∙ z)))
+returns c = let entry = c .before .before .before .args in rw (ne-eqb (getD (entry .line .now) (entry .at) 0) 41 (λ z. c .if1 .taken (c .before .byte-at .ensures ∙ z)))
 
 add-result : tie.Need-add-result
-add-result c = let h = bracket c in omega (arith, before-end (c .before .before .before .args .line .now) (c .before .before .before .args .at) (λ z. absurd (omega (arith, h, z))))
+add-result c = let entry = c .before .before .before .args in let h = bracket c in omega (arith, before-end (entry .line .now) (entry .at) (λ z. absurd (omega (arith, h, z))))
 
 returns-2 : tie.Need-returns-2
 unfolding closesAt
-returns-2 c = rw (eq-eqb (getD (c .before .before .before .args .line .now) (c .before .before .before .args .at) 0) 41 (bracket c))
+returns-2 c = let entry = c .before .before .before .args in rw (eq-eqb (getD (entry .line .now) (entry .at) 0) 41 (bracket c))
 
 pub closes-spec : {M : Type 1} → statement M
 closes-spec = tie.close (tie.spec byte-at-requires returns add-result returns-2)

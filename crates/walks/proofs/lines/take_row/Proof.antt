@@ -38,10 +38,10 @@ found : (c : tie.After-table-scheme) (d : Doc) {s : coded.Scheme} → Tables
     (c .before .before .found .given .0 .0) s
     (wordOf (c .before .before .before .before .before .before .before .before .before .before .before .before .args .line .now) 5) (d .policy)
 unfolding tableOf wordEndAt
-found c d T told = table-told
-    (wordOf (c .before .before .before .before .before .before .before .before .before .before .before .before .args .line .now) 5) (d .policy) T
+found c d T told = let entry = c .before .before .before .before .before .before .before .before .before .before .before .before .args in table-told
+    (wordOf (entry .line .now) 5) (d .policy) T
     (c .before .before .found .given .1)
-    (c .before .before .before .before .find-table-to .ensures .0 _ (name-ends (c .before .before .before .before .before .before .before .before .before .before .before .before .args .line .now) (c .before .before .before .before .before .before .t .given .0 .0) (ends c)) T)
+    (c .before .before .before .before .find-table-to .ensures .0 _ (name-ends (entry .line .now) (c .before .before .before .before .before .before .t .given .0 .0) (ends c)) T)
     (c .before .before .before .before .find-table-to .ensures .1) told (c .table-scheme .ensures)
 
 as-line : (c : tie.After-table-scheme) (after : List ℕ) (d : Doc) (r : Bool) → TakesItems
@@ -52,10 +52,10 @@ as-line : (c : tie.After-table-scheme) (after : List ℕ) (d : Doc) (r : Bool) �
     (c .before .before .before .before .before .before .before .before .before .before .before .before .args .text .now)
     (c .before .before .before .before .before .before .before .before .before .before .before .before .args .line .now) after
     (c .before .before .before .before .before .before .before .before .before .before .before .before .args .k) d r
-as-line c after d r = line-taken (c .before .before .before .before .before .before .before .before .before .before .before .before .args .line .now)
+as-line c after d r = let entry = c .before .before .before .before .before .before .before .before .before .before .before .before .args in line-taken (entry .line .now)
     (c .before .before .before .before .before .before .t .given .0 .0) (ends c)
-    (c .before .before .before .before .before .before .before .before .before .before .before .before .args .text .now) after
-    (c .before .before .before .before .before .before .before .before .before .before .before .before .args .k) d r
+    (entry .text .now) after
+    (entry .k) d r
 
 returns : tie.Need-returns
 returns c = (λ d sets l L T N. N, λ e. true-not-false e refl)

@@ -74,7 +74,8 @@ returns-7 c = search needs
 
 returns-8 : tie.Need-returns-8
 returns-8 c =
-    let s = c .before .before .before .before .before .before .before .before .before .before .before .before .before .before .before .before .before .before .before .args .line .now in
+    let entry = c .before .before .before .before .before .before .before .before .before .before .before .before .before .before .before .before .before .before .before .args in
+    let s = entry .line .now in
     let b = sym
     (c .before .before .before .before .before .before .before .before .before .before .before .before .before .before .before .before .begins .ensures) ∙ not-false _
     (c .before .before .before .before .before .before .before .before .before .before .before .before .before .before .before .if1 .left) in
@@ -82,8 +83,8 @@ returns-8 c =
     let p = c .before .before .before .before .before .before .before .seek-purpose2 .ensures in
     let first = space s b in
     let inside : 8 < length
-    (c .before .before .before .before .before .before .before .before .before .before .before .before .before .before .before .before .before .before .before .args .line .now) = before-end
-    (c .before .before .before .before .before .before .before .before .before .before .before .before .before .before .before .before .before .before .before .args .line .now) 8
+    (entry .line .now) = before-end
+    (entry .line .now) 8
     (λ z. absurd (omega (arith, first, z))) in
     record {
       form = below-form s b _ _ (n .ends)

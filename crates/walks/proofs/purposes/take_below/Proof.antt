@@ -29,8 +29,9 @@ add-purpose-requires c κs = search needs
 returns-2 : tie.Need-returns-2
 unfolding purposeOf orZero
 returns-2 c =
-    let a = c .before .before .before .before .before .before .args in
-    let small : c .before .before .before .before .before .before .args .k < limit = omega arith in (
+    let entry = c .before .before .before .before .before .before .args in
+    let a = entry in
+    let small : entry .k < limit = omega arith in (
       λ d l B N.
           let ok = below-fine (λ d. d .purposes) purpose limit purpose-kind (a .text .now) (a .purposes .now) (a .k) (a .line .now) 9 (a .v) Unit small Nothing (B .fresh) refl (At (a .parent)) (B .known) (a .parent) refl .is d N in
           record {
