@@ -66,7 +66,7 @@ seenRow-same isOpen s hs ns f x y e v h = rw e (go (rowWithheld isOpen s hs (x .
     go false w = ap shown (seenValues-same f (cellOpen isOpen s (x .labels)) ns (h w) v)
 
 -- rows that are kept alike and seen alike
-mapped-same : {d : Policy} {q : Option QueryForm} (k : Row → Bool) (f : Row → Seen)
+pub mapped-same : {d : Policy} {q : Option QueryForm} {A : Type 0} (k : Row → Bool) (f : Row → A)
     → ((r s : Row) → RowAlike d q r s → k r ≡ k s)
     → ((r s : Row) → RowAlike d q r s → k r ≡ true → f r ≡ f s)
     → {rs ss : List Row} → RowsAlike d q rs ss → map f (keep k rs) ≡ map f (keep k ss)

@@ -5,12 +5,12 @@ use borrow.Author.Tests.{le-ltb, lt-ltb}
 use lib.ListN.{drop, drop-of-length-le, length, length-drop}
 use lib.Seq.{length-take-le}
 use mathlib.Core.List.{List, [], _∷_}
-use mathlib.Core.Option.{Option·none-ne-some}
 use mathlib.Core.Path.{_∙_, _≡_, ap, ap₂, refl, subst, sym}
 use native.Mathlib.Nat.{add-zero}
 use native.Mathlib.Omega.{arith}
 use Rattle.checker.specs.Loading.{HoldsDocument, Loads}
 use Rattle.index.specs.Workspace.{Indexed}
+use Rattle.relations.proofs.LabelLaws.{labels-start}
 use Rattle.stepping.proofs.PlaceLaws.{line-at}
 use Rattle.stepping.specs.Follows.{Grows}
 use Rattle.document.proofs.UniqueNames.{unique-empty, unique-line}
@@ -52,7 +52,7 @@ begins text ps rs bs us cs gs ls ms ts ws = record {
     users = users-start emptyPolicy text us;
     conds = conds-start emptyPolicy text cs;
     grants = record { few = omega arith; are = refl };
-    labels = record { few = omega arith; named = refl; allowed = λ i l e. absurd (Option·none-ne-some _ e); denied = λ i l e. absurd (Option·none-ne-some _ e) };
+    labels = labels-start text ls ms;
     tables = record { few = omega arith; narrow = below-none _; are = refl };
     notes = record { known = refl; said = below-none _ };
     rows = record { few = omega arith; narrow = below-none _; marked = below-none _; are = refl };

@@ -119,7 +119,7 @@ define d (label l ps qs) = record {
   users = d .users;
   condRoles = d .condRoles;
   grants = d .grants;
-  labels = d .labels ++ (record { name = l .bytes; marks = marksOf d ps qs } ∷ []);
+  labels = d .labels ++ (record { name = l .bytes; marks = marksOf d ps qs; deniedNames = map (λ w. w .bytes) qs } ∷ []);
   tables = d .tables;
   notes = d .notes;
 }

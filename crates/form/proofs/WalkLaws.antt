@@ -12,7 +12,7 @@ use native.Mathlib.Omega.{arith}
 use Rattle.condition.specs.Kinds.{Kind, dates, names, numbers}
 use Rattle.form.specs.Form.{ColumnForm, GivenForm, Item, labelled, plain}
 use Rattle.form.specs.FormReader.{column, columnBody, columnKinds, givenForm, item, kinds, labelledColumn, labelledItem, plainItem}
-use Rattle.form.specs.Walks.{cellEndAt, cellLabelIn, columnAt, columnFormsAt, columnKindAt, columnLabelAt, columnLabelsAt, firstIn, givenAt, givensAt, isLabelledAt, itemAt, itemEndAt, itemsAt, kindAt, labelledColumnsAt, listAt, listUpTo, namesAt, pairEndAt, secondIn, thirdIn, tripleEndAt, valuePlace}
+use Rattle.form.specs.Walks.{cellEndAt, cellLabelIn, columnAt, columnFormsAt, columnKindAt, columnLabelAt, columnLabelsAt, firstIn, givenAt, givensAt, isLabelledAt, itemAt, itemEndAt, itemsAt, kindAt, labelledColumnsAt, lastOr, listAt, listEndAt, listUpTo, namesAt, pairEndAt, secondIn, thirdIn, tripleEndAt, valuePlace}
 use Rattle.lists.specs.Lists.{there}
 use Rattle.calendar.proofs.CellValues.{finds-cellValue}
 use Rattle.text.proofs.Closings.{value-onward, value-within}
@@ -60,15 +60,6 @@ module _ {A : Type 0} (what : List ℕ → ℕ → A) (to : List ℕ → ℕ →
   walk-stop at h = enough (length s) (suc (length s)) at (omega arith) (omega arith) ∙ rw (ne-eqb _ _ h)
 
 -- ---- what a reader of a list read is what stands there
-
--- the last of some positions, or this one where there are none
-unfoldable pub lastOr : ℕ → List ℕ → ℕ
-lastOr at [] = at
-lastOr at (e ∷ es) = lastOr e es
-
--- where the items from a position on end: where the last of them ends
-unfoldable pub listEndAt : (List ℕ → ℕ → ℕ) → List ℕ → ℕ → ℕ
-listEndAt to s at = lastOr at (listAt to to s at)
 
 module _ (to : List ℕ → ℕ → ℕ) (s : List ℕ) (onward : (at : ℕ) → at ≤ to s at) where
   -- where a space stands, the list ends where its rest ends
@@ -207,7 +198,7 @@ module _ (s : List ℕ) (at : ℕ) where
 
 -- ---- what each reader of an item reads
 
-finds-name : (s : List ℕ) → Finds s name (wordOf s) (wordEndAt s)
+pub finds-name : (s : List ℕ) → Finds s name (wordOf s) (wordEndAt s)
 finds-name s = finds-word s isName
 
 finds-value : (s : List ℕ) → Finds s value (wordOf s) (wordEndAt s)

@@ -10,7 +10,7 @@ use Rattle.condition.specs.CondForm.{conditionInForm}
 use Rattle.form.specs.Form.{Form, attr, condRole, grant, label, note, public, purpose, role, row, strong, user, weak}
 use Rattle.form.specs.FormReader.{formOf}
 use Rattle.form.specs.TableWords.{tableLine}
-use Rattle.form.specs.Walks.{givensAt, itemsAt, namesAt}
+use Rattle.form.specs.Walks.{denyPlace, givensAt, itemsAt, namesAt}
 use Rattle.text.specs.Reader.{from}
 use Rattle.text.specs.Words.{wordOf}
 use Rattle.form.specs.declared.lines.Line.{Line}
@@ -34,7 +34,7 @@ lineAt s (line.Public t) = some (note (wordOf s t) public)
 lineAt s (line.Weak t l) = some (note (wordOf s t) (weak (wordOf s l)))
 lineAt s (line.Strong t l) = some (note (wordOf s t) (strong (wordOf s l)))
 
--- the places of the answer lie in the line
+-- the places of the answer lie in the line, and the purposes that a label denies stand where they are found from its name on
 unfoldable pub Within : List ℕ → Line → Type 0
 Within s line.Wrong = Unit {0}
 Within s (line.Purpose n) = n ≤ length s
@@ -45,7 +45,7 @@ Within s (line.Attr r a k) = (r ≤ length s) × (a ≤ length s)
 Within s (line.User u r gs) = (u ≤ length s) × (r ≤ length s) × (gs ≤ length s)
 Within s (line.CondRole c r t) = (c ≤ length s) × (r ≤ length s) × (t ≤ length s)
 Within s (line.Grant p c) = (p ≤ length s) × (c ≤ length s)
-Within s (line.Label l ps qs) = (l ≤ length s) × (ps ≤ length s) × (qs ≤ length s)
+Within s (line.Label l ps qs) = (l ≤ length s) × (ps ≤ length s) × (qs ≤ length s) × (namesAt s qs ≡ namesAt s (denyPlace s l))
 Within s (line.Table t k l cs) = (t ≤ length s) × (l ≤ length s) × (cs ≤ length s)
 Within s (line.Row t is) = (t ≤ length s) × (is ≤ length s)
 Within s (line.Public t) = t ≤ length s

@@ -24,6 +24,15 @@ module _ {A : Type 0} (itemAt : List ℕ → ℕ → A) (endAt : List ℕ → �
   unfoldable pub listAt : List ℕ → ℕ → List A
   listAt s at = listUpTo (length s) s at
 
+-- the last of some positions, or this one where there are none
+unfoldable pub lastOr : ℕ → List ℕ → ℕ
+lastOr at [] = at
+lastOr at (e ∷ es) = lastOr e es
+
+-- where the items from a position on end: where the last of them ends
+unfoldable pub listEndAt : (List ℕ → ℕ → ℕ) → List ℕ → ℕ → ℕ
+listEndAt to s at = lastOr at (listAt to to s at)
+
 -- the names from a position on
 unfoldable pub namesAt : List ℕ → ℕ → List Word
 namesAt s at = listAt wordOf wordEndAt s at
@@ -31,6 +40,14 @@ namesAt s at = listAt wordOf wordEndAt s at
 -- where the first word stands in a bracket that opens at a position
 unfoldable pub firstIn : List ℕ → ℕ → ℕ
 firstIn s at = past 40 s at
+
+-- from where on the purposes stand that a label allows, its name standing at a position: behind the keyword of their bracket
+unfoldable pub allowPlace : List ℕ → ℕ → ℕ
+allowPlace s n = wordEndAt s (firstIn s (nextWord s n))
+
+-- from where on those stand that it denies: behind the keyword of the next bracket (02, Q-7)
+unfoldable pub denyPlace : List ℕ → ℕ → ℕ
+denyPlace s n = wordEndAt s (firstIn s (past 32 s (past 41 s (listEndAt wordEndAt s (allowPlace s n)))))
 
 -- where its second word stands
 unfoldable pub secondIn : List ℕ → ℕ → ℕ

@@ -7,7 +7,8 @@ use text::words::End;
 use text::words::word_end;
 use text::words::written_end;
 ghost use mathlib.Core.Path.{_≡_};
-ghost use Rattle.form.specs.Walks.{cellEndAt, cellLabelIn, firstIn, isLabelledAt, itemEndAt, pairEndAt, secondIn, thirdIn, tripleEndAt, valuePlace};
+ghost use Rattle.form.specs.Walks.{cellEndAt, cellLabelIn, denyPlace, firstIn, isLabelledAt, itemEndAt, listEndAt, pairEndAt, secondIn, thirdIn, tripleEndAt, valuePlace};
+ghost use Rattle.text.specs.Walking.{wordEndAt};
 
 // Where the first word or value stands in a bracket that opens at a place; where none opens, the place itself.
 pub fn first_in(line: &[u8], at: usize) -> usize
@@ -93,4 +94,26 @@ pub fn item_end_at(line: &[u8], at: usize) -> usize
         return cell_end(line, at);
     }
     written_end(line, at)
+}
+
+// Where the words from a place on end, each behind a space.
+fn words_end(line: &[u8], at: usize) -> usize
+    ensures { λ r. ⌜ r ≡ listEndAt wordEndAt (now (line .entry)) at ⌝ }
+{
+    let mut j = at;
+    while byte_at(line, j) == b' ' {
+        j = word_end(line, j + 1);
+    }
+    j
+}
+
+// From where on the purposes stand that a label denies, its name standing at a place: behind the bracket of those that it allows, and
+// behind the keyword of their own.
+pub fn deny_place(line: &[u8], n: usize) -> usize
+    ensures { λ r. ⌜ r ≡ denyPlace (now (line .entry)) n ⌝ }
+{
+    let allow = word_end(line, first_in(line, next_word(line, n)));
+    let allowed = skip_byte(line, words_end(line, allow), b')');
+    let deny = skip_byte(line, allowed, b' ');
+    word_end(line, first_in(line, deny))
 }

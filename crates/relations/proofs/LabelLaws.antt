@@ -15,7 +15,7 @@ use Rattle.document.specs.Open.{labelOpen, marksAt}
 use Rattle.document.specs.Policy.{Label, Policy, treeOf}
 use Rattle.workspace.proofs.Finding.{found-first}
 use Rattle.workspace.proofs.TabulatedLaws.{findIndex-map, length-tabulated, tabulated-pushed, tabulated-there}
-use Rattle.relations.specs.Labels.{Labels, Said, SetHolds, SetStored, openedIn, setIn, verdictFor, verdictIn}
+use Rattle.relations.specs.Labels.{Labels, Said, SetHolds, SetStored, deniedAt, labelAt, openedIn, setIn, verdictFor, verdictIn}
 use Rattle.workspace.specs.Tabulated.{tabulated}
 use Rattle.lists.proofs.ListLaws.{any-same, getElem?-grown, getElem?-map, map-append, member-append}
 use Rattle.lists.proofs.Tests.{decide}
@@ -162,6 +162,7 @@ labels-start text ws sets = record {
   named = refl;
   allowed = λ i l e. absurd (Option·none-ne-some _ e);
   denied = λ i l e. absurd (Option·none-ne-some _ e);
+  written = λ i l e. absurd (Option·none-ne-some _ e);
 }
 
 -- ---- one more
@@ -179,7 +180,7 @@ module _ (text ws sets : List ℕ) (k : ℕ) (ls : List Label) (h : Labels text 
 
   -- one label more, its sets stored one after the other
   pub labels-pushed : (w₁ s₁ s₂ : List ℕ) (n : ℕ) (allowed denied xs ys : List ℕ) → length ws ≡ 64 → k < 64 → w₁ ≡ set ws k n → SetStored sets s₁ k allowed → SetStored s₁ s₂ (64 + k) denied
-      → SetHolds allowed xs → SetHolds denied ys → Labels text w₁ s₂ (k + 1) (ls ++ (record { name = wordAt text n; marks = record { allowed = xs; denied = ys } } ∷ []))
+      → SetHolds allowed xs → SetHolds denied ys → Labels text w₁ s₂ (k + 1) (ls ++ (labelAt text n xs ys ∷ []))
   labels-pushed w₁ s₁ s₂ n allowed denied xs ys full l e a b ha hb = record {
     few = omega arith;
     named =
@@ -190,10 +191,11 @@ module _ (text ws sets : List ℕ) (k : ℕ) (ls : List Label) (h : Labels text 
         ∙ sym (map-append (λ l. l .name) ls (new ∷ []));
     allowed = λ i x g. ⊎-elim (λ o. old-allowed i x o) (λ o. subst (λ (y : Label). SetHolds (setIn s₂ i) (y .marks .allowed)) (o .1) (new-allowed i (o .0))) (getElem?-grown ls new i x g);
     denied = λ i x g. ⊎-elim (λ o. old-denied i x o) (λ o. subst (λ (y : Label). SetHolds (setIn s₂ (64 + i)) (y .marks .denied)) (o .1) (new-denied i (o .0))) (getElem?-grown ls new i x g);
+    written = λ i x g. ⊎-elim (λ o. old-written i x o) (λ o. sym (ap (λ (y : Label). y .deniedNames) (o .1)) ∙ new-written i (o .0)) (getElem?-grown ls new i x g);
   }
     where
       new : Label
-      new = record { name = wordAt text n; marks = record { allowed = xs; denied = ys } }
+      new = labelAt text n xs ys
 
       old-allowed : (i : ℕ) (x : Label) → getElem? ls i ≡ some x → SetHolds (setIn s₂ i) (x .marks .allowed)
       old-allowed i x o =
@@ -215,6 +217,16 @@ module _ (text ws sets : List ℕ) (k : ℕ) (ls : List Label) (h : Labels text 
           let m : i ≡ k = o ∙ labels-long in
           subst (λ (s : List ℕ). SetHolds s ys) (sym (ap (λ j. setIn s₂ (64 + j)) m ∙ b .here (omega (arith, l)))) hb
 
+      old-written : (i : ℕ) (x : Label) → getElem? ls i ≡ some x → x .deniedNames ≡ deniedAt text (getD w₁ i 0)
+      old-written i x o =
+          let m : i < k = label-below i x o in
+          h .written i x o ∙ ap (deniedAt text) (sym (getD-set-other ws k i n 0 (λ e. omega (arith, e, m)))) ∙ ap (λ (w : List ℕ). deniedAt text (getD w i 0)) (sym e)
+
+      new-written : (i : ℕ) → i ≡ length ls → deniedAt text n ≡ deniedAt text (getD w₁ i 0)
+      new-written i o =
+          let m : i ≡ k = o ∙ labels-long in
+          ap (deniedAt text) (sym (ap (λ (j : ℕ). getD (set ws k n) j 0) m ∙ getD-set-same ws k n 0 (omega (arith, l, full)))) ∙ ap (λ (w : List ℕ). deniedAt text (getD w i 0)) (sym e)
+
   -- ---- what one says
 
   -- a label says what its sets say
@@ -230,12 +242,12 @@ module _ (text ws sets : List ℕ) (k : ℕ) (ls : List Label) (h : Labels text 
 -- ---- what each one says
 
 -- a place within a list has an element, one behind it has none
-element-there : {A : Type 0} (xs : List A) (i : ℕ) → i < length xs → (x : A) × (getElem? xs i ≡ some x)
+pub element-there : {A : Type 0} (xs : List A) (i : ℕ) → i < length xs → (x : A) × (getElem? xs i ≡ some x)
 element-there [] i h = absurd (omega (arith, h))
 element-there (x ∷ xs) zero h = (x, refl)
 element-there (x ∷ xs) (suc i) h = element-there xs i (omega (arith, h))
 
-element-none : {A : Type 0} (xs : List A) (i : ℕ) → length xs ≤ i → getElem? xs i ≡ none
+pub element-none : {A : Type 0} (xs : List A) (i : ℕ) → length xs ≤ i → getElem? xs i ≡ none
 element-none [] i h = refl
 element-none (x ∷ xs) zero h = absurd (omega (arith, h))
 element-none (x ∷ xs) (suc i) h = element-none xs i (omega (arith, h))

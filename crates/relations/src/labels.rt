@@ -12,7 +12,7 @@ use workspace::layout::SET_WORDS;
 use workspace::layout::VERDICTS;
 use workspace::store::put;
 ghost use Prim.Native.Nat.{_+_, _<_, _≤_, ℕ};
-ghost use lib.ListN.{drop, getElem?, length, take};
+ghost use lib.ListN.{drop, getD, getElem?, length, take};
 ghost use lib.Seq.{paste};
 ghost use mathlib.Core.List.{List, [], _++_, _∷_};
 ghost use mathlib.Core.Option.{some};
@@ -20,7 +20,7 @@ ghost use mathlib.Core.Path.{_≡_};
 ghost use Rattle.document.specs.Open.{marksAt};
 ghost use Rattle.document.specs.Policy.{Label, Policy, treeOf};
 ghost use Rattle.workspace.specs.Found.{FoundBelow, foundAs};
-ghost use Rattle.relations.specs.Labels.{Labels, Said, SetHolds, SetStored, openedIn, setIn, verdictFor, verdictIn};
+ghost use Rattle.relations.specs.Labels.{Labels, Said, SetHolds, SetStored, labelAt, openedIn, setIn, verdictFor, verdictIn};
 ghost use Rattle.lists.specs.Lists.{findIndex};
 ghost use Rattle.purpose.specs.Meaning.{ClosureOf};
 ghost use Rattle.purpose.specs.Members.{words};
@@ -49,6 +49,13 @@ pub fn find_label(text: &[u8], ws: &[usize; LABELS], k: usize, line: &[u8], u: u
     ensures { λ r. ⌜ ((sets : List ℕ) (ls : List Label) → Labels (now (text .entry)) (now (ws .entry)) sets k ls → foundAs r ≡ findIndex (λ x. isCalled (wordOf (now (line .entry)) u) (x .name)) ls) × FoundBelow r k ⌝ }
 {
     find_label_to(text, ws, k, line, u, word_end(line, u))
+}
+
+// The position of the name of label i.
+pub fn label_name(ws: &[usize; LABELS], i: usize) -> usize
+    ensures { λ r. ⌜ (i < 64 → r ≡ getD (now (ws .entry)) i 0) ⌝ }
+{
+    if i < LABELS { ws[i] } else { 0 }
 }
 
 // The words of a set that stand from a place on.
@@ -105,7 +112,7 @@ pub fn add_label(
     allowed: [u64; WORDS],
     denied: [u64; WORDS],
 )
-    ensures { λ _. ⌜ ((text : List ℕ) (ls : List Label) (xs ys : List ℕ) → Labels text (now (ws .entry)) (now (sets .entry)) k ls → k < 64 → SetHolds allowed xs → SetHolds denied ys → Labels text (now (ws .exit)) (now (sets .exit)) (k + 1) (ls ++ (record { name = wordAt text pos; marks = record { allowed = xs; denied = ys } } ∷ []))) ⌝ }
+    ensures { λ _. ⌜ ((text : List ℕ) (ls : List Label) (xs ys : List ℕ) → Labels text (now (ws .entry)) (now (sets .entry)) k ls → k < 64 → SetHolds allowed xs → SetHolds denied ys → Labels text (now (ws .exit)) (now (sets .exit)) (k + 1) (ls ++ (labelAt text pos xs ys ∷ []))) ⌝ }
 {
     if k < LABELS {
         put(ws, k, pos);
@@ -136,7 +143,7 @@ fn label_verdict(closure: Closure, sets: &[u64; SET_WORDS], i: usize) -> Verdict
 }
 
 // What label i, one of k, says of the purpose whose closure is given; one that is not there says nothing.
-fn verdict_there(closure: Closure, sets: &[u64; SET_WORDS], k: usize, i: usize) -> Verdict
+pub fn verdict_there(closure: Closure, sets: &[u64; SET_WORDS], k: usize, i: usize) -> Verdict
     ensures { λ r. ⌜ ((text ws : List ℕ) (d : Policy) (p : ℕ) → Labels text ws (now (sets .entry)) k (d .labels) → ClosureOf (treeOf (d .purposes)) p closure → r ≡ verdict (treeOf (d .purposes)) (marksAt d (some i)) p) ⌝ }
 {
     if i < k {

@@ -9,3 +9,4 @@ pub mod NearLaws
 pub mod Outcomes
 pub mod PassLaws
 pub mod PlaceLaws
+pub mod LabelPlaces

@@ -1,6 +1,6 @@
 -- A line in its text: its words stand there, and it is the bytes from its start to its end. Assumes nothing.
 use Prim.Native.Nat.{_+_, _-_, _≤_, ℕ}
-use borrow.Author.Tests.{eqb-true, ltb-false, ltb-true}
+use borrow.Author.Tests.{eqb-true, ltb-false, ltb-true, ne-eqb}
 use lib.Dec.{eqb, ltb}
 use lib.ListN.{drop, drop-of-length-le, getD, length, length-drop, length-take, take, take-append-drop}
 use lib.Seq.{drop-append-le, drop-drop, take-at}
@@ -25,14 +25,14 @@ unfolding nameBytes
 run-before [] rest h = h
 run-before (b ∷ bs) rest h = ap (λ l. cond (isNameByte b) (b ∷ l) []) (run-before bs rest h)
 
--- what no bracket closes opens none
-no-bracket : (bs : List ℕ) → toClosing bs ≡ [] → eqb (firstByte bs) 40 ≡ false
+-- what no bracket closes begins with a line feed, if with anything
+no-byte : (c : ℕ) → (c ≡ 0 → ⊥) → (c ≡ 10 → ⊥) → (bs : List ℕ) → toClosing bs ≡ [] → eqb (firstByte bs) c ≡ false
 unfolding toClosing
-no-bracket [] h = refl
-no-bracket (b ∷ bs) h = never (eqb b 40) (λ e. go (eqb-true b 40 e) h)
+no-byte c nz nf [] h = ne-eqb 0 c (λ e. nz (sym e))
+no-byte c nz nf (b ∷ bs) h = never (eqb b c) (λ e. go (eqb-true b c e) h)
   where
-    go : b ≡ 40 → cond (eqb b 10) [] (b ∷ cond (eqb b 41) [] (toClosing bs)) ≡ [] → ⊥
-    go e k = absurd (omega (arith, ap length (rw e at k)))
+    go : b ≡ c → cond (eqb b 10) [] (b ∷ cond (eqb b 41) [] (toClosing bs)) ≡ [] → ⊥
+    go e k = absurd (omega (arith, ap length (rw (ne-eqb b 10 (λ z. nf (sym e ∙ z))) at k)))
 
 module _ {text : List ℕ} {at : ℕ} {line : List ℕ} (l : LineAt text at line) where
   -- a word of the line stands in the text
@@ -48,13 +48,16 @@ module _ {text : List ℕ} {at : ℕ} {line : List ℕ} (l : LineAt text at line
   left-in-line : (p : ℕ) → p ≤ length line → drop (at + p) text ≡ drop p line ++ l .rest
   left-in-line p h = sym (drop-drop p at text) ∙ ap (drop p) (l .is) ∙ drop-append-le p line (l .rest) h
 
-  -- the byte at a place of the line, and where it ends none that opens a bracket
-  opens-in-line : (p : ℕ) → p ≤ length line → eqb (getD text (at + p) 0) 40 ≡ eqb (getD line p 0) 40
-  opens-in-line p h = ap (λ (b : ℕ). eqb b 40) (sym (first-drop text (at + p)) ∙ ap firstByte (left-in-line p h)) ∙ go (drop p line) refl
+  -- a byte that is no line feed stands at a place of the text if it stands at that of the line
+  pub byte-in-line : (c : ℕ) → (c ≡ 0 → ⊥) → (c ≡ 10 → ⊥) → (p : ℕ) → p ≤ length line → eqb (getD text (at + p) 0) c ≡ eqb (getD line p 0) c
+  byte-in-line c nz nf p h = ap (λ (b : ℕ). eqb b c) (sym (first-drop text (at + p)) ∙ ap firstByte (left-in-line p h)) ∙ go (drop p line) refl
     where
-      go : (bs : List ℕ) → drop p line ≡ bs → eqb (firstByte (bs ++ l .rest)) 40 ≡ eqb (getD line p 0) 40
-      go [] e = no-bracket (l .rest) (l .closes) ∙ ap (λ (b : ℕ). eqb b 40) (sym (ap firstByte e) ∙ first-drop line p)
-      go (b ∷ bs) e = ap (λ (b : ℕ). eqb b 40) (sym (ap firstByte e) ∙ first-drop line p)
+      go : (bs : List ℕ) → drop p line ≡ bs → eqb (firstByte (bs ++ l .rest)) c ≡ eqb (getD line p 0) c
+      go [] e = no-byte c nz nf (l .rest) (l .closes) ∙ sym (ne-eqb 0 c (λ z. nz (sym z))) ∙ ap (λ (b : ℕ). eqb b c) (sym (ap firstByte e) ∙ first-drop line p)
+      go (b ∷ bs) e = ap (λ (b : ℕ). eqb b c) (sym (ap firstByte e) ∙ first-drop line p)
+
+  opens-in-line : (p : ℕ) → p ≤ length line → eqb (getD text (at + p) 0) 40 ≡ eqb (getD line p 0) 40
+  opens-in-line = byte-in-line 40 (λ z. absurd (omega (arith, z))) (λ z. absurd (omega (arith, z)))
 
   -- and a value does, as it is written
   written-in-line : (p : ℕ) → p ≤ length line → writtenAt text (at + p) ≡ writtenAt line p

@@ -8,18 +8,19 @@ use native.Mathlib.Omega.{arith}
 use Rattle.document.specs.Bounds.{overBound}
 use Rattle.document.specs.Lookup.{purposeOf}
 use Rattle.document.specs.Meaning.{add, define, marksOf}
-use Rattle.document.specs.Policy.{Doc}
+use Rattle.document.specs.Policy.{Doc, Label}
 use Rattle.form.proofs.WalkSteps.{names-more, names-stop}
 use Rattle.form.specs.Form.{label}
-use Rattle.form.specs.Walks.{namesAt}
+use Rattle.form.specs.Walks.{denyPlace, namesAt}
 use Rattle.relations.proofs.LabelLaws.{holds-insert-behind, holds-none, labels-long}
 use Rattle.workspace.specs.Found.{FoundBelow, foundAs}
-use Rattle.relations.specs.Labels.{Labels, SetHolds}
+use Rattle.relations.specs.Labels.{Labels, SetHolds, deniedAt, labelAt}
 use Rattle.workspace.specs.declared.found.Found.{Found}
 use Rattle.workspace.specs.declared.found.Found.the-variants as found
 use Rattle.lists.specs.Lists.{orZero}
 use Rattle.purpose.specs.Compliance.{Same}
 use Rattle.purpose.specs.Members.{including, limit, members}
+use Rattle.stepping.proofs.LabelPlaces.{denied-placed}
 use Rattle.stepping.proofs.PassLaws.{passed}
 use Rattle.stepping.proofs.PlaceLaws.{word-placed}
 use Rattle.stepping.specs.Stored.{LineAt, Passes}
@@ -59,11 +60,14 @@ found-small (found.At n) k b l = omega (arith, b, l)
 
 -- the label that is stored is what the line adds
 pub label-stored : {text : List ℕ} {at : ℕ} {line : List ℕ} {ws ws′ sets sets′ : List ℕ} {k : ℕ} (l : LineAt text at line) (d : Doc) (n pos : ℕ) → n ≤ length line → (at + n ≤ length text → pos ≡ at + n)
-    → (ps qs : List Word) → Labels text ws sets k (d .policy .labels) → Passes d line (label (wordOf line n) ps qs)
-    → ((k < 64) → Labels text ws′ sets′ (k + 1) (d .policy .labels ++ (record { name = wordAt text pos; marks = record { allowed = map (λ w. orZero (purposeOf (d .policy) w)) ps; denied = map (λ w. orZero (purposeOf (d .policy) w)) qs } } ∷ [])))
+    → (ps qs : List Word) → qs ≡ namesAt line (denyPlace line n) → Labels text ws sets k (d .policy .labels) → Passes d line (label (wordOf line n) ps qs)
+    → ((k < 64) → Labels text ws′ sets′ (k + 1) (d .policy .labels ++ (labelAt text pos (map (λ w. orZero (purposeOf (d .policy) w)) ps) (map (λ w. orZero (purposeOf (d .policy) w)) qs) ∷ [])))
     → Labels text ws′ sets′ (k + 1) (add d (label (wordOf line n) ps qs) .policy .labels)
-unfolding add define overBound marksOf
-label-stored {text} {at} {line} {ws} {ws′} {sets} {sets′} {k} l d n pos h e ps qs N ok more =
+unfolding add define overBound marksOf deniedAt
+label-stored {text} {at} {line} {ws} {ws′} {sets} {sets′} {k} l d n pos h e ps qs denies N ok more =
     let room : length (d .policy .labels) < 64 = leb-false 64 _ (passed d line (label (wordOf line n) ps qs) ok .room) in
-    subst (λ (x : List ℕ). Labels text ws′ sets′ (k + 1) (d .policy .labels ++ (record { name = x; marks = marksOf (d .policy) ps qs } ∷ []))) (word-placed l n pos h e)
+    let written : deniedAt text pos ≡ map (λ w. w .bytes) qs = denied-placed l n pos h e ∙ ap (map (λ (w : Word). w .bytes)) (sym denies) in
+    let same : labelAt text pos (map (λ w. orZero (purposeOf (d .policy) w)) ps) (map (λ w. orZero (purposeOf (d .policy) w)) qs) ≡ record { name = wordAt line n; marks = marksOf (d .policy) ps qs; deniedNames = map (λ w. w .bytes) qs }
+    = λ i. record { name = word-placed l n pos h e i; marks = marksOf (d .policy) ps qs; deniedNames = written i } in
+    subst (λ (x : Label). Labels text ws′ sets′ (k + 1) (d .policy .labels ++ (x ∷ []))) same
     (more (subst (λ (m : ℕ). m < 64) (labels-long text ws sets k (d .policy .labels) N) room))

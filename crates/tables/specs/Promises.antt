@@ -2,13 +2,14 @@
 use Prim.Native.Nat.{_+_, _<_, _≤_, ℕ}
 use lib.ListN.{length}
 use mathlib.Core.List.{List, map}
+use mathlib.Core.Path.{_≡_}
 use Rattle.document.specs.Check.{checkForm}
 use Rattle.document.specs.Lookup.{labelOf}
 use Rattle.document.specs.Meaning.{add, columnMeant}
 use Rattle.document.specs.Policy.{Doc, Noted, Policy}
 use Rattle.form.specs.Form.{label}
 use Rattle.form.specs.TableWords.{tableLine}
-use Rattle.form.specs.Walks.{columnLabelsAt, labelledColumnsAt, namesAt}
+use Rattle.form.specs.Walks.{columnLabelsAt, denyPlace, labelledColumnsAt, namesAt}
 use Rattle.index.specs.Workspace.{Indexed}
 use Rattle.lists.specs.Lists.{orZero}
 use Rattle.principals.specs.Nodes.{Nodes}
@@ -34,13 +35,13 @@ LabelFaultPromise text purposes purposesCount labels k line l allowed denied r =
 abbrev pub StoreLabelPromise : (text purposes : List ℕ) (purposesCount : ℕ) (labels labels′ sets sets′ : List ℕ) (k at : ℕ) (line : List ℕ) (l allowed denied : ℕ) → Type 0
 StoreLabelPromise text purposes purposesCount labels labels′ sets sets′ k at line l allowed denied =
     (d : Doc) → LineAt text at line → Nodes limit text purposes purposesCount (d .policy .purposes) → Labels text labels sets k (d .policy .labels) →
-    Passes d line (label (wordOf line l) (namesAt line allowed) (namesAt line denied)) → l ≤ length line →
+    Passes d line (label (wordOf line l) (namesAt line allowed) (namesAt line denied)) → l ≤ length line → namesAt line denied ≡ namesAt line (denyPlace line l) →
     Labels text labels′ sets′ (k + 1) (add d (label (wordOf line l) (namesAt line allowed) (namesAt line denied)) .policy .labels)
 
 -- steps::step_label: a label, whose name stands at l, with the purposes from two places on
 abbrev pub StepLabelPromise : (text : List ℕ) (at : ℕ) (line purposes labels labels′ sets sets′ : List ℕ) (c : Counts) (l allowed denied : ℕ) (s : Step) → Type 0
 StepLabelPromise text at line purposes labels labels′ sets sets′ c l allowed denied s =
-    (d : Doc) (rs′ bs′ us′ cs′ gs′ ts′ ws′ : List ℕ) → LineAt text at line → (l ≤ length line) →
+    (d : Doc) (rs′ bs′ us′ cs′ gs′ ts′ ws′ : List ℕ) → LineAt text at line → (l ≤ length line) → namesAt line denied ≡ namesAt line (denyPlace line l) →
     Indexed text purposes rs′ bs′ us′ cs′ gs′ labels sets ts′ ws′ c d →
     Follows (Indexed text purposes rs′ bs′ us′ cs′ gs′ labels′ sets′ ts′ ws′) line (checkForm d line (label (wordOf line l) (namesAt line allowed) (namesAt line denied))) s
 

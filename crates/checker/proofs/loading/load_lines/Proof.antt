@@ -28,12 +28,13 @@ sub-t24 c = omega (arith, c .before .before .loop-test .taken)
 
 returns : tie.Need-returns Inv-loop μ-loop
 returns c small =
+    let entry = c .before .before .before .before .before .args in
     let I = c .before .before .before .loop .inv in
     loads-refused _
-    (text-fits _ small ∙ I .rest ∙ turn-open (c .before .before .before .before .before .args .text .now) (c .before .before .before .loop .at)
+    (text-fits _ small ∙ I .rest ∙ turn-open (entry .text .now) (c .before .before .before .loop .at)
     (c .before .line-end .result) (c .before .line-end .ensures) (I .doc) (c .before .before .before .loop .n)
     (c .before .before .loop-test .taken) (omega (arith, c .if1 .taken)))
-    (open-moved (c .before .before .before .before .before .args .text .now) (c .before .before .before .loop .at) (c .before .line-end .result) (c .before .line-end .ensures) (I .within))
+    (open-moved (entry .text .now) (c .before .before .before .loop .at) (c .before .line-end .result) (c .before .line-end .ensures) (I .within))
 
 sub-line : tie.Need-sub-line Inv-loop μ-loop
 sub-line c = omega (arith, line-from (c .before .before .before .before .before .args .text .now) (c .before .before .before .loop .at) (c .before .line-end .result) (c .before .line-end .ensures))
@@ -63,9 +64,10 @@ fed c = omega (
 
 refusal-of-requires : tie.Need-refusal-of-requires Inv-loop μ-loop
 refusal-of-requires c κs =
+    let entry = c .before .before .before .before .before .before .before .before .before .before .before .before .before .before .before .before .before .before .before .before .args in
     let I = c .before .before .before .before .before .before .before .before .before .before .before .before .before .before .before .before .before .before .loop .inv in
     let F = c .before .before .before .step-line .ensures (I .doc) (line-placed
-    (c .before .before .before .before .before .before .before .before .before .before .before .before .before .before .before .before .before .before .before .before .args .text .now)
+    (entry .text .now)
     (c .before .before .before .before .before .before .before .before .before .before .before .before .before .before .before .before .before .before .loop .at)
     (c .before .before .before .before .before .before .before .before .before .before .before .before .before .before .before .before .line-end .result)
     (c .before .before .before .before .before .before .before .before .before .before .before .before .before .before .before .before .line-end .ensures)
@@ -73,13 +75,13 @@ refusal-of-requires c κs =
       omega (
         arith,
         line-length
-            (c .before .before .before .before .before .before .before .before .before .before .before .before .before .before .before .before .before .before .before .before .args .text .now)
+            (entry .text .now)
             (c .before .before .before .before .before .before .before .before .before .before .before .before .before .before .before .before .before .before .loop .at)
             (c .before .before .before .before .before .before .before .before .before .before .before .before .before .before .before .before .line-end .result)
             (c .before .before .before .before .before .before .before .before .before .before .before .before .before .before .before .before .line-end .ensures)
             (I .within),
         line-from
-            (c .before .before .before .before .before .before .before .before .before .before .before .before .before .before .before .before .before .before .before .before .args .text .now)
+            (entry .text .now)
             (c .before .before .before .before .before .before .before .before .before .before .before .before .before .before .before .before .before .before .loop .at)
             (c .before .before .before .before .before .before .before .before .before .before .before .before .before .before .before .before .line-end .result)
             (c .before .before .before .before .before .before .before .before .before .before .before .before .before .before .before .before .line-end .ensures),
@@ -93,16 +95,17 @@ refusal-of-requires c κs =
 
 returns-2 : tie.Need-returns-2 Inv-loop μ-loop
 returns-2 c small =
+    let entry = c .before .before .before .before .before .before .before .before .before .before .before .before .before .before .before .before .before .before .before .before .before .args in
     let I = c .before .before .before .before .before .before .before .before .before .before .before .before .before .before .before .before .before .before .before .loop .inv in
     let F = c .before .before .before .before .step-line .ensures (I .doc) (line-placed
-    (c .before .before .before .before .before .before .before .before .before .before .before .before .before .before .before .before .before .before .before .before .before .args .text .now)
+    (entry .text .now)
     (c .before .before .before .before .before .before .before .before .before .before .before .before .before .before .before .before .before .before .before .loop .at)
     (c .before .before .before .before .before .before .before .before .before .before .before .before .before .before .before .before .before .line-end .result)
     (c .before .before .before .before .before .before .before .before .before .before .before .before .before .before .before .before .before .line-end .ensures)
     (fed (c .before .before .before .before))) (I .held) (I .unique) in
     loads-refused (c .refusal-of .result)
     (text-fits _ small ∙ I .rest ∙ turn-fails
-    (c .before .before .before .before .before .before .before .before .before .before .before .before .before .before .before .before .before .before .before .before .before .args .text .now)
+    (entry .text .now)
     (c .before .before .before .before .before .before .before .before .before .before .before .before .before .before .before .before .before .before .before .loop .at)
     (c .before .before .before .before .before .before .before .before .before .before .before .before .before .before .before .before .before .line-end .result)
     (c .before .before .before .before .before .before .before .before .before .before .before .before .before .before .before .before .before .line-end .ensures)

@@ -49,10 +49,10 @@ sub-t19 : tie.Need-sub-t19
 sub-t19 c = search needs
 
 returns : tie.Need-returns
-returns c = sym (ap
-    (λ (f : Fault). moved (c .before .before .before .before .args .at) (refusalIn (c .before .before .before .before .args .line .now) f))
-    (c .before .f .given .1) ∙ whole-moved (c .before .before .before .before .args .at) (reasonNumber (c .before .f .given .0 .0))
-    (c .before .before .before .before .args .line .now))
+returns c = let entry = c .before .before .before .before .args in sym (ap
+    (λ (f : Fault). moved (entry .at) (refusalIn (entry .line .now) f))
+    (c .before .f .given .1) ∙ whole-moved (entry .at) (reasonNumber (c .before .f .given .0 .0))
+    (entry .line .now))
 
 returns-2 : tie.Need-returns-2
 unfolding moved pointing

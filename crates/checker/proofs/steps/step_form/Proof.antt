@@ -99,125 +99,126 @@ step-label-note-requires-2 c κs = tt
 returns : tie.Need-returns
 unfolding lineAt
 returns c =
+    let entry = c .before .before .before .before .before .args in
     λ d a I U.
-    follows-fails (record { is = line-none d (c .before .before .before .before .before .args .line .now) (c .before .before .read-line .ensures .is ∙ ap (lineAt (c .before .before .before .before .before .args .line .now)) (c .enum-told .given .1)); reaches = tt })
+    follows-fails (record { is = line-none d (entry .line .now) (c .before .before .read-line .ensures .is ∙ ap (lineAt (entry .line .now)) (c .enum-told .given .1)); reaches = tt })
 
 returns-2 : tie.Need-returns-2
 unfolding lineAt Within
-returns-2 c = λ d a I U. follows-as (sym (line-form d (c .before .before .before .before .before .before .before .before .args .line .now) _
-    (c .before .before .before .before .before .read-line .ensures .is ∙ ap (lineAt (c .before .before .before .before .before .before .before .before .args .line .now)) (c .before .before .before .form .given .1))))
+returns-2 c = let entry = c .before .before .before .before .before .before .before .before .args in λ d a I U. follows-as (sym (line-form d (entry .line .now) _
+    (c .before .before .before .before .before .read-line .ensures .is ∙ ap (lineAt (entry .line .now)) (c .before .before .before .form .given .1))))
     (c .step-purpose-root .ensures d _ _ _ _ _ _ _ _ _ a (subst
-    (Within (c .before .before .before .before .before .before .before .before .args .line .now)) (c .before .before .before .form .given .1)
+    (Within (entry .line .now)) (c .before .before .before .form .given .1)
     (c .before .before .before .before .before .read-line .ensures .within)) I)
 
 returns-3 : tie.Need-returns-3
 unfolding lineAt Within
-returns-3 c = λ d a I U. follows-as (sym (line-form d (c .before .before .before .before .before .before .before .before .args .line .now) _
-    (c .before .before .before .before .before .read-line .ensures .is ∙ ap (lineAt (c .before .before .before .before .before .before .before .before .args .line .now)) (c .before .before .before .form2 .given .1))))
+returns-3 c = let entry = c .before .before .before .before .before .before .before .before .args in λ d a I U. follows-as (sym (line-form d (entry .line .now) _
+    (c .before .before .before .before .before .read-line .ensures .is ∙ ap (lineAt (entry .line .now)) (c .before .before .before .form2 .given .1))))
     (c .step-purpose-below .ensures d _ _ _ _ _ _ _ _ _ a (subst
-    (Within (c .before .before .before .before .before .before .before .before .args .line .now)) (c .before .before .before .form2 .given .1)
+    (Within (entry .line .now)) (c .before .before .before .form2 .given .1)
     (c .before .before .before .before .before .read-line .ensures .within)) I)
 
 returns-4 : tie.Need-returns-4
 unfolding lineAt Within
-returns-4 c = λ d a I U. follows-as (sym (line-form d (c .before .before .before .before .before .before .before .before .args .line .now) _
-    (c .before .before .before .before .before .read-line .ensures .is ∙ ap (lineAt (c .before .before .before .before .before .before .before .before .args .line .now)) (c .before .before .before .form3 .given .1))))
+returns-4 c = let entry = c .before .before .before .before .before .before .before .before .args in λ d a I U. follows-as (sym (line-form d (entry .line .now) _
+    (c .before .before .before .before .before .read-line .ensures .is ∙ ap (lineAt (entry .line .now)) (c .before .before .before .form3 .given .1))))
     (c .step-role-root .ensures d _ _ _ _ _ _ _ _ _ a (subst
-    (Within (c .before .before .before .before .before .before .before .before .args .line .now)) (c .before .before .before .form3 .given .1)
+    (Within (entry .line .now)) (c .before .before .before .form3 .given .1)
     (c .before .before .before .before .before .read-line .ensures .within)) I)
 
 returns-5 : tie.Need-returns-5
 unfolding lineAt Within
-returns-5 c = λ d a I U. follows-as (sym (line-form d (c .before .before .before .before .before .before .before .before .args .line .now) _
-    (c .before .before .before .before .before .read-line .ensures .is ∙ ap (lineAt (c .before .before .before .before .before .before .before .before .args .line .now)) (c .before .before .before .form4 .given .1))))
+returns-5 c = let entry = c .before .before .before .before .before .before .before .before .args in λ d a I U. follows-as (sym (line-form d (entry .line .now) _
+    (c .before .before .before .before .before .read-line .ensures .is ∙ ap (lineAt (entry .line .now)) (c .before .before .before .form4 .given .1))))
     (c .step-role-below .ensures d _ _ _ _ _ _ _ _ _ a (subst
-    (Within (c .before .before .before .before .before .before .before .before .args .line .now)) (c .before .before .before .form4 .given .1)
+    (Within (entry .line .now)) (c .before .before .before .form4 .given .1)
     (c .before .before .before .before .before .read-line .ensures .within)) I)
 
 returns-6 : tie.Need-returns-6
 unfolding lineAt Within
-returns-6 c = λ d a I U. follows-as (sym (line-form d (c .before .before .before .before .before .before .before .before .before .args .line .now) _
-    (c .before .before .before .before .before .before .read-line .ensures .is ∙ ap (lineAt (c .before .before .before .before .before .before .before .before .before .args .line .now)) (c .before .before .before .before .form5 .given .1))))
+returns-6 c = let entry = c .before .before .before .before .before .before .before .before .before .args in λ d a I U. follows-as (sym (line-form d (entry .line .now) _
+    (c .before .before .before .before .before .before .read-line .ensures .is ∙ ap (lineAt (entry .line .now)) (c .before .before .before .before .form5 .given .1))))
     (c .step-attr .ensures d _ _ _ _ _ _ _ _ a (subst
-    (Within (c .before .before .before .before .before .before .before .before .before .args .line .now))
+    (Within (entry .line .now))
     (c .before .before .before .before .form5 .given .1) (c .before .before .before .before .before .before .read-line .ensures .within)) I)
 
 returns-7 : tie.Need-returns-7
 unfolding lineAt Within
-returns-7 c = λ d a I U. follows-as (sym (line-form d
-    (c .before .before .before .before .before .before .before .before .before .before .args .line .now) _
-    (c .before .before .before .before .before .before .before .read-line .ensures .is ∙ ap (lineAt (c .before .before .before .before .before .before .before .before .before .before .args .line .now)) (c .before .before .before .before .before .form6 .given .1))))
+returns-7 c = let entry = c .before .before .before .before .before .before .before .before .before .before .args in λ d a I U. follows-as (sym (line-form d
+    (entry .line .now) _
+    (c .before .before .before .before .before .before .before .read-line .ensures .is ∙ ap (lineAt (entry .line .now)) (c .before .before .before .before .before .form6 .given .1))))
     (c .step-user .ensures d _ _ _ _ _ _ _ a (subst
-    (Within (c .before .before .before .before .before .before .before .before .before .before .args .line .now))
+    (Within (entry .line .now))
     (c .before .before .before .before .before .form6 .given .1)
     (c .before .before .before .before .before .before .before .read-line .ensures .within)) I U)
 
 returns-8 : tie.Need-returns-8
 unfolding lineAt Within
-returns-8 c = λ d a I U. c .step-cond .ensures d _ _ _ _ _ _ _
-    (c .before .before .before .before .before .before .before .read-line .ensures .is ∙ ap (lineAt (c .before .before .before .before .before .before .before .before .before .before .args .line .now)) (c .before .before .before .before .before .form7 .given .1)) a
-    (subst (Within (c .before .before .before .before .before .before .before .before .before .before .args .line .now)) (c .before .before .before .before .before .form7 .given .1) (c .before .before .before .before .before .before .before .read-line .ensures .within)) I
+returns-8 c = let entry = c .before .before .before .before .before .before .before .before .before .before .args in λ d a I U. c .step-cond .ensures d _ _ _ _ _ _ _
+    (c .before .before .before .before .before .before .before .read-line .ensures .is ∙ ap (lineAt (entry .line .now)) (c .before .before .before .before .before .form7 .given .1)) a
+    (subst (Within (entry .line .now)) (c .before .before .before .before .before .form7 .given .1) (c .before .before .before .before .before .before .before .read-line .ensures .within)) I
 
 returns-9 : tie.Need-returns-9
 unfolding lineAt Within
-returns-9 c = λ d a I U. follows-as (sym (line-form d
-    (c .before .before .before .before .before .before .before .before .before .before .args .line .now) _
-    (c .before .before .before .before .before .before .before .read-line .ensures .is ∙ ap (lineAt (c .before .before .before .before .before .before .before .before .before .before .args .line .now)) (c .before .before .before .before .before .form8 .given .1))))
+returns-9 c = let entry = c .before .before .before .before .before .before .before .before .before .before .args in λ d a I U. follows-as (sym (line-form d
+    (entry .line .now) _
+    (c .before .before .before .before .before .before .before .read-line .ensures .is ∙ ap (lineAt (entry .line .now)) (c .before .before .before .before .before .form8 .given .1))))
     (c .step-grant .ensures d _ _ _ _ _ _ _ a (subst
-    (Within (c .before .before .before .before .before .before .before .before .before .before .args .line .now))
+    (Within (entry .line .now))
     (c .before .before .before .before .before .form8 .given .1)
     (c .before .before .before .before .before .before .before .read-line .ensures .within)) I)
 
 returns-10 : tie.Need-returns-10
 unfolding lineAt Within
-returns-10 c = λ d a I U. follows-as (sym (line-form d
-    (c .before .before .before .before .before .before .before .before .before .before .args .line .now) _
-    (c .before .before .before .before .before .before .before .read-line .ensures .is ∙ ap (lineAt (c .before .before .before .before .before .before .before .before .before .before .args .line .now)) (c .before .before .before .before .before .form9 .given .1))))
-    (c .step-label .ensures d _ _ _ _ _ _ _ a
-    ((subst (Within (c .before .before .before .before .before .before .before .before .before .before .args .line .now)) (c .before .before .before .before .before .form9 .given .1) (c .before .before .before .before .before .before .before .read-line .ensures .within)) .0) I)
+returns-10 c = let entry = c .before .before .before .before .before .before .before .before .before .before .args in λ d a I U.
+    let w = subst (Within (entry .line .now)) (c .before .before .before .before .before .form9 .given .1) (c .before .before .before .before .before .before .before .read-line .ensures .within) in
+    follows-as (sym (line-form d (entry .line .now) _
+    (c .before .before .before .before .before .before .before .read-line .ensures .is ∙ ap (lineAt (entry .line .now)) (c .before .before .before .before .before .form9 .given .1))))
+    (c .step-label .ensures d _ _ _ _ _ _ _ a (w .0) (w .3) I)
 
 returns-11 : tie.Need-returns-11
 unfolding lineAt Within
-returns-11 c = λ d a I U. follows-as (sym (line-form d (c .before .before .before .before .before .before .before .before .before .args .line .now) _
-    (c .before .before .before .before .before .before .read-line .ensures .is ∙ ap (lineAt (c .before .before .before .before .before .before .before .before .before .args .line .now)) (c .before .before .before .before .form10 .given .1))))
+returns-11 c = let entry = c .before .before .before .before .before .before .before .before .before .args in λ d a I U. follows-as (sym (line-form d (entry .line .now) _
+    (c .before .before .before .before .before .before .read-line .ensures .is ∙ ap (lineAt (entry .line .now)) (c .before .before .before .before .form10 .given .1))))
     (c .step-table .ensures d _ _ _ _ _ _ _ _ a (subst
-    (Within (c .before .before .before .before .before .before .before .before .before .args .line .now))
+    (Within (entry .line .now))
     (c .before .before .before .before .form10 .given .1) (c .before .before .before .before .before .before .read-line .ensures .within)) I)
 
 returns-12 : tie.Need-returns-12
 unfolding lineAt Within
-returns-12 c = λ d a I U. follows-as (sym (line-form d
-    (c .before .before .before .before .before .before .before .before .before .before .args .line .now) _
-    (c .before .before .before .before .before .before .before .read-line .ensures .is ∙ ap (lineAt (c .before .before .before .before .before .before .before .before .before .before .args .line .now)) (c .before .before .before .before .before .form11 .given .1))))
+returns-12 c = let entry = c .before .before .before .before .before .before .before .before .before .before .args in λ d a I U. follows-as (sym (line-form d
+    (entry .line .now) _
+    (c .before .before .before .before .before .before .before .read-line .ensures .is ∙ ap (lineAt (entry .line .now)) (c .before .before .before .before .before .form11 .given .1))))
     (c .step-row .ensures d _ _ _ _ _ _ _ a (subst
-    (Within (c .before .before .before .before .before .before .before .before .before .before .args .line .now))
+    (Within (entry .line .now))
     (c .before .before .before .before .before .form11 .given .1)
     (c .before .before .before .before .before .before .before .read-line .ensures .within)) I)
 
 returns-13 : tie.Need-returns-13
 unfolding lineAt Within
-returns-13 c = λ d a I U. follows-as (sym (line-form d (c .before .before .before .before .before .before .before .before .args .line .now) _
-    (c .before .before .before .before .before .read-line .ensures .is ∙ ap (lineAt (c .before .before .before .before .before .before .before .before .args .line .now)) (c .before .before .before .form12 .given .1))))
-    (c .step-public .ensures d _ _ _ _ _ _ _ _ _ (subst (Within (c .before .before .before .before .before .before .before .before .args .line .now))
+returns-13 c = let entry = c .before .before .before .before .before .before .before .before .args in λ d a I U. follows-as (sym (line-form d (entry .line .now) _
+    (c .before .before .before .before .before .read-line .ensures .is ∙ ap (lineAt (entry .line .now)) (c .before .before .before .form12 .given .1))))
+    (c .step-public .ensures d _ _ _ _ _ _ _ _ _ (subst (Within (entry .line .now))
     (c .before .before .before .form12 .given .1) (c .before .before .before .before .before .read-line .ensures .within)) I)
 
 returns-14 : tie.Need-returns-14
 unfolding lineAt Within
-returns-14 c = λ d a I U. follows-as (sym (line-form d
-    (c .before .before .before .before .before .before .before .before .before .before .args .line .now) _
-    (c .before .before .before .before .before .before .before .read-line .ensures .is ∙ ap (lineAt (c .before .before .before .before .before .before .before .before .before .before .args .line .now)) (c .before .before .before .before .before .form13 .given .1))))
+returns-14 c = let entry = c .before .before .before .before .before .before .before .before .before .before .args in λ d a I U. follows-as (sym (line-form d
+    (entry .line .now) _
+    (c .before .before .before .before .before .before .before .read-line .ensures .is ∙ ap (lineAt (entry .line .now)) (c .before .before .before .before .before .form13 .given .1))))
     (c .step-label-note .ensures d _ _ _ _ _ _ _ (subst
-    (Within (c .before .before .before .before .before .before .before .before .before .before .args .line .now))
+    (Within (entry .line .now))
     (c .before .before .before .before .before .form13 .given .1)
     (c .before .before .before .before .before .before .before .read-line .ensures .within)) I)
 
 returns-15 : tie.Need-returns-15
 unfolding lineAt Within
-returns-15 c = λ d a I U. follows-as (sym (line-form d
-    (c .before .before .before .before .before .before .before .before .before .before .args .line .now) _
-    (c .before .before .before .before .before .before .before .read-line .ensures .is ∙ ap (lineAt (c .before .before .before .before .before .before .before .before .before .before .args .line .now)) (c .before .before .before .before .before .form14 .given .1))))
+returns-15 c = let entry = c .before .before .before .before .before .before .before .before .before .before .args in λ d a I U. follows-as (sym (line-form d
+    (entry .line .now) _
+    (c .before .before .before .before .before .before .before .read-line .ensures .is ∙ ap (lineAt (entry .line .now)) (c .before .before .before .before .before .form14 .given .1))))
     (c .step-label-note2 .ensures d _ _ _ _ _ _ _ (subst
-    (Within (c .before .before .before .before .before .before .before .before .before .before .args .line .now))
+    (Within (entry .line .now))
     (c .before .before .before .before .before .form14 .given .1)
     (c .before .before .before .before .before .before .before .read-line .ensures .within)) I)
 

@@ -6,6 +6,7 @@ use lib.ListN.{length}
 use mathlib.Core.Option.{some}
 use mathlib.Core.Path.{_∙_, _≡_, ap, subst, sym}
 use native.Mathlib.Omega.{arith}
+use Rattle.form.proofs.LabelPlaces.{deny-stands}
 use Rattle.form.proofs.PartLaws.{Behind, name-to}
 use Rattle.form.specs.BodyPlaces.{BodyWithin, SetWithin, bodyAt, setAt}
 use Rattle.form.specs.FormReader.{labelForm, purposeSet}
@@ -88,7 +89,7 @@ add-t17 c = omega (arith, first (c .before .before .before .before .before .befo
 
 returns-4 : tie.Need-returns-4
 unfolding labelForm bodyAt lineAt BodyWithin Within
-returns-4 c = record { is = rw (first (c .before .before .before .before .before .before .before .before .before .before .before) .is, allowed (c .before .before .before .before .before .before), denied (c .before)); within = omega (arith, first (c .before .before .before .before .before .before .before .before .before .before .before), allowed-in (c .before .before .before .before .before .before), denied-in (c .before)) }
+returns-4 c = record { is = rw (first (c .before .before .before .before .before .before .before .before .before .before .before) .is, allowed (c .before .before .before .before .before .before), denied (c .before)); within = (omega (arith, first (c .before .before .before .before .before .before .before .before .before .before .before)), allowed-in (c .before .before .before .before .before .before), denied-in (c .before), deny-stands (c .before .before .before .before .before .before .before .before .before .before .before .before .before .before .before .args .s .now) _ _ _ _ _ _ _ _ (first (c .before .before .before .before .before .before .before .before .before .before .before) .is) (allowed (c .before .before .before .before .before .before)) (denied (c .before))) }
 
 pub label-body-spec : {M : Type 1} → statement M
 label-body-spec =

@@ -21,11 +21,15 @@ returns-3 c = day-low (c .before .before .before .args .c .year) (c .before .bef
 
 returns-4 : tie.Need-returns-4
 unfolding clockOf
-returns-4 c = day-high (c .before .before .before .before .before .args .c .year) (c .before .before .before .before .before .args .c .day) (c .before .before .before .before .before .args .c .hour) (c .before .before .before .before .if1 .left) (c .before .before .before .if2 .left) (c .before .before .if3 .left) (omega (arith, c .before .days-in .ensures, c .if4 .taken))
+returns-4 c = day-high (c .before .before .before .before .before .args .c .year) (c .before .before .before .before .before .args .c .day)
+    (c .before .before .before .before .before .args .c .hour) (c .before .before .before .before .if1 .left) (c .before .before .before .if2 .left)
+    (c .before .before .if3 .left) (omega (arith, c .before .days-in .ensures, c .if4 .taken))
 
 returns-5 : tie.Need-returns-5
 unfolding clockOf
-returns-5 c = by-hour (c .before .before .before .before .before .args .c .year) (c .before .before .before .before .before .args .c .day) (c .before .before .before .before .before .args .c .hour) (c .before .before .before .before .if1 .left) (c .before .before .before .if2 .left) (c .before .before .if3 .left) (omega (arith, c .before .days-in .ensures, c .if4 .left))
+returns-5 c = by-hour (c .before .before .before .before .before .args .c .year) (c .before .before .before .before .before .args .c .day)
+    (c .before .before .before .before .before .args .c .hour) (c .before .before .before .before .if1 .left) (c .before .before .before .if2 .left)
+    (c .before .before .if3 .left) (omega (arith, c .before .days-in .ensures, c .if4 .left))
 
 days-in-requires : tie.Need-days-in-requires
 days-in-requires c κs = search needs

@@ -21,25 +21,43 @@ same-length : tie.Need-same-length Inv-loop μ-loop
 same-length c = c .before .before .loop .inv .long
 
 returns : tie.Need-returns Inv-loop μ-loop
-returns c = comparing-short (c .before .before .before .before .before .before .args .s .now) (c .before .before .before .before .before .before .args .ops .now) (c .before .before .before .before .before .before .args .n) (c .before .before .before .before .before .before .args .k) (c .before .before .before .before .before .before .args .out .now) (c .before .before .loop .out) (c .before .before .loop .j) (c .before .before .loop .m) (c .before .before .loop .inv) (c .before .loop-test .taken) (omega arith)
+returns c = comparing-short (c .before .before .before .before .before .before .args .s .now)
+    (c .before .before .before .before .before .before .args .ops .now) (c .before .before .before .before .before .before .args .n)
+    (c .before .before .before .before .before .before .args .k) (c .before .before .before .before .before .before .args .out .now)
+    (c .before .before .loop .out) (c .before .before .loop .j) (c .before .before .loop .m) (c .before .before .loop .inv)
+    (c .before .loop-test .taken) (omega arith)
 
 same-length-2 : tie.Need-same-length-2 Inv-loop μ-loop
 same-length-2 c = c .before .before .before .loop .inv .long
 
 returns-2 : tie.Need-returns-2 Inv-loop μ-loop
-returns-2 c = comparing-full (c .before .before .before .before .before .before .before .args .s .now) (c .before .before .before .before .before .before .before .args .ops .now) (c .before .before .before .before .before .before .before .args .n) (c .before .before .before .before .before .before .before .args .k) (c .before .before .before .before .before .before .before .args .out .now) (c .before .before .before .loop .out) (c .before .before .before .loop .j) (c .before .before .before .loop .m) (c .before .before .before .loop .inv) (c .before .before .loop-test .taken) (omega arith)
+returns-2 c = comparing-full (c .before .before .before .before .before .before .before .args .s .now)
+    (c .before .before .before .before .before .before .before .args .ops .now) (c .before .before .before .before .before .before .before .args .n)
+    (c .before .before .before .before .before .before .before .args .k) (c .before .before .before .before .before .before .before .args .out .now)
+    (c .before .before .before .loop .out) (c .before .before .before .loop .j) (c .before .before .before .loop .m)
+    (c .before .before .before .loop .inv) (c .before .before .loop-test .taken) (omega arith)
 
 loop-less : tie.Need-loop-less Inv-loop μ-loop
 loop-less c = omega arith
 
 loop-again : tie.Need-loop-again Inv-loop μ-loop
-loop-again c = comparing-more (c .before .before .before .before .before .before .before .before .before .args .s .now) (c .before .before .before .before .before .before .before .before .before .args .ops .now) (c .before .before .before .before .before .before .before .before .before .args .n) (c .before .before .before .before .before .before .before .before .before .args .k) (c .before .before .before .before .before .before .before .before .before .args .out .now) (c .before .before .before .before .before .loop .out) (c .before .before .before .before .before .loop .j) (c .before .before .before .before .before .loop .m) (c .before .before .before .before .before .loop .inv) (c .before .before .before .before .loop-test .taken) (omega arith) (omega arith) (c .next-word .result) (c .next-word .ensures)
+loop-again c = comparing-more (c .before .before .before .before .before .before .before .before .before .args .s .now)
+    (c .before .before .before .before .before .before .before .before .before .args .ops .now)
+    (c .before .before .before .before .before .before .before .before .before .args .n)
+    (c .before .before .before .before .before .before .before .before .before .args .k)
+    (c .before .before .before .before .before .before .before .before .before .args .out .now) (c .before .before .before .before .before .loop .out)
+    (c .before .before .before .before .before .loop .j) (c .before .before .before .before .before .loop .m)
+    (c .before .before .before .before .before .loop .inv) (c .before .before .before .before .loop-test .taken) (omega arith) (omega arith)
+    (c .next-word .result) (c .next-word .ensures)
 
 same-length-3 : tie.Need-same-length-3 Inv-loop μ-loop
 same-length-3 c = c .before .loop .inv .long
 
 returns-3 : tie.Need-returns-3 Inv-loop μ-loop
-returns-3 c = comparing-done (c .before .before .before .before .before .args .s .now) (c .before .before .before .before .before .args .ops .now) (c .before .before .before .before .before .args .n) (c .before .before .before .before .before .args .k) (c .before .before .before .before .before .args .out .now) (c .before .loop .out) (c .before .loop .j) (c .before .loop .m) (c .before .loop .inv) (omega arith)
+returns-3 c = comparing-done (c .before .before .before .before .before .args .s .now) (c .before .before .before .before .before .args .ops .now)
+    (c .before .before .before .before .before .args .n) (c .before .before .before .before .before .args .k)
+    (c .before .before .before .before .before .args .out .now) (c .before .loop .out) (c .before .loop .j) (c .before .loop .m)
+    (c .before .loop .inv) (omega arith)
 
 mul-next-word : tie.Need-mul-next-word Inv-loop μ-loop
 mul-next-word c = search needs

@@ -27,7 +27,12 @@ same-length : tie.Need-same-length Inv-loop μ-loop
 same-length c = simp length-set (c .before .before .before .before .loop .inv .long)
 
 returns : tie.Need-returns Inv-loop μ-loop
-returns c = storing-last (c .before .before .before .before .before .before .before .args .s .now) (c .before .before .before .before .before .before .before .args .p) (length (c .before .before .before .before .before .before .before .args .out .now)) (c .before .before .before .before .loop .out) (c .before .before .before .before .loop .at) (c .before .before .before .before .loop .k) (c .before .before .before .before .loop .inv) (c .before .before .before .loop-test .taken) (c .before .before .word-end .ensures) (λ z. c .if1 .taken (c .before .byte-at .ensures ∙ z)) (c .before .before .before .before .before .before .before .args .out .now) refl
+returns c = storing-last (c .before .before .before .before .before .before .before .args .s .now)
+    (c .before .before .before .before .before .before .before .args .p)
+    (length (c .before .before .before .before .before .before .before .args .out .now)) (c .before .before .before .before .loop .out)
+    (c .before .before .before .before .loop .at) (c .before .before .before .before .loop .k) (c .before .before .before .before .loop .inv)
+    (c .before .before .before .loop-test .taken) (c .before .before .word-end .ensures) (λ z. c .if1 .taken (c .before .byte-at .ensures ∙ z))
+    (c .before .before .before .before .before .before .before .args .out .now) refl
 
 add-at : tie.Need-add-at Inv-loop μ-loop
 add-at c = omega (arith, space-here (c .before .before .before .before .before .before .before .args .s .now) (c .before .before .word-end .result) _ (c .before .byte-at .ensures) (c .if1 .left) .1)
@@ -36,13 +41,19 @@ loop-less : tie.Need-loop-less Inv-loop μ-loop
 loop-less c = omega (arith, c .before .before .before .before .loop .inv .long, c .before .before .before .loop-test .taken)
 
 loop-again : tie.Need-loop-again Inv-loop μ-loop
-loop-again c = storing-more (c .before .before .before .before .before .before .before .args .s .now) (c .before .before .before .before .before .before .before .args .p) (length (c .before .before .before .before .before .before .before .args .out .now)) (c .before .before .before .before .loop .out) (c .before .before .before .before .loop .at) (c .before .before .before .before .loop .k) (c .before .before .before .before .loop .inv) (c .before .before .before .loop-test .taken) (c .before .before .word-end .ensures) (sym (c .before .byte-at .ensures) ∙ c .if1 .left)
+loop-again c = storing-more (c .before .before .before .before .before .before .before .args .s .now)
+    (c .before .before .before .before .before .before .before .args .p)
+    (length (c .before .before .before .before .before .before .before .args .out .now)) (c .before .before .before .before .loop .out)
+    (c .before .before .before .before .loop .at) (c .before .before .before .before .loop .k) (c .before .before .before .before .loop .inv)
+    (c .before .before .before .loop-test .taken) (c .before .before .word-end .ensures) (sym (c .before .byte-at .ensures) ∙ c .if1 .left)
 
 same-length-2 : tie.Need-same-length-2 Inv-loop μ-loop
 same-length-2 c = c .before .loop .inv .long
 
 returns-2 : tie.Need-returns-2 Inv-loop μ-loop
-returns-2 c = storing-full (c .before .before .before .before .args .s .now) (c .before .before .before .before .args .p) (length (c .before .before .before .before .args .out .now)) (c .before .loop .out) (c .before .loop .at) (c .before .loop .k) (c .before .loop .inv) (omega arith) (c .before .before .before .before .args .out .now) refl
+returns-2 c = storing-full (c .before .before .before .before .args .s .now) (c .before .before .before .before .args .p)
+    (length (c .before .before .before .before .args .out .now)) (c .before .loop .out) (c .before .loop .at) (c .before .loop .k)
+    (c .before .loop .inv) (omega arith) (c .before .before .before .before .args .out .now) refl
 
 mul-out : tie.Need-mul-out Inv-loop μ-loop
 mul-out c = search needs

@@ -23,7 +23,9 @@ same-length : tie.Need-same-length
 same-length c = search needs
 
 returns-2 : tie.Need-returns-2
-returns-2 c = tested-when (c .before .before .before .before .before .before .before .before .before .before .before .before .args .s .now) (c .before .before .before .before .before .before .before .before .t .given .1) (c .before .before .before .before .before .read-places .ensures) (c .before .before .store-placed .ensures)
+returns-2 c = tested-when (c .before .before .before .before .before .before .before .before .before .before .before .before .args .s .now)
+    (c .before .before .before .before .before .before .before .before .t .given .1) (c .before .before .before .before .before .read-places .ensures)
+    (c .before .before .store-placed .ensures)
 
 pub store-tested-spec : {M : Type 1} → statement M
 store-tested-spec =

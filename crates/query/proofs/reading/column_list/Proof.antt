@@ -37,13 +37,30 @@ add-p : tie.Need-add-p
 add-p c = omega (arith, before-end (c .before .before .before .before .before .args .s .now) (c .before .before .before .before .before .args .at + 1) (λ z. absurd (omega (arith, opens c, z))))
 
 returns-3 : tie.Need-returns-3
-returns-3 c = columns-none (c .before .before .before .before .before .before .before .before .args .s .now) (c .before .before .before .before .before .before .before .before .args .at) (space (c .before .before .before .before .before)) (opens (c .before .before .before)) (sym (c .before .before .name-end .ensures) ∙ c .enum-told .given .1)
+returns-3 c = columns-none (c .before .before .before .before .before .before .before .before .args .s .now)
+    (c .before .before .before .before .before .before .before .before .args .at) (space (c .before .before .before .before .before))
+    (opens (c .before .before .before)) (sym (c .before .before .name-end .ensures) ∙ c .enum-told .given .1)
 
 returns-4 : tie.Need-returns-4
-returns-4 c = columns-wrong (c .before .before .before .before .before .before .before .before .before .before .before .before .args .s .now) (c .before .before .before .before .before .before .before .before .before .before .before .before .args .at) (space (c .before .before .before .before .before .before .before .before .before)) (opens (c .before .before .before .before .before .before .before)) (sym (c .before .before .before .before .before .before .name-end .ensures) ∙ c .before .before .before .before .c .given .1) (end-none (many name) (c .before .before .before .before .before .before .before .before .before .before .before .before .args .s .now) (c .before .before .before .before .c .given .0 .0) (sym (c .before .before .names-end .ensures) ∙ c .enum-told2 .given .1))
+returns-4 c = columns-wrong (c .before .before .before .before .before .before .before .before .before .before .before .before .args .s .now)
+    (c .before .before .before .before .before .before .before .before .before .before .before .before .args .at)
+    (space (c .before .before .before .before .before .before .before .before .before))
+    (opens (c .before .before .before .before .before .before .before))
+    (sym (c .before .before .before .before .before .before .name-end .ensures) ∙ c .before .before .before .before .c .given .1)
+    (end-none (many name) (c .before .before .before .before .before .before .before .before .before .before .before .before .args .s .now) (c .before .before .before .before .c .given .0 .0) (sym (c .before .before .names-end .ensures) ∙ c .enum-told2 .given .1))
 
 returns-5 : tie.Need-returns-5
-returns-5 c = columns-open (c .before .before .before .before .before .before .before .before .before .before .before .before .before .before .before .args .s .now) (c .before .before .before .before .before .before .before .before .before .before .before .before .before .before .before .args .at) (space (c .before .before .before .before .before .before .before .before .before .before .before .before)) (opens (c .before .before .before .before .before .before .before .before .before .before)) (sym (c .before .before .before .before .before .before .before .before .before .name-end .ensures) ∙ c .before .before .before .before .before .before .before .c .given .1) (names-to (c .before .before .before .before .before .before .before .before .before .before .before .before .before .before .before .args .s .now) (c .before .before .before .before .before .before .before .c .given .0 .0) (c .before .before .before .m .given .0 .0) (c .before .before .before .before .before .names-end .ensures) (c .before .before .before .m .given .1)) (λ z. c .if3 .taken (c .before .byte-at3 .ensures ∙ z))
+returns-5 c = columns-open
+    (c .before .before .before .before .before .before .before .before .before .before .before .before .before .before .before .args .s .now)
+    (c .before .before .before .before .before .before .before .before .before .before .before .before .before .before .before .args .at) (space
+    (c .before .before .before .before .before .before .before .before .before .before .before .before)) (opens
+    (c .before .before .before .before .before .before .before .before .before .before)) (sym
+    (c .before .before .before .before .before .before .before .before .before .name-end .ensures) ∙ c .before .before .before .before .before .before .before .c .given .1)
+    (names-to
+    (c .before .before .before .before .before .before .before .before .before .before .before .before .before .before .before .args .s .now)
+    (c .before .before .before .before .before .before .before .c .given .0 .0) (c .before .before .before .m .given .0 .0)
+    (c .before .before .before .before .before .names-end .ensures) (c .before .before .before .m .given .1)) (λ z. c .if3 .taken
+    (c .before .byte-at3 .ensures ∙ z))
 
 add-t12 : tie.Need-add-t12
 add-t12 c = omega (arith, c .count-names .ensures, names-few (c .before .before .before .before .before .before .before .before .before .before .before .before .before .before .before .before .args .s .now) (c .before .before .before .before .before .before .before .before .c .given .0 .0))
@@ -52,7 +69,17 @@ add-t13 : tie.Need-add-t13
 add-t13 c = omega (arith, closes-before (c .before .before .before .before .before .before .before .before .before .before .before .before .before .before .before .before .args .s .now) (c .before .before .before .before .m .given .0 .0) (closes (c .before)))
 
 returns-6 : tie.Need-returns-6
-returns-6 c = columns-read (c .before .before .before .before .before .before .before .before .before .before .before .before .before .before .before .before .args .s .now) (c .before .before .before .before .before .before .before .before .before .before .before .before .before .before .before .before .args .at) (space (c .before .before .before .before .before .before .before .before .before .before .before .before .before)) (opens (c .before .before .before .before .before .before .before .before .before .before .before)) (sym (c .before .before .before .before .before .before .before .before .before .before .name-end .ensures) ∙ c .before .before .before .before .before .before .before .before .c .given .1) (names-to (c .before .before .before .before .before .before .before .before .before .before .before .before .before .before .before .before .args .s .now) (c .before .before .before .before .before .before .before .before .c .given .0 .0) (c .before .before .before .before .m .given .0 .0) (c .before .before .before .before .before .before .names-end .ensures) (c .before .before .before .before .m .given .1)) (closes (c .before)) (c .count-names .ensures)
+returns-6 c = columns-read
+    (c .before .before .before .before .before .before .before .before .before .before .before .before .before .before .before .before .args .s .now)
+    (c .before .before .before .before .before .before .before .before .before .before .before .before .before .before .before .before .args .at)
+    (space (c .before .before .before .before .before .before .before .before .before .before .before .before .before)) (opens
+    (c .before .before .before .before .before .before .before .before .before .before .before)) (sym
+    (c .before .before .before .before .before .before .before .before .before .before .name-end .ensures) ∙ c .before .before .before .before .before .before .before .before .c .given .1)
+    (names-to
+    (c .before .before .before .before .before .before .before .before .before .before .before .before .before .before .before .before .args .s .now)
+    (c .before .before .before .before .before .before .before .before .c .given .0 .0) (c .before .before .before .before .m .given .0 .0)
+    (c .before .before .before .before .before .before .names-end .ensures) (c .before .before .before .before .m .given .1)) (closes (c .before))
+    (c .count-names .ensures)
 
 byte-at-requires : tie.Need-byte-at-requires
 byte-at-requires c κs = search needs

@@ -15,13 +15,17 @@ returns c = body-headless (c .before .before .before .before .args .s .now) (giv
 returns-2 : tie.Need-returns-2
 returns-2 c =
     count-wrong (c .before .before .before .before .before .before .before .before .args .s .now)
-    (subst (ReadsHead (c .before .before .before .before .before .before .before .before .args .s .now) (c .before .before .before .before .before .before .before .before .args .at)) (c .before .before .before .before .a .given .1) (c .before .before .before .before .before .before .query-head .ensures))
+    (subst
+    (ReadsHead (c .before .before .before .before .before .before .before .before .args .s .now) (c .before .before .before .before .before .before .before .before .args .at))
+    (c .before .before .before .before .a .given .1) (c .before .before .before .before .before .before .query-head .ensures))
     (subst (ReadsTest (c .before .before .before .before .before .before .before .before .args .s .now) (c .before .before .before .before .a .given .0 .1 .0)) (c .enum-told2 .given .1) (c .before .before .optional-condition .ensures))
 
 returns-3 : tie.Need-returns-3
 returns-3 c =
     count-read (c .before .before .before .before .before .before .before .before .before .args .s .now)
-    (subst (ReadsHead (c .before .before .before .before .before .before .before .before .before .args .s .now) (c .before .before .before .before .before .before .before .before .before .args .at)) (c .before .before .before .before .before .a .given .1) (c .before .before .before .before .before .before .before .query-head .ensures))
+    (subst
+    (ReadsHead (c .before .before .before .before .before .before .before .before .before .args .s .now) (c .before .before .before .before .before .before .before .before .before .args .at))
+    (c .before .before .before .before .before .a .given .1) (c .before .before .before .before .before .before .before .query-head .ensures))
     (subst (ReadsTest (c .before .before .before .before .before .before .before .before .before .args .s .now) (c .before .before .before .before .before .a .given .0 .1 .0)) (c .before .c .given .1) (c .before .before .before .optional-condition .ensures))
 
 query-head-requires : tie.Need-query-head-requires

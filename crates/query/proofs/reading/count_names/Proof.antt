@@ -31,10 +31,16 @@ loop-less : tie.Need-loop-less Inv-loop μ-loop
 loop-less c = omega (arith, space-here (c .before .before .before .before .before .args .s .now) (c .before .before .before .loop .i) _ (c .before .before .byte-at .ensures) (c .before .if1 .taken) .1, c .word-end .ensures)
 
 loop-again : tie.Need-loop-again Inv-loop μ-loop
-loop-again c = count-more (c .before .before .before .before .before .args .s .now) (c .before .before .before .loop .i) (c .before .before .before .loop .n) (length (namesAt (c .before .before .before .before .before .args .s .now) (c .before .before .before .before .before .args .at))) (c .word-end .result) (sym (c .before .before .byte-at .ensures) ∙ c .before .if1 .taken) (c .word-end .ensures) (c .before .before .before .loop .inv)
+loop-again c = count-more (c .before .before .before .before .before .args .s .now) (c .before .before .before .loop .i)
+    (c .before .before .before .loop .n)
+    (length (namesAt (c .before .before .before .before .before .args .s .now) (c .before .before .before .before .before .args .at)))
+    (c .word-end .result) (sym (c .before .before .byte-at .ensures) ∙ c .before .if1 .taken) (c .word-end .ensures)
+    (c .before .before .before .loop .inv)
 
 returns : tie.Need-returns Inv-loop μ-loop
-returns c = count-stop (c .before .before .before .before .args .s .now) (c .before .before .loop .i) (c .before .before .loop .n) (length (namesAt (c .before .before .before .before .args .s .now) (c .before .before .before .before .args .at))) (λ z. c .if1 .left (c .before .byte-at .ensures ∙ z)) (c .before .before .loop .inv .0)
+returns c = count-stop (c .before .before .before .before .args .s .now) (c .before .before .loop .i) (c .before .before .loop .n)
+    (length (namesAt (c .before .before .before .before .args .s .now) (c .before .before .before .before .args .at)))
+    (λ z. c .if1 .left (c .before .byte-at .ensures ∙ z)) (c .before .before .loop .inv .0)
 
 byte-at-requires : tie.Need-byte-at-requires Inv-loop μ-loop
 byte-at-requires c κs = search needs

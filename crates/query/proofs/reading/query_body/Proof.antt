@@ -10,19 +10,51 @@ returns : tie.Need-returns
 returns c = at-select (c .before .before .before .before .before .before .args .s .now) (c .before .before .before .before .before .before .args .at) (c .before .before .before .before .word-end .ensures) (sym (c .before .before .is-word .ensures) ∙ c .before .if1 .taken) (c .rows-body .ensures)
 
 returns-2 : tie.Need-returns-2
-returns-2 c = at-count (c .before .before .before .before .before .before .before .before .before .args .s .now) (c .before .before .before .before .before .before .before .before .before .args .at) (c .before .before .before .before .before .before .before .word-end .ensures) (sym (c .before .before .before .before .before .is-word .ensures) ∙ c .before .before .before .before .if1 .left) (sym (c .before .before .is-word2 .ensures) ∙ c .before .if2 .taken) (c .count-body .ensures)
+returns-2 c = at-count (c .before .before .before .before .before .before .before .before .before .args .s .now)
+    (c .before .before .before .before .before .before .before .before .before .args .at)
+    (c .before .before .before .before .before .before .before .word-end .ensures)
+    (sym (c .before .before .before .before .before .is-word .ensures) ∙ c .before .before .before .before .if1 .left)
+    (sym (c .before .before .is-word2 .ensures) ∙ c .before .if2 .taken) (c .count-body .ensures)
 
 returns-3 : tie.Need-returns-3
-returns-3 c = at-blank (c .before .before .before .before .before .before .before .before .before .before .before .before .args .s .now) (c .before .before .before .before .before .before .before .before .before .before .before .before .args .at) (c .before .before .before .before .before .before .before .before .before .before .word-end .ensures) (sym (c .before .before .before .before .before .before .before .before .is-word .ensures) ∙ c .before .before .before .before .before .before .before .if1 .left) (sym (c .before .before .before .before .before .is-word2 .ensures) ∙ c .before .before .before .before .if2 .left) (sym (c .before .before .is-word3 .ensures) ∙ c .before .if3 .taken) (c .rows-body2 .ensures)
+returns-3 c = at-blank (c .before .before .before .before .before .before .before .before .before .before .before .before .args .s .now)
+    (c .before .before .before .before .before .before .before .before .before .before .before .before .args .at)
+    (c .before .before .before .before .before .before .before .before .before .before .word-end .ensures)
+    (sym (c .before .before .before .before .before .before .before .before .is-word .ensures) ∙ c .before .before .before .before .before .before .before .if1 .left)
+    (sym (c .before .before .before .before .before .is-word2 .ensures) ∙ c .before .before .before .before .if2 .left)
+    (sym (c .before .before .is-word3 .ensures) ∙ c .before .if3 .taken) (c .rows-body2 .ensures)
 
 returns-4 : tie.Need-returns-4
-returns-4 c = at-sure (c .before .before .before .before .before .before .before .before .before .before .before .before .before .before .before .args .s .now) (c .before .before .before .before .before .before .before .before .before .before .before .before .before .before .before .args .at) (c .before .before .before .before .before .before .before .before .before .before .before .before .before .word-end .ensures) (sym (c .before .before .before .before .before .before .before .before .before .before .before .is-word .ensures) ∙ c .before .before .before .before .before .before .before .before .before .before .if1 .left) (sym (c .before .before .before .before .before .before .before .before .is-word2 .ensures) ∙ c .before .before .before .before .before .before .before .if2 .left) (sym (c .before .before .before .before .before .is-word3 .ensures) ∙ c .before .before .before .before .if3 .left) (sym (c .before .before .is-word4 .ensures) ∙ c .before .if4 .taken) (c .rows-body3 .ensures)
+returns-4 c = at-sure
+    (c .before .before .before .before .before .before .before .before .before .before .before .before .before .before .before .args .s .now)
+    (c .before .before .before .before .before .before .before .before .before .before .before .before .before .before .before .args .at)
+    (c .before .before .before .before .before .before .before .before .before .before .before .before .before .word-end .ensures)
+    (sym (c .before .before .before .before .before .before .before .before .before .before .before .is-word .ensures) ∙ c .before .before .before .before .before .before .before .before .before .before .if1 .left)
+    (sym (c .before .before .before .before .before .before .before .before .is-word2 .ensures) ∙ c .before .before .before .before .before .before .before .if2 .left)
+    (sym (c .before .before .before .before .before .is-word3 .ensures) ∙ c .before .before .before .before .if3 .left)
+    (sym (c .before .before .is-word4 .ensures) ∙ c .before .if4 .taken) (c .rows-body3 .ensures)
 
 returns-5 : tie.Need-returns-5
-returns-5 c = at-possible (c .before .before .before .before .before .before .before .before .before .before .before .before .before .before .before .before .before .before .args .s .now) (c .before .before .before .before .before .before .before .before .before .before .before .before .before .before .before .before .before .before .args .at) (c .before .before .before .before .before .before .before .before .before .before .before .before .before .before .before .before .word-end .ensures) (sym (c .before .before .before .before .before .before .before .before .before .before .before .before .before .before .is-word .ensures) ∙ c .before .before .before .before .before .before .before .before .before .before .before .before .before .if1 .left) (sym (c .before .before .before .before .before .before .before .before .before .before .before .is-word2 .ensures) ∙ c .before .before .before .before .before .before .before .before .before .before .if2 .left) (sym (c .before .before .before .before .before .before .before .before .is-word3 .ensures) ∙ c .before .before .before .before .before .before .before .if3 .left) (sym (c .before .before .before .before .before .is-word4 .ensures) ∙ c .before .before .before .before .if4 .left) (sym (c .before .before .is-word5 .ensures) ∙ c .before .if5 .taken) (c .rows-body4 .ensures)
+returns-5 c = at-possible
+    (c .before .before .before .before .before .before .before .before .before .before .before .before .before .before .before .before .before .before .args .s .now)
+    (c .before .before .before .before .before .before .before .before .before .before .before .before .before .before .before .before .before .before .args .at)
+    (c .before .before .before .before .before .before .before .before .before .before .before .before .before .before .before .before .word-end .ensures)
+    (sym (c .before .before .before .before .before .before .before .before .before .before .before .before .before .before .is-word .ensures) ∙ c .before .before .before .before .before .before .before .before .before .before .before .before .before .if1 .left)
+    (sym (c .before .before .before .before .before .before .before .before .before .before .before .is-word2 .ensures) ∙ c .before .before .before .before .before .before .before .before .before .before .if2 .left)
+    (sym (c .before .before .before .before .before .before .before .before .is-word3 .ensures) ∙ c .before .before .before .before .before .before .before .if3 .left)
+    (sym (c .before .before .before .before .before .is-word4 .ensures) ∙ c .before .before .before .before .if4 .left)
+    (sym (c .before .before .is-word5 .ensures) ∙ c .before .if5 .taken) (c .rows-body4 .ensures)
 
 returns-6 : tie.Need-returns-6
-returns-6 c = at-none (c .before .before .before .before .before .before .before .before .before .before .before .before .before .before .before .before .before .args .s .now) (c .before .before .before .before .before .before .before .before .before .before .before .before .before .before .before .before .before .args .at) (c .before .before .before .before .before .before .before .before .before .before .before .before .before .before .before .word-end .ensures) (sym (c .before .before .before .before .before .before .before .before .before .before .before .before .before .is-word .ensures) ∙ c .before .before .before .before .before .before .before .before .before .before .before .before .if1 .left) (sym (c .before .before .before .before .before .before .before .before .before .before .is-word2 .ensures) ∙ c .before .before .before .before .before .before .before .before .before .if2 .left) (sym (c .before .before .before .before .before .before .before .is-word3 .ensures) ∙ c .before .before .before .before .before .before .if3 .left) (sym (c .before .before .before .before .is-word4 .ensures) ∙ c .before .before .before .if4 .left) (sym (c .before .is-word5 .ensures) ∙ c .if5 .left)
+returns-6 c = at-none
+    (c .before .before .before .before .before .before .before .before .before .before .before .before .before .before .before .before .before .args .s .now)
+    (c .before .before .before .before .before .before .before .before .before .before .before .before .before .before .before .before .before .args .at)
+    (c .before .before .before .before .before .before .before .before .before .before .before .before .before .before .before .word-end .ensures)
+    (sym (c .before .before .before .before .before .before .before .before .before .before .before .before .before .is-word .ensures) ∙ c .before .before .before .before .before .before .before .before .before .before .before .before .if1 .left)
+    (sym (c .before .before .before .before .before .before .before .before .before .before .is-word2 .ensures) ∙ c .before .before .before .before .before .before .before .before .before .if2 .left)
+    (sym (c .before .before .before .before .before .before .before .is-word3 .ensures) ∙ c .before .before .before .before .before .before .if3 .left)
+    (sym (c .before .before .before .before .is-word4 .ensures) ∙ c .before .before .before .if4 .left)
+    (sym (c .before .is-word5 .ensures) ∙ c .if5 .left)
 
 word-end-requires : tie.Need-word-end-requires
 word-end-requires c κs = search needs

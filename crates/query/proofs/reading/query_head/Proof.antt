@@ -27,13 +27,22 @@ returns : tie.Need-returns
 returns c = head-wrong-1 (c .before .before .before .before .args .s .now) (end-none (next name) (c .before .before .before .before .args .s .now) (c .before .before .before .before .args .at) (sym (c .before .before .spaced-name-end .ensures) ∙ c .enum-told .given .1))
 
 returns-2 : tie.Need-returns-2
-returns-2 c = head-wrong-2 (c .before .before .before .before .before .before .before .before .args .s .now) (first (c .before .before .before .before)) (end-none (next name) (c .before .before .before .before .before .before .before .before .args .s .now) (c .before .before .before .before .u .given .0 .0) (sym (c .before .before .spaced-name-end2 .ensures) ∙ c .enum-told2 .given .1))
+returns-2 c = head-wrong-2 (c .before .before .before .before .before .before .before .before .args .s .now)
+    (first (c .before .before .before .before))
+    (end-none (next name) (c .before .before .before .before .before .before .before .before .args .s .now) (c .before .before .before .before .u .given .0 .0) (sym (c .before .before .spaced-name-end2 .ensures) ∙ c .enum-told2 .given .1))
 
 returns-3 : tie.Need-returns-3
-returns-3 c = head-wrong-3 (c .before .before .before .before .before .before .before .before .before .before .before .before .args .s .now) (first (c .before .before .before .before .before .before .before .before)) (second (c .before .before .before .before)) (end-none (next name) (c .before .before .before .before .before .before .before .before .before .before .before .before .args .s .now) (c .before .before .before .before .r .given .0 .0) (sym (c .before .before .spaced-name-end3 .ensures) ∙ c .enum-told3 .given .1))
+returns-3 c = head-wrong-3 (c .before .before .before .before .before .before .before .before .before .before .before .before .args .s .now)
+    (first (c .before .before .before .before .before .before .before .before)) (second (c .before .before .before .before))
+    (end-none (next name) (c .before .before .before .before .before .before .before .before .before .before .before .before .args .s .now) (c .before .before .before .before .r .given .0 .0) (sym (c .before .before .spaced-name-end3 .ensures) ∙ c .enum-told3 .given .1))
 
 returns-4 : tie.Need-returns-4
-returns-4 c = head-wrong-4 (c .before .before .before .before .before .before .before .before .before .before .before .before .before .before .before .before .args .s .now) (first (c .before .before .before .before .before .before .before .before .before .before .before .before)) (second (c .before .before .before .before .before .before .before .before)) (third (c .before .before .before .before)) (end-none (next name) (c .before .before .before .before .before .before .before .before .before .before .before .before .before .before .before .before .args .s .now) (c .before .before .before .before .p .given .0 .0) (sym (c .before .before .spaced-name-end4 .ensures) ∙ c .enum-told4 .given .1))
+returns-4 c = head-wrong-4
+    (c .before .before .before .before .before .before .before .before .before .before .before .before .before .before .before .before .args .s .now)
+    (first (c .before .before .before .before .before .before .before .before .before .before .before .before)) (second
+    (c .before .before .before .before .before .before .before .before)) (third (c .before .before .before .before)) (end-none (next name)
+    (c .before .before .before .before .before .before .before .before .before .before .before .before .before .before .before .before .args .s .now)
+    (c .before .before .before .before .p .given .0 .0) (sym (c .before .before .spaced-name-end4 .ensures) ∙ c .enum-told4 .given .1))
 
 add-t11 : tie.Need-add-t11
 add-t11 c = omega (arith, first (c .before .before .before .before .before .before .before .before .before .before .before .before .before))
@@ -48,7 +57,11 @@ add-t14 : tie.Need-add-t14
 add-t14 c = omega (arith, fourth (c .before))
 
 returns-5 : tie.Need-returns-5
-returns-5 c = head-read (c .before .before .before .before .before .before .before .before .before .before .before .before .before .before .before .before .before .args .s .now) (first (c .before .before .before .before .before .before .before .before .before .before .before .before .before)) (second (c .before .before .before .before .before .before .before .before .before)) (third (c .before .before .before .before .before)) (fourth (c .before))
+returns-5 c = head-read
+    (c .before .before .before .before .before .before .before .before .before .before .before .before .before .before .before .before .before .args .s .now)
+    (first (c .before .before .before .before .before .before .before .before .before .before .before .before .before))
+    (second (c .before .before .before .before .before .before .before .before .before)) (third (c .before .before .before .before .before))
+    (fourth (c .before))
 
 spaced-name-end-requires : tie.Need-spaced-name-end-requires
 spaced-name-end-requires c κs = search needs

@@ -30,7 +30,8 @@ returns-2 : tie.Need-returns-2
 returns-2 c = query-shut (c .before .before .before .before .args .s .now) (λ z. c .if2 .taken (c .before .byte-at .ensures ∙ z))
 
 returns-3 : tie.Need-returns-3
-returns-3 c = query-wrong (c .before .before .before .before .before .before .before .args .s .now) (opens (c .before .before .before)) (subst (ReadsBody (c .before .before .before .before .before .before .before .args .s .now) (keyword queryForms (from (c .before .before .before .before .before .before .before .args .s .now) 1))) (c .enum-told .given .1) (c .before .before .query-body .ensures))
+returns-3 c = query-wrong (c .before .before .before .before .before .before .before .args .s .now) (opens (c .before .before .before))
+    (subst (ReadsBody (c .before .before .before .before .before .before .before .args .s .now) (keyword queryForms (from (c .before .before .before .before .before .before .before .args .s .now) 1))) (c .enum-told .given .1) (c .before .before .query-body .ensures))
 
 returns-4 : tie.Need-returns-4
 returns-4 c = query-open (c .before .before .before .before .before .before .before .before .before .before .args .s .now) (opens (c .before .before .before .before .before .before)) (held (c .before .before .before)) (λ z. c .if3 .taken (c .before .byte-at2 .ensures ∙ z))
@@ -42,10 +43,16 @@ returns-5 : tie.Need-returns-5
 returns-5 c = query-trailing (c .before .before .before .before .before .before .before .before .before .before .before .args .s .now) (opens (c .before .before .before .before .before .before .before)) (held (c .before .before .before .before)) (closes (c .before)) (c .if4 .taken)
 
 returns-6 : tie.Need-returns-6
-returns-6 c = query-read (c .before .before .before .before .before .before .before .before .before .before .before .before .before .args .s .now) (opens (c .before .before .before .before .before .before .before .before .before)) (held (c .before .before .before .before .before .before)) (closes (c .before .before .before)) (c .before .before .if4 .left) (c .before .before .before .before .before .before .before .before .before .before .before .if1 .left) (sym (c .before .is-bounded .ensures) ∙ c .if5 .taken)
+returns-6 c = query-read (c .before .before .before .before .before .before .before .before .before .before .before .before .before .args .s .now)
+    (opens (c .before .before .before .before .before .before .before .before .before)) (held (c .before .before .before .before .before .before))
+    (closes (c .before .before .before)) (c .before .before .if4 .left)
+    (c .before .before .before .before .before .before .before .before .before .before .before .if1 .left)
+    (sym (c .before .is-bounded .ensures) ∙ c .if5 .taken)
 
 returns-7 : tie.Need-returns-7
-returns-7 c = query-over (c .before .before .before .before .before .before .before .before .before .before .before .before .before .args .s .now) (opens (c .before .before .before .before .before .before .before .before .before)) (held (c .before .before .before .before .before .before)) (closes (c .before .before .before)) (c .before .before .if4 .left) (sym (c .before .is-bounded .ensures) ∙ c .if5 .left)
+returns-7 c = query-over (c .before .before .before .before .before .before .before .before .before .before .before .before .before .args .s .now)
+    (opens (c .before .before .before .before .before .before .before .before .before)) (held (c .before .before .before .before .before .before))
+    (closes (c .before .before .before)) (c .before .before .if4 .left) (sym (c .before .is-bounded .ensures) ∙ c .if5 .left)
 
 byte-at-requires : tie.Need-byte-at-requires
 byte-at-requires c κs = search needs

@@ -10,28 +10,41 @@ use Rattle.query.proofs.reading.rows_body.Statement.{statement}
 use Rattle.query.proofs.reading.rows_body.Tie as tie
 
 returns : tie.Need-returns
-returns c = body-headless (c .before .before .before .before .args .s .now) (wantedRows (verbOf (c .before .before .before .before .args .verb))) (subst (ReadsHead (c .before .before .before .before .args .s .now) (c .before .before .before .before .args .at)) (c .enum-told .given .1) (c .before .before .query-head .ensures))
+returns c = body-headless (c .before .before .before .before .args .s .now) (wantedRows (verbOf (c .before .before .before .before .args .verb)))
+    (subst (ReadsHead (c .before .before .before .before .args .s .now) (c .before .before .before .before .args .at)) (c .enum-told .given .1) (c .before .before .query-head .ensures))
 
 returns-2 : tie.Need-returns-2
 returns-2 c =
     rows-no-columns (c .before .before .before .before .before .before .before .before .args .s .now)
-    (subst (ReadsHead (c .before .before .before .before .before .before .before .before .args .s .now) (c .before .before .before .before .before .before .before .before .args .at)) (c .before .before .before .before .a .given .1) (c .before .before .before .before .before .before .query-head .ensures))
+    (subst
+    (ReadsHead (c .before .before .before .before .before .before .before .before .args .s .now) (c .before .before .before .before .before .before .before .before .args .at))
+    (c .before .before .before .before .a .given .1) (c .before .before .before .before .before .before .query-head .ensures))
     (c .before .before .before .before .before .before .before .before .args .verb)
     (subst (ReadsColumns (c .before .before .before .before .before .before .before .before .args .s .now) (c .before .before .before .before .a .given .0 .1 .0)) (c .enum-told2 .given .1) (c .before .before .column-list .ensures))
 
 returns-3 : tie.Need-returns-3
 returns-3 c =
     rows-wrong (c .before .before .before .before .before .before .before .before .before .before .before .before .args .s .now)
-    (subst (ReadsHead (c .before .before .before .before .before .before .before .before .before .before .before .before .args .s .now) (c .before .before .before .before .before .before .before .before .before .before .before .before .args .at)) (c .before .before .before .before .before .before .before .before .a .given .1) (c .before .before .before .before .before .before .before .before .before .before .query-head .ensures))
-    (subst (ReadsColumns (c .before .before .before .before .before .before .before .before .before .before .before .before .args .s .now) (c .before .before .before .before .before .before .before .before .a .given .0 .1 .0)) (c .before .before .before .before .l .given .1) (c .before .before .before .before .before .before .column-list .ensures))
+    (subst
+    (ReadsHead (c .before .before .before .before .before .before .before .before .before .before .before .before .args .s .now) (c .before .before .before .before .before .before .before .before .before .before .before .before .args .at))
+    (c .before .before .before .before .before .before .before .before .a .given .1)
+    (c .before .before .before .before .before .before .before .before .before .before .query-head .ensures))
+    (subst
+    (ReadsColumns (c .before .before .before .before .before .before .before .before .before .before .before .before .args .s .now) (c .before .before .before .before .before .before .before .before .a .given .0 .1 .0))
+    (c .before .before .before .before .l .given .1) (c .before .before .before .before .before .before .column-list .ensures))
     (c .before .before .before .before .before .before .before .before .before .before .before .before .args .verb)
     (subst (ReadsTest (c .before .before .before .before .before .before .before .before .before .before .before .before .args .s .now) (c .before .before .before .before .l .given .0 .1 .1 .0)) (c .enum-told3 .given .1) (c .before .before .optional-condition .ensures))
 
 returns-4 : tie.Need-returns-4
 returns-4 c =
     rows-read (c .before .before .before .before .before .before .before .before .before .before .before .before .before .args .s .now)
-    (subst (ReadsHead (c .before .before .before .before .before .before .before .before .before .before .before .before .before .args .s .now) (c .before .before .before .before .before .before .before .before .before .before .before .before .before .args .at)) (c .before .before .before .before .before .before .before .before .before .a .given .1) (c .before .before .before .before .before .before .before .before .before .before .before .query-head .ensures))
-    (subst (ReadsColumns (c .before .before .before .before .before .before .before .before .before .before .before .before .before .args .s .now) (c .before .before .before .before .before .before .before .before .before .a .given .0 .1 .0)) (c .before .before .before .before .before .l .given .1) (c .before .before .before .before .before .before .before .column-list .ensures))
+    (subst
+    (ReadsHead (c .before .before .before .before .before .before .before .before .before .before .before .before .before .args .s .now) (c .before .before .before .before .before .before .before .before .before .before .before .before .before .args .at))
+    (c .before .before .before .before .before .before .before .before .before .a .given .1)
+    (c .before .before .before .before .before .before .before .before .before .before .before .query-head .ensures))
+    (subst
+    (ReadsColumns (c .before .before .before .before .before .before .before .before .before .before .before .before .before .args .s .now) (c .before .before .before .before .before .before .before .before .before .a .given .0 .1 .0))
+    (c .before .before .before .before .before .l .given .1) (c .before .before .before .before .before .before .before .column-list .ensures))
     (c .before .before .before .before .before .before .before .before .before .before .before .before .before .args .verb)
     (subst (ReadsTest (c .before .before .before .before .before .before .before .before .before .before .before .before .before .args .s .now) (c .before .before .before .before .before .l .given .0 .1 .1 .0)) (c .before .c .given .1) (c .before .before .before .optional-condition .ensures))
 

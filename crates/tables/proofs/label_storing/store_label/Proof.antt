@@ -18,9 +18,9 @@ add-label-requires : tie.Need-add-label-requires
 add-label-requires c κs = search needs
 
 returns : tie.Need-returns
-returns c d l P N ok h =
+returns c d l P N ok h denies =
     let a = c .before .before .before .before .before .before .before .before .args in
-    label-stored l d (a .l) _ h (c .before .before .before .place .ensures) (namesAt (a .line .now) (a .allowed)) (namesAt (a .line .now) (a .denied)) N ok
+    label-stored l d (a .l) _ h (c .before .before .before .place .ensures) (namesAt (a .line .now) (a .allowed)) (namesAt (a .line .now) (a .denied)) denies N ok
     (λ room. c .add-label .ensures (a .text .now) _ _ _ N room (c .before .before .before .before .before .set-of .ensures (d .policy) P) (c .before .before .before .before .set-of2 .ensures (d .policy) P))
 
 pub store-label-spec : {M : Type 1} → statement M

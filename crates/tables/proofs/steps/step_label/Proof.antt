@@ -13,7 +13,7 @@ enum-known-f : tie.Need-enum-known-f
 enum-known-f c = search needs
 
 returns : tie.Need-returns
-returns c = λ d rs′ bs′ us′ cs′ gs′ ts′ ws′ a w I. follows-fails (refuses (c .before .before .before .label-fault .ensures) (c .before .f .given .1) d (I .purposes, ((c .before .before .before .before .before .before .before .args .sets .now), I .labels)) w)
+returns c = λ d rs′ bs′ us′ cs′ gs′ ts′ ws′ a w denies I. follows-fails (refuses (c .before .before .before .label-fault .ensures) (c .before .f .given .1) d (I .purposes, ((c .before .before .before .before .before .before .before .args .sets .now), I .labels)) w)
 
 enum-told : tie.Need-enum-told
 enum-told c = search needs
@@ -25,9 +25,9 @@ add-next : tie.Need-add-next
 add-next c = omega (arith, has-room (c .before .before .before .before .before .label-fault .ensures) (c .before .before .before .enum-told .given .1))
 
 returns-2 : tie.Need-returns-2
-returns-2 c = λ d rs′ bs′ us′ cs′ gs′ ts′ ws′ a w I.
+returns-2 c = λ d rs′ bs′ us′ cs′ gs′ ts′ ws′ a w denies I.
     let p = passes (c .before .before .before .before .before .label-fault .ensures) (c .before .before .before .enum-told .given .1) d (I .purposes, ((c .before .before .before .before .before .before .before .before .before .args .sets .now), I .labels)) in
-    follows-goes (record { doc = _; is = p; held = grow-label I _ _ _ _ _ (c .store-label .ensures d a (I .purposes) (I .labels) p w) })
+    follows-goes (record { doc = _; is = p; held = grow-label I _ _ _ _ _ (c .store-label .ensures d a (I .purposes) (I .labels) p w denies) })
 
 pub step-label-spec : {M : Type 1} → statement M
 step-label-spec =

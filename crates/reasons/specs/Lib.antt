@@ -1,0 +1,3 @@
+-- Closed by what: what the code's answers stand for. Assumes nothing.
+pub mod Explaining
+pub mod Promises

@@ -1,0 +1,4 @@
+-- Laws of writing a reason. Assumes nothing.
+pub mod TellLaws
+pub mod BriefForms
+pub mod Short
