@@ -2,3 +2,4 @@
 pub mod TellLaws
 pub mod BriefForms
 pub mod Short
+pub mod TextLaws

@@ -82,11 +82,12 @@ explain-row-requires c κs = search needs
 returns-4 : tie.Need-returns-4
 unfolding purposeOf tableOf
 returns-4 c d K =
-    let a = c .before .before .before .before .before .before .before .before .before .before .before .before .before .before .before .args in
+    let known = c .before .before .before .before .before .before .before .before .before .before in
+    let a = known .before .before .before .before .before .args in
     let t = c .before .before .before .before .before .before .table .given .0 .0 in
-    let ip : purposeOf (d .policy) (wordOf (a .line .now) (a .w .purpose)) ≡ some (c .before .before .before .before .before .before .before .before .before .before .purpose .given .0 .0) = sym (c .before .before .before .before .before .before .before .before .before .before .before .before .find-purpose .ensures .0 (d .policy .purposes) (K .purposes)) ∙ ap foundAs (c .before .before .before .before .before .before .before .before .before .before .purpose .given .1) in
+    let ip : purposeOf (d .policy) (wordOf (a .line .now) (a .w .purpose)) ≡ some (known .purpose .given .0 .0) = sym (known .before .before .find-purpose .ensures .0 (d .policy .purposes) (K .purposes)) ∙ ap foundAs (known .purpose .given .1) in
     let it : tableOf (d .policy) (wordOf (a .line .now) (a .w .table)) ≡ some t = sym (c .before .before .before .before .before .before .before .before .find-table .ensures .0 (d .policy .tables) (K .tables)) ∙ ap foundAs (c .before .before .before .before .before .before .table .given .1) in
-    let pl : c .before .before .before .before .before .before .before .before .before .before .purpose .given .0 .0 < a .c .purposes = subst (λ (f : Found). FoundBelow f (a .c .purposes)) (c .before .before .before .before .before .before .before .before .before .before .purpose .given .1) (c .before .before .before .before .before .before .before .before .before .before .before .before .find-purpose .ensures .1) in
+    let pl : known .purpose .given .0 .0 < a .c .purposes = subst (λ (f : Found). FoundBelow f (a .c .purposes)) (known .purpose .given .1) (known .before .before .find-purpose .ensures .1) in
     let tl : t < a .c .tables = subst (λ (f : Found). FoundBelow f (a .c .tables)) (c .before .before .before .before .before .before .table .given .1) (c .before .before .before .before .before .before .before .before .find-table .ensures .1) in
     let ic : columnOf (columnsAt (d .policy) t) (wordOf (a .line .now) (a .w .column)) ≡ some (c .before .before .column .given .0 .0)
     = ap (λ (cs : List Column). columnOf cs (wordOf (a .line .now) (a .w .column))) (columns-at (a .text .now) (a .tables .now) (a .c .tables) t (d .policy) (K .tables) tl) ∙ sym (c .before .before .before .before .find-column .ensures .0 (a .c .tables) (d .policy .tables) (K .tables) tl) ∙ ap foundAs (c .before .before .column .given .1) in

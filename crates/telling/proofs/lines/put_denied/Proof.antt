@@ -1,10 +1,10 @@
--- `telling::put_denied` meets its contract: three parts, one behind the other. Assumes nothing.
+-- `telling::lines::put_denied` meets its contract: three parts, one behind the other. Assumes nothing.
 use Rattle.answer.specs.Why.{reasonText}
 use Rattle.reasons.specs.Explaining.{reasonOf}
 use Rattle.writing.proofs.Writing.{both}
 use borrow.Author.Needs.{needs}
-use Rattle.telling.proofs.put_denied.Statement.{statement}
-use Rattle.telling.proofs.put_denied.Tie as tie
+use Rattle.telling.proofs.lines.put_denied.Statement.{statement}
+use Rattle.telling.proofs.lines.put_denied.Tie as tie
 
 slice-aggregate-put-bytes : tie.Need-slice-aggregate-put-bytes
 slice-aggregate-put-bytes c = search needs

@@ -1,4 +1,4 @@
--- `telling::put_word` meets its contract: where a bracket opens no word stands, and elsewhere what is written is the word. Assumes nothing.
+-- `telling::lines::put_word` meets its contract: where a bracket opens no word stands, and elsewhere what is written is the word. Assumes nothing.
 use Rattle.telling.proofs.TellLaws.{wrote-as}
 use Rattle.text.proofs.Closings.{written-word}
 use Rattle.text.proofs.WordLaws.{word-stop}
@@ -7,8 +7,8 @@ use Rattle.writing.proofs.Writing.{wrote-nothing}
 use borrow.Author.Needs.{needs}
 use mathlib.Core.Bool.{false}
 use mathlib.Core.Path.{_∙_, _≡_, ap, refl, sym}
-use Rattle.telling.proofs.put_word.Statement.{statement}
-use Rattle.telling.proofs.put_word.Tie as tie
+use Rattle.telling.proofs.lines.put_word.Statement.{statement}
+use Rattle.telling.proofs.lines.put_word.Tie as tie
 
 -- an opening bracket is no name byte
 bracket-none : isNameByte 40 ≡ false

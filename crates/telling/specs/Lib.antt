@@ -1,0 +1,2 @@
+-- What is told of a why line. Assumes nothing.
+pub mod Telling
