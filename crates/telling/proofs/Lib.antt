@@ -3,3 +3,4 @@ pub mod TellLaws
 pub mod BriefForms
 pub mod Short
 pub mod TextLaws
+pub mod HeldLaws

@@ -1,2 +1,3 @@
 -- What is told of a why line. Assumes nothing.
 pub mod Telling
+pub mod Holds
