@@ -17,7 +17,7 @@ use Rattle.stages.specs.Figures.{answeredAs}
 use Rattle.loaded.specs.declared.measures.Measured.{Measured}
 use Rattle.stages.specs.declared.answered.Answered.{Answered}
 
-same-version : (cells : List ℕ) {b : Bool} → b ≡ eqb (getD cells 0 0) version → b ≡ true → getD cells 0 0 ≡ version
+pub same-version : (cells : List ℕ) {b : Bool} → b ≡ eqb (getD cells 0 0) version → b ≡ true → getD cells 0 0 ≡ version
 same-version cells test e = eqb-true (getD cells 0 0) version (sym test ∙ e)
 
 module _ {doc ps rs bs us cs gs ms ts ws cells : List ℕ} {b : Bool} (test : b ≡ eqb (getD cells 0 0) version) where

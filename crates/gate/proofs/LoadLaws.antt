@@ -25,6 +25,7 @@ use Rattle.stages.specs.Figures.{answeredAs}
 use Rattle.stages.specs.Stages.{Standing}
 use Rattle.stages.specs.Tails.{Gives}
 use Rattle.reserve.specs.Sums.{HoldsRows}
+use Rattle.telling.proofs.HeldLaws.{holds-labels}
 use Rattle.workspace.proofs.TabulatedLaws.{length-tabulated}
 use Rattle.answer.specs.Ask.{askUnbounded}
 use Rattle.answer.specs.Reserve.{reserveOf}
@@ -63,37 +64,39 @@ module _ {doc ps rs bs us cs gs ls ms ts ws : List ℕ} where
     rows = h .held .rows;
   }
 
-  pub held-accepted : {cells : List ℕ} {c : Counts} {n : ℕ} → HoldsDocument doc ps rs bs us cs gs ls ms ts ws c n → cells ≡ cellsOf c → HoldsArrays doc ps rs bs us cs gs ms ts ws cells (loaded.Accepted c n)
+  pub held-accepted : {cells : List ℕ} {c : Counts} {n : ℕ} → HoldsDocument doc ps rs bs us cs gs ls ms ts ws c n → cells ≡ cellsOf c → HoldsArrays doc ps rs bs us cs gs ls ms ts ws cells (loaded.Accepted c n)
   unfolding HeldOrNone
-  held-accepted h e = record { is = record { what = h .what; is = h .is; rows = holds-rows h; holds = holds h e } }
+  held-accepted h e = record { is = record { what = h .what; is = h .is; rows = holds-rows h; holds = holds h e; labelled = holds-labels h e } }
 
-module _ {doc ps rs bs us cs gs ms ts ws cells : List ℕ} where
-  pub held-refused : {x : Refusal} → check doc ≡ refused (refusalOf x) → cells ≡ noCells → HoldsArrays doc ps rs bs us cs gs ms ts ws cells (loaded.Refused x)
+module _ {doc ps rs bs us cs gs ls ms ts ws cells : List ℕ} where
+  pub held-refused : {x : Refusal} → check doc ≡ refused (refusalOf x) → cells ≡ noCells → HoldsArrays doc ps rs bs us cs gs ls ms ts ws cells (loaded.Refused x)
   unfolding HeldOrNone
   held-refused h e = record { is = (h, ap (λ l. getD l 0 0) e ∙ none-stored) }
 
   -- what the arrays are said to hold, by the answer
-  pub told-accepted : {r : Loaded} {c : Counts} {n : ℕ} → HoldsArrays doc ps rs bs us cs gs ms ts ws cells r → r ≡ loaded.Accepted c n → Held doc ps rs bs us cs gs ms ts ws cells c n
+  pub told-accepted : {r : Loaded} {c : Counts} {n : ℕ} → HoldsArrays doc ps rs bs us cs gs ls ms ts ws cells r → r ≡ loaded.Accepted c n → Held doc ps rs bs us cs gs ls ms ts ws cells c n
   unfolding HeldOrNone
-  told-accepted h told = subst (HeldOrNone doc ps rs bs us cs gs ms ts ws cells) told (h .is)
+  told-accepted h told = subst (HeldOrNone doc ps rs bs us cs gs ls ms ts ws cells) told (h .is)
 
-  pub told-refused : {r : Loaded} {x : Refusal} → HoldsArrays doc ps rs bs us cs gs ms ts ws cells r → r ≡ loaded.Refused x → (check doc ≡ refused (refusalOf x)) × (getD cells 0 0 ≡ 0)
+  pub told-refused : {r : Loaded} {x : Refusal} → HoldsArrays doc ps rs bs us cs gs ls ms ts ws cells r → r ≡ loaded.Refused x → (check doc ≡ refused (refusalOf x)) × (getD cells 0 0 ≡ 0)
   unfolding HeldOrNone
-  told-refused h told = subst (HeldOrNone doc ps rs bs us cs gs ms ts ws cells) told (h .is)
+  told-refused h told = subst (HeldOrNone doc ps rs bs us cs gs ls ms ts ws cells) told (h .is)
 
-  pub loads-accepted : {c : Counts} {n m : ℕ} (h : Held doc ps rs bs us cs gs ms ts ws cells c n) → m ≡ reserveOf (h .what) → LoadsDocument doc ps rs bs us cs gs ms ts ws cells (checked.Accepted n m)
+  pub loads-accepted : {c : Counts} {n m : ℕ} (h : Held doc ps rs bs us cs gs ls ms ts ws cells c n) → m ≡ reserveOf (h .what) → LoadsDocument doc ps rs bs us cs gs ls ms ts ws cells (checked.Accepted n m)
   unfolding checkedAs
   loads-accepted {n} h e = record {
     checks = checks-document _ _ (record { is = ap (λ k. accepted (record { lines = n; reserve = k })) e ∙ checked-accepted doc (record { lines = n; doc = h .what }) (h .is) });
     accepts = λ _ _ _. h .holds;
+    explains = λ _ _ _. h .labelled;
     refuses = λ x z. absurd (let y : _≡_ {A = ℕ} 0 1 = cc in omega arith);
   }
 
-  pub loads-refused : {x : Refusal} → (check doc ≡ refused (refusalOf x)) × (getD cells 0 0 ≡ 0) → LoadsDocument doc ps rs bs us cs gs ms ts ws cells (checked.Refused x)
+  pub loads-refused : {x : Refusal} → (check doc ≡ refused (refusalOf x)) × (getD cells 0 0 ≡ 0) → LoadsDocument doc ps rs bs us cs gs ls ms ts ws cells (checked.Refused x)
   unfolding checkedAs
   loads-refused {x} h = record {
     checks = checks-document _ _ (record { is = checked-refused doc (refusalOf x) (h .0) });
     accepts = λ n m z. absurd (let y : _≡_ {A = ℕ} 0 1 = cc in omega arith);
+    explains = λ n m z. absurd (let y : _≡_ {A = ℕ} 0 1 = cc in omega arith);
     refuses = λ _ _. h .1;
   }
 
@@ -116,16 +119,18 @@ module _ (doc text : List ℕ) (c : Clock) (x : Refusal) (h : check doc ≡ refu
 
 -- ---- the export
 
-module _ {doc ps rs bs us cs gs ms ts ws cells figures : List ℕ} {n : ℕ} where
-  pub exports-load : (x : Checked) → LoadsDocument doc ps rs bs us cs gs ms ts ws cells x → ExportsCheck doc figures n → ExportsLoad doc ps rs bs us cs gs ms ts ws cells figures n
+module _ {doc ps rs bs us cs gs ls ms ts ws cells figures : List ℕ} {n : ℕ} where
+  pub exports-load : (x : Checked) → LoadsDocument doc ps rs bs us cs gs ls ms ts ws cells x → ExportsCheck doc figures n → ExportsLoad doc ps rs bs us cs gs ls ms ts ws cells figures n
   unfolding checkedAs codeOf
   exports-load (checked.Accepted k m) h e = record {
     checks = e;
     accepts = λ _. h .accepts k m refl;
+    explains = λ _. h .explains k m refl;
     refuses = λ z. absurd (z (e .code ∙ sym (code-checked doc) ∙ sym (ap codeOf (h .checks .is .is))));
   }
   exports-load (checked.Refused x) h e = record {
     checks = e;
     accepts = λ z. not-refused (sym (check-refused x (h .checks) refl) ∙ e .accepts z .1);
+    explains = λ z. not-refused (sym (check-refused x (h .checks) refl) ∙ e .accepts z .1);
     refuses = λ _. h .refuses x refl;
   }

@@ -7,6 +7,7 @@ use Rattle.gate.specs.Exports.{ExportsAsk, ExportsCheck, ExportsMeasure,
 use Rattle.loaded.specs.Cells.{version}
 use Rattle.loaded.specs.Holds.{Holds}
 use Rattle.query.specs.Authority.{Clock}
+use Rattle.telling.specs.Holds.{HoldsLabels}
 
 -- the clock of three numbers: year, day and hour
 unfoldable pub clockIn : List ℕ → Clock
@@ -18,10 +19,12 @@ pub record NotLoaded (figures : List ℕ) (n : ℕ) : Type 0 where
   pub code : n ≡ 255
   pub filled : figures ≡ 0 ∷ 0 ∷ 0 ∷ 0 ∷ 0 ∷ []
 
--- the code n and the figures are those of the check of the document; where n is 0, the arrays hold it, else they are of no version
-pub record ExportsLoad (doc ps rs bs us cs gs ms ts ws cells figures : List ℕ) (n : ℕ) : Type 0 where
+-- the code n and the figures are those of the check of the document; where n is 0, the arrays hold it, for asking and for explaining,
+-- else they are of no version
+pub record ExportsLoad (doc ps rs bs us cs gs ls ms ts ws cells figures : List ℕ) (n : ℕ) : Type 0 where
   pub checks : ExportsCheck doc figures n
   pub accepts : n ≡ 0 → Holds doc ps rs bs us cs gs ms ts ws cells
+  pub explains : n ≡ 0 → HoldsLabels doc ps ls ms ts ws cells
   pub refuses : (n ≡ 0 → ⊥) → getD cells 0 0 ≡ 0
 
 -- over arrays that hold this very text the call is that of asking the text; over arrays of no or another version it says so, and

@@ -29,7 +29,7 @@ ghost use mathlib.Core.Path.{_≡_};
 const NOT_LOADED: u64 = 255;
 
 // Stores the figures of such a call. Gives its code.
-fn store_not_loaded(figures: &mut [u64; 5]) -> u64
+pub(crate) fn store_not_loaded(figures: &mut [u64; 5]) -> u64
     ensures { λ n. ⌜ NotLoaded (now (figures .exit)) n ⌝ }
 {
     store_five(figures, 0, 0, 0, 0, 0);
@@ -73,7 +73,8 @@ pub extern "C" fn gate_load_arrays(
     cells: &mut [usize; CELLS],
     figures: &mut [u64; 5],
 ) -> u64
-    ensures { λ n. ⌜ ExportsLoad (now (doc .entry)) (now (purposes .exit)) (now (roles .exit)) (now (attributes .exit)) (now (users .exit)) (now (conds .exit)) (now (grants .exit)) (now (sets .exit)) (now (tables .exit)) (now (rows .exit)) (now (cells .exit)) (now (figures .exit)) n ⌝ }
+    ensures { λ n. ⌜ ExportsLoad (now (doc .entry)) (now (purposes .exit)) (now (roles .exit)) (now (attributes .exit)) (now (users .exit)) (now (conds .exit)) (now (grants .exit)) (now (labels .exit))
+        (now (sets .exit)) (now (tables .exit)) (now (rows .exit)) (now (cells .exit)) (now (figures .exit)) n ⌝ }
 {
     let x = load(
         doc,

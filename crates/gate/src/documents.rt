@@ -41,7 +41,7 @@ pub(crate) fn hold(
     rows: &mut [usize; ROW_CELLS],
     cells: &mut [usize; CELLS],
 ) -> Loaded
-    ensures { λ r. ⌜ HoldsArrays (now (doc .entry)) (now (purposes .exit)) (now (roles .exit)) (now (attributes .exit)) (now (users .exit)) (now (conds .exit)) (now (grants .exit)) (now (sets .exit)) (now (tables .exit)) (now (rows .exit)) (now (cells .exit)) r ⌝ }
+    ensures { λ r. ⌜ HoldsArrays (now (doc .entry)) (now (purposes .exit)) (now (roles .exit)) (now (attributes .exit)) (now (users .exit)) (now (conds .exit)) (now (grants .exit)) (now (labels .exit)) (now (sets .exit)) (now (tables .exit)) (now (rows .exit)) (now (cells .exit)) r ⌝ }
 {
     let r = loading::load(
         doc,
@@ -83,7 +83,7 @@ pub fn load(
     rows: &mut [usize; ROW_CELLS],
     cells: &mut [usize; CELLS],
 ) -> Checked
-    ensures { λ r. ⌜ LoadsDocument (now (doc .entry)) (now (purposes .exit)) (now (roles .exit)) (now (attributes .exit)) (now (users .exit)) (now (conds .exit)) (now (grants .exit)) (now (sets .exit)) (now (tables .exit)) (now (rows .exit)) (now (cells .exit)) r ⌝ }
+    ensures { λ r. ⌜ LoadsDocument (now (doc .entry)) (now (purposes .exit)) (now (roles .exit)) (now (attributes .exit)) (now (users .exit)) (now (conds .exit)) (now (grants .exit)) (now (labels .exit)) (now (sets .exit)) (now (tables .exit)) (now (rows .exit)) (now (cells .exit)) r ⌝ }
 {
     let r = hold(
         doc,

@@ -41,7 +41,7 @@ fn source_code(s: Source) -> u64
 }
 
 // Stores the figures of a refusal. Gives its number.
-fn store_refusal(figures: &mut [u64; 5], r: Refusal) -> u64
+pub(crate) fn store_refusal(figures: &mut [u64; 5], r: Refusal) -> u64
     ensures { λ n. ⌜ ExportsRefusal (refusalOf r) (now (figures .exit)) n ⌝ }
 {
     let start = r.start;
