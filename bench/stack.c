@@ -1,5 +1,6 @@
 /* How deep the calls go: each runs on a stack that was painted before, and the paint that is left is counted.
- *   stack check DOCUMENT | stack ask DOCUMENT QUERY | stack load DOCUMENT | stack loaded DOCUMENT QUERY | stack import FILE | stack measure FILE
+ *   stack check DOCUMENT | stack ask DOCUMENT QUERY | stack load DOCUMENT | stack loaded DOCUMENT QUERY | stack why DOCUMENT LINE
+ *   stack why-loaded DOCUMENT LINE | stack import FILE | stack measure FILE
  * prints the outcome's number and the bytes of stack that were written */
 #include <pthread.h>
 #include <stdint.h>
@@ -35,6 +36,8 @@ static void *ask_loaded(void *unused) {
     number = gate_ask_loaded(&held, doc, doc_len, query, query_len, 2028, 366, 10, out, sizeof out, figures);
     return unused;
 }
+static void *why(void *unused) { number = gate_why(doc, doc_len, query, query_len, out, figures); return unused; }
+static void *why_loaded(void *unused) { number = gate_why_loaded(&held, doc, doc_len, query, query_len, out, figures); return unused; }
 static void *import(void *unused) {
     number = gate_import(doc, doc_len, table, 3, label, 4, out, sizeof out, figures);
     return unused;
@@ -47,6 +50,8 @@ static void *(*called(const char *word))(void *) {
     if (!strcmp(word, "ask")) return ask;
     if (!strcmp(word, "load")) return load;
     if (!strcmp(word, "loaded")) return ask_loaded;
+    if (!strcmp(word, "why")) return why;
+    if (!strcmp(word, "why-loaded")) return why_loaded;
     if (!strcmp(word, "import")) return import;
     if (!strcmp(word, "measure")) return measure_import;
     return check;

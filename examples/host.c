@@ -41,6 +41,9 @@ static const char wrong_policy[] = POLICY_BEFORE_BO "(grant bill junior)\n";
 static const char query[] = "(select ana desk post sub (who) (gt due 50))";
 static const char query_bill[] = "(select ana desk bill sub (who) (gt due 50))";
 
+/* Why lines about Bo, in row 1: an open cell and a closed one; and one about a row that is not there. */
+static const char *const why_lines[] = {"(why post sub 1 who)", "(why post sub 1 due)", "(why post sub 3 due)"};
+
 /* A list from the billing house, and the table for it; and one whose second record has a field too few. */
 static const char list[] = "Ida,40\r\n\"Bo\",75\r\n";
 static const char list_table[] = "(table list row (who name) (due num))\n";
@@ -114,6 +117,16 @@ static uint64_t measure_loaded(struct text doc, struct text asked, uint64_t figu
     return gate_measure_loaded(&loaded, doc.bytes, doc.len, asked.bytes, asked.len, YEAR, DAY, HOUR, figures);
 }
 
+static uint64_t why(struct text doc, struct text line, uint8_t out[GATE_WHY_BYTES], uint64_t figures[GATE_FIGURES])
+{
+    return gate_why(doc.bytes, doc.len, line.bytes, line.len, out, figures);
+}
+
+static uint64_t why_loaded(struct text doc, struct text line, uint8_t out[GATE_WHY_BYTES], uint64_t figures[GATE_FIGURES])
+{
+    return gate_why_loaded(&loaded, doc.bytes, doc.len, line.bytes, line.len, out, figures);
+}
+
 static uint64_t import_list(struct text file, uint8_t *out, size_t out_len, uint64_t figures[GATE_FIGURES])
 {
     struct text table = text_of("list");
@@ -182,6 +195,16 @@ static void print_measured(uint64_t number, struct text doc, struct text asked, 
     printf("%" PRIu64 " bytes\n", figures[GATE_LENGTH]);
 }
 
+static void print_told(uint64_t number, struct text doc, struct text line, const uint8_t out[GATE_WHY_BYTES],
+                       const uint64_t figures[GATE_FIGURES])
+{
+    if (number != GATE_ACCEPTED) {
+        print_refused(number, doc, line, figures);
+        return;
+    }
+    print_bytes(out, least(figures[GATE_LENGTH], GATE_WHY_BYTES));
+}
+
 static const char *yes(int b)
 {
     return b ? "yes" : "no";
@@ -207,6 +230,8 @@ int main(void)
     struct text document = {grown, 0};
     uint64_t figures[GATE_FIGURES];
     uint64_t figures10[GATE_FIGURES];
+    uint8_t told[GATE_WHY_BYTES];
+    uint8_t told_loaded[GATE_WHY_BYTES];
     uint64_t number;
     uint64_t number10;
     size_t reserve;
@@ -280,6 +305,19 @@ int main(void)
     print_measured(number, doc, asked, figures);
     number = ask_loaded(doc, asked_bill, buffer, reserve, figures);
     print_answered(number, doc, asked_bill, buffer, reserve, figures);
+
+    printf("-- why cells are open or closed, by the text and by the loaded policy\n");
+    for (turn = 0; turn < 3; turn++) {
+        struct text line = text_of(why_lines[turn]);
+        memset(told, MARK, sizeof told);
+        memset(told_loaded, MARK, sizeof told_loaded);
+        number = why(doc, line, told, figures);
+        print_told(number, doc, line, told, figures);
+        number10 = why_loaded(doc, line, told_loaded, figures10);
+        printf("the same by the loaded policy: %s\n",
+               yes(number10 == number && memcmp(figures10, figures, sizeof figures) == 0 && memcmp(told_loaded, told, sizeof told) == 0));
+    }
+    printf("the buffer of the refused line is as it was: %s\n", yes(untouched(told, 0, sizeof told)));
     memset(buffer, MARK, sizeof buffer);
 
     printf("-- a policy with an unknown name, loaded, checked and asked\n");
@@ -287,6 +325,8 @@ int main(void)
     print_checked(number, wrong, figures);
     /* A struct that a refused document was loaded into holds none, not the one before. */
     if (ask_loaded(wrong, asked, buffer, reserve, figures) != GATE_NOT_LOADED)
+        return EXIT_FAILURE;
+    if (why_loaded(wrong, text_of(why_lines[0]), told, figures) != GATE_NOT_LOADED)
         return EXIT_FAILURE;
     number = check(wrong, figures);
     print_checked(number, wrong, figures);

@@ -9,7 +9,7 @@ use std::process::ExitCode;
 #[path = "../include/gate.rs"]
 mod gate;
 
-use gate::{ask, check, import, measure, measure_import, part, Answer, Checked, Clock, Loaded, Refusal, Source};
+use gate::{ask, check, import, measure, measure_import, part, why, Answer, Checked, Clock, Loaded, Refusal, Source, WHY_BYTES};
 
 const POLICY: &str = "\
 (purpose all)
@@ -31,6 +31,9 @@ const POLICY: &str = "\
 
 const QUERY: &str = "(select ana desk post sub (who) (gt due 50))";
 const QUERY_BILL: &str = "(select ana desk bill sub (who) (gt due 50))";
+
+/// Why lines about Bo, in row 1: an open cell and a closed one; and one about a row that is not there.
+const WHY_LINES: [&str; 3] = ["(why post sub 1 who)", "(why post sub 1 due)", "(why post sub 3 due)"];
 
 /// A list from the billing house, and the table for it; and one whose second record has a field too few.
 const LIST: &str = "Ida,40\r\n\"Bo\",75\r\n";
@@ -80,6 +83,13 @@ fn print_measured(to: &mut impl Write, doc: &[u8], query: &[u8], r: &Result<usiz
     match r {
         Ok(len) => writeln!(to, "{len} bytes"),
         Err(x) => print_refused(to, doc, query, x),
+    }
+}
+
+fn print_told(to: &mut impl Write, doc: &[u8], line: &[u8], out: &[u8], r: &Result<usize, Refusal>) -> io::Result<()> {
+    match r {
+        Ok(len) => to.write_all(&out[..*len]),
+        Err(x) => print_refused(to, doc, line, x),
     }
 }
 
@@ -162,6 +172,18 @@ fn show(to: &mut impl Write) -> io::Result<bool> {
     }
     print_measured(to, doc, query, &loaded.measure(query, CLOCK))?;
     print_answered(to, doc, query_bill, &buffer, &loaded.ask(query_bill, CLOCK, &mut buffer.clone()))?;
+
+    writeln!(to, "-- why cells are open or closed, by the text and by the loaded policy")?;
+    let mut told = [MARK; WHY_BYTES];
+    for line in WHY_LINES.map(str::as_bytes) {
+        told = [MARK; WHY_BYTES];
+        let mut told_loaded = told;
+        let found = why(doc, line, &mut told);
+        print_told(to, doc, line, &told, &found)?;
+        let again = loaded.why(line, &mut told_loaded);
+        writeln!(to, "the same by the loaded policy: {}", yes(again == found && told_loaded == told))?;
+    }
+    writeln!(to, "the buffer of the refused line is as it was: {}", yes(untouched(&told)))?;
     buffer.fill(MARK);
 
     writeln!(to, "-- a policy with an unknown name, loaded, checked and asked")?;

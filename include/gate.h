@@ -1,27 +1,30 @@
 /* The purpose gate, for hosts in C and C++ on x86-64 (libgate.a).
  *
- * A host lends a document, a query, a clock and a buffer, and gets back an answer or a refusal; or a comma-separated file, and gets
- * back the row lines that are made of it. A document that is asked more than once is best loaded once, into a struct gate_document
- * that the host lends. The gate allocates nothing, keeps no state between calls but what it writes into that struct, reads no file and
- * no clock of its own, and may be called from several threads at once.
+ * A host lends a document, a query, a clock and a buffer, and gets back an answer or a refusal; or a document and a why line, and gets
+ * back why a cell is open or closed; or a comma-separated file, and gets back the row lines that are made of it. A document that is
+ * asked more than once is best loaded once, into a struct gate_document that the host lends. The gate allocates nothing, keeps no
+ * state between calls but what it writes into that struct, reads no file and no clock of its own, and may be called from several
+ * threads at once.
  *
  * What a caller owes, in every call:
  * - A text or buffer is a pointer and a length in bytes. The pointer is valid for that length: readable for `doc`, `query`,
- *   `file`, `table` and `label`, readable and writable for `out`. The length alone ends a text; a zero byte is a byte like any
- *   other.
+ *   `line`, `file`, `table` and `label`, readable and writable for `out`. The length alone ends a text; a zero byte is a byte like any
+ *   other. The buffer of gate_why and gate_why_loaded has no length beside it: it has GATE_WHY_BYTES bytes, or more.
  * - `figures` points to GATE_FIGURES numbers, aligned as uint64_t is.
  * - `out` overlaps no text, and `figures` overlaps nothing else. Texts are only read, so they may overlap.
  * - No pointer is null. Where a length is 0, any other pointer will do; nothing is read or written through it.
  * - Until the call returns, no other thread writes the texts, and none touches `out` or `figures`.
- * - The calling thread has room on its stack (measured): gate_check, gate_ask and gate_measure take up to 371 KB, gate_load up to
- *   23 KB, gate_ask_loaded and gate_measure_loaded up to 26 KB. Threads with small stacks need a larger one for the first three.
+ * - The calling thread has room on its stack (measured): gate_check, gate_ask, gate_measure and gate_why take up to 371 KB,
+ *   gate_load up to 23 KB, gate_ask_loaded and gate_measure_loaded up to 26 KB, gate_why_loaded up to 13 KB. Threads with small stacks
+ *   need a larger one for the first four.
  * What a caller owes of a struct gate_document: see there.
  * Nothing is owed of what the texts, the clock and the buffer hold. Every input has an outcome, and every call returns.
  *
  * What the calls give is proved for every input, as crates/gate/specs/Exports.antt says it (ExportsCheck, ExportsAsk,
- * ExportsMeasure, ExportsImport, ExportsMeasureImport), and crates/gate/specs/Arrays.antt of those over a loaded document (ExportsLoad,
- * ExportsAskArrays, ExportsMeasureArrays). That the caller keeps to the list above is not: a call that breaks it is
- * undefined. Nothing outside the library is called but memset and memcpy.
+ * ExportsMeasure, ExportsImport, ExportsMeasureImport), crates/gate/specs/Arrays.antt of those over a loaded document (ExportsLoad,
+ * ExportsAskArrays, ExportsMeasureArrays), and crates/gate/specs/Explaining.antt of why lines (ExportsWhy, ExportsWhyArrays). That
+ * the caller keeps to the list above is not: a call that breaks it is undefined. Nothing outside the library is called but memset and
+ * memcpy.
  */
 #ifndef GATE_H
 #define GATE_H
@@ -37,6 +40,9 @@ extern "C" {
 #define GATE_DOCUMENT_BYTES 60000
 #define GATE_QUERY_BYTES 4096
 #define GATE_RESERVE_BYTES 60021
+
+/* How long the buffer for the line of a reason is, in bytes: no line is longer. */
+#define GATE_WHY_BYTES 39
 
 /* How many figures a call hands back. It writes all of them, whatever the outcome. */
 #define GATE_FIGURES 5
@@ -77,6 +83,11 @@ enum gate_outcome {
     GATE_CLOSED = 17,              /* table or column closed; part: that table or column */
     GATE_BUFFER_TOO_SHORT = 18,    /* answer longer than the lent buffer; part: empty, at the start */
 
+    /* of a why line, by gate_why and gate_why_loaded, after 11 */
+    GATE_UNKNOWN_WHY = 23,         /* purpose, table or column unknown; part: that name, the leftmost */
+    GATE_NO_SUCH_ROW = 24,         /* no such row; part: the row's number */
+    GATE_NEST_EXPLAINED = 26,      /* a nest table, which the explaining tool does not take; part: the table */
+
     /* of the file, by gate_import and, but for 21, by gate_measure_import */
     GATE_MALFORMED_RECORD = 19,    /* malformed record (another count of fields than the first, or quotes or a lone carriage
                                       return that break RFC 4180); part: empty, at the start of the record */
@@ -88,7 +99,7 @@ enum gate_outcome {
 /* The text that holds the part of a refusal: figures[GATE_SOURCE]. */
 enum gate_source {
     GATE_IN_DOCUMENT = 1,
-    GATE_IN_QUERY = 2,
+    GATE_IN_QUERY = 2,             /* or in the why line */
     GATE_IN_FILE = 3
 };
 
@@ -98,8 +109,8 @@ enum gate_checked_figure {         /* gate_check, accepted */
     GATE_RESERVE = 1               /* how long the longest answer among tables is, each with all its columns once and all its rows; no
                                       answer whose query's column bracket repeats no column is longer */
 };
-enum gate_answered_figure {        /* gate_ask, accepted; of gate_measure, gate_import and gate_measure_import the first alone */
-    GATE_LENGTH = 0,               /* how many bytes of the buffer the answer or the lines fill, from the first on */
+enum gate_answered_figure {        /* gate_ask, accepted; of gate_measure, gate_why, gate_import and gate_measure_import the first alone */
+    GATE_LENGTH = 0,               /* how many bytes of the buffer the answer, the line or the lines fill, from the first on */
     GATE_GRANT = 1,                /* the position, counted from 0, of the first grant that authorises the query */
     GATE_PASSED = 2,               /* the rows given */
     GATE_WITHHELD = 3,             /* the rows withheld */
@@ -158,7 +169,17 @@ uint64_t gate_ask(const uint8_t *doc, size_t doc_len, const uint8_t *query, size
 uint64_t gate_measure(const uint8_t *doc, size_t doc_len, const uint8_t *query, size_t query_len, uint64_t year, uint64_t day,
                       uint64_t hour, uint64_t *figures);
 
-/* What the three functions below call, with the arrays of a struct gate_document. */
+/* Says why a cell of a document is open or closed to a purpose. The line is `(why P T ROW COL)`: the purpose, a table, the number of a
+ * row of that table, counted from 0, and a column. It ends with its bracket; with a line feed behind it, it is refused with 11.
+ * Returns GATE_ACCEPTED, with the length of the reason's line in figures[GATE_LENGTH] and 0 in the others, the line standing in the
+ * first bytes of `out` and the bytes behind it being as they were; or the number of a refusal, 1 to 9, 25, 28 or 31 for the document,
+ * else 11, 23, 24 or 26, every byte of `out` being as it was. The document is checked each time.
+ * The line is `(open)`; `(closed deny D)`, D being the first purpose that the cell's label denies and that is P, above it or below it;
+ * `(closed allow)`, where the label denies none such and allows neither P nor one above it; or, in a table without labels that is not
+ * declared public, `(closed none)`. A line feed ends it. */
+uint64_t gate_why(const uint8_t *doc, size_t doc_len, const uint8_t *line, size_t line_len, uint8_t *out, uint64_t *figures);
+
+/* What the four functions below call, with the arrays of a struct gate_document. */
 uint64_t gate_document_version(void);
 uint64_t gate_load_arrays(const uint8_t *doc, size_t doc_len, uint64_t *purposes, uint64_t *roles, uint64_t *attributes,
                           uint64_t *users, uint64_t *conds, uint64_t *grants, uint64_t *labels, uint64_t *sets, uint64_t *tables,
@@ -172,6 +193,9 @@ uint64_t gate_measure_arrays(const uint8_t *doc, size_t doc_len, const uint64_t 
                              const uint64_t *attributes, const uint64_t *users, const uint64_t *conds, const uint64_t *grants,
                              const uint64_t *sets, const uint64_t *tables, const uint64_t *rows, const uint64_t *cells,
                              const uint8_t *query, size_t query_len, const uint64_t *clock, uint64_t *figures);
+uint64_t gate_why_arrays(const uint8_t *doc, size_t doc_len, const uint64_t *purposes, const uint64_t *labels, const uint64_t *sets,
+                         const uint64_t *tables, const uint64_t *rows, const uint64_t *cells, const uint8_t *line, size_t line_len,
+                         uint8_t *out, uint64_t *figures);
 
 /* Checks a document, as gate_check does and with the same figures, and holds it in the struct, whatever that held before.
  * Returns GATE_ACCEPTED, or the number of a refusal, 1 to 9, 25, 28 or 31; the struct then holds none. With a library of another version than
@@ -217,6 +241,15 @@ static inline uint64_t gate_measure_loaded(const struct gate_document *loaded, c
     return gate_measure_arrays(doc, doc_len, loaded->purposes, loaded->roles, loaded->attributes, loaded->users, loaded->conds,
                                loaded->grants, loaded->sets, loaded->tables, loaded->rows, loaded->cells, query, query_len, clock,
                                figures);
+}
+
+/* Says why a cell of a loaded document is open or closed: gives what gate_why with the same text, line and buffer gives; or
+ * GATE_NOT_LOADED. */
+static inline uint64_t gate_why_loaded(const struct gate_document *loaded, const uint8_t *doc, size_t doc_len, const uint8_t *line,
+                                       size_t line_len, uint8_t *out, uint64_t *figures)
+{
+    return gate_why_arrays(doc, doc_len, loaded->purposes, loaded->labels, loaded->sets, loaded->tables, loaded->rows, loaded->cells,
+                           line, line_len, out, figures);
 }
 
 /* Writes one row line `(row TABLE LABEL v ..)` for each record of a comma-separated file (RFC 4180, both line endings, every record

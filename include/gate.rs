@@ -33,6 +33,14 @@ mod exported {
             hour: u64,
             figures: *mut u64,
         ) -> u64;
+        pub fn gate_why(
+            doc: *const u8,
+            doc_len: usize,
+            line: *const u8,
+            line_len: usize,
+            out: *mut u8,
+            figures: *mut u64,
+        ) -> u64;
         pub fn gate_document_version() -> u64;
         pub fn gate_load_arrays(
             doc: *const u8,
@@ -88,6 +96,20 @@ mod exported {
             clock: *const u64,
             figures: *mut u64,
         ) -> u64;
+        pub fn gate_why_arrays(
+            doc: *const u8,
+            doc_len: usize,
+            purposes: *const u64,
+            labels: *const u64,
+            sets: *const u64,
+            tables: *const u64,
+            rows: *const u64,
+            cells: *const u64,
+            line: *const u8,
+            line_len: usize,
+            out: *mut u8,
+            figures: *mut u64,
+        ) -> u64;
         pub fn gate_import(
             file: *const u8,
             file_len: usize,
@@ -114,6 +136,9 @@ mod exported {
 /// No reserve is larger.
 pub const RESERVE_BYTES: usize = 60_021;
 
+/// How long the buffer for the line of a reason is: no line is longer.
+pub const WHY_BYTES: usize = 39;
+
 /// The host's clock: year 1 to 9999, day 1 to 365 or in a leap year 366, hour 0 to 23. Another is refused with 10.
 #[derive(Clone, Copy)]
 pub struct Clock {
@@ -139,7 +164,7 @@ pub struct Answer {
     pub unmatched: usize,
 }
 
-/// The text that holds the part of a refusal.
+/// The text that holds the part of a refusal; that of a why line stands in `Query`.
 #[derive(Clone, Copy, PartialEq)]
 pub enum Source {
     Document,
@@ -221,6 +246,20 @@ pub fn measure(doc: &[u8], query: &[u8], clock: Clock) -> Result<usize, Refusal>
             clock.hour,
             figures.as_mut_ptr(),
         )
+    };
+    if number != 0 {
+        return Err(refusal(number, figures));
+    }
+    Ok(figures[0] as usize)
+}
+
+/// Says why a cell is open or closed, for the line `(why P T ROW COL)`, and gives the length of the reason's line, which fills the first
+/// bytes of `out`. A refusal has a number from 1 to 9, 25, 28 or 31 of the document, else 11, 23, 24 or 26, and leaves `out`.
+pub fn why(doc: &[u8], line: &[u8], out: &mut [u8; WHY_BYTES]) -> Result<usize, Refusal> {
+    let mut figures = [0; 5];
+    // SAFETY: as in `ask`; and `out` has the length that gate.h says.
+    let number = unsafe {
+        exported::gate_why(doc.as_ptr(), doc.len(), line.as_ptr(), line.len(), out.as_mut_ptr(), figures.as_mut_ptr())
     };
     if number != 0 {
         return Err(refusal(number, figures));
@@ -370,6 +409,33 @@ impl Loaded {
         }
         Ok(figures[0] as usize)
     }
+
+    /// Says why a cell is open or closed: what `why` gives with its text.
+    pub fn why(&self, line: &[u8], out: &mut [u8; WHY_BYTES]) -> Result<usize, Refusal> {
+        let mut figures = [0; 5];
+        let from = &*self.document;
+        // SAFETY: as in `why`; and the arrays are those that the text was loaded into.
+        let number = unsafe {
+            exported::gate_why_arrays(
+                self.text.as_ptr(),
+                self.text.len(),
+                from.purposes.as_ptr(),
+                from.labels.as_ptr(),
+                from.sets.as_ptr(),
+                from.tables.as_ptr(),
+                from.rows.as_ptr(),
+                from.cells.as_ptr(),
+                line.as_ptr(),
+                line.len(),
+                out.as_mut_ptr(),
+                figures.as_mut_ptr(),
+            )
+        };
+        if number != 0 {
+            return Err(refusal(number, figures));
+        }
+        Ok(figures[0] as usize)
+    }
 }
 
 /// Writes the row lines of a comma-separated file, for a table and with a label, and gives their length. A refusal has a
@@ -417,8 +483,8 @@ pub fn measure_import(file: &[u8], table: &[u8], label: &[u8]) -> Result<usize, 
     Ok(figures[0] as usize)
 }
 
-/// The part of a refusal, from whichever text holds it; of a file none is handed back. Cut at the text's end, so that with texts other than those asked
-/// it doesn't panic.
+/// The part of a refusal, from whichever text holds it, the why line being the query of `why`; of a file none is handed back. Cut at the
+/// text's end, so that with texts other than those asked it doesn't panic.
 pub fn part<'a>(doc: &'a [u8], query: &'a [u8], r: &Refusal) -> &'a [u8] {
     let text = match r.source {
         Source::Document => doc,
