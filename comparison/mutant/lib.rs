@@ -1,6 +1,6 @@
 //! The reference with one blunder switched on, for `comparison --mutant K`: most modules are the
-//! reference's own files; `answer`, `ask`, `check`, `import` and `nest` are copies with the blunders in them, and `dates` has those of
-//! dates.
+//! reference's own files; `answer`, `ask`, `check`, `import`, `nest` and `why` are copies with the blunders in them, and `dates` has
+//! those of dates.
 
 use std::ops::RangeInclusive;
 use std::sync::atomic::{AtomicU32, Ordering};
@@ -31,6 +31,7 @@ pub mod refusal;
 pub mod rules;
 #[path = "../../reference/src/text.rs"]
 pub mod text;
+mod why;
 
 pub use answer::Answer;
 pub use ask::ask;
@@ -38,9 +39,10 @@ pub use check::{check, Accepted};
 pub use clock::Clock;
 pub use import::{import, measure_import};
 pub use refusal::{Refusal, Source};
+pub use why::why;
 
 /// What each mutant does wrong, counted from 1.
-pub const BLUNDERS: [&str; 117] = [
+pub const BLUNDERS: [&str; 139] = [
     "a denied purpose closes downwards only",
     "labels tested for selected columns only",
     "withheld counted only where the condition holds",
@@ -158,6 +160,28 @@ pub const BLUNDERS: [&str; 117] = [
     "a nest row without its own label 7 before its cells' labels are looked up",
     "a nest table's allowed sets without the purposes from the 65th on",
     "a nest table's denied sets without the purposes from the 193rd on",
+    "a why line's denied purpose shuts what is below it alone",
+    "a why line's denied purpose shuts what is above it alone",
+    "a why line told the label's first denied purpose, though it is unrelated",
+    "a why line told the last denied purpose, not the first",
+    "a why line told the denied purpose whose purpose line is first",
+    "a why line told a denied purpose as its purpose line wrote it",
+    "a why line told the label of the row's first cell",
+    "a why line told the label of the table's first column",
+    "24 tested before 23",
+    "26 tested before 24",
+    "26 tested before 23",
+    "a why line told `(closed allow)` where a denied purpose shuts too",
+    "a why line told `(closed allow)` of an undeclared table",
+    "a `public` line opens a labelled table to why lines",
+    "a why line's rows counted over all tables",
+    "a why line's rows counted from 1",
+    "a why line with a row below 0 is 11",
+    "the rightmost unknown item given for 23",
+    "a why line's keyword known by its bytes",
+    "a why line's column looked up by its bytes",
+    "a why line doesn't look at denied purposes from the 65th on",
+    "a nest table explained by its cells' labels",
 ];
 
 /// These blunders are of importing.

@@ -691,8 +691,8 @@ pub fn large(random: &mut Random) -> Model {
     builder.model
 }
 
-/// A document with nest tables over 65 to 256 purposes (02, Q-5 and Q-11), and labels with few of them or many, some before the last
-/// purposes and some behind them.
+/// A document with nest tables and one of any scheme over 65 to 256 purposes (02, Q-5 and Q-11), and labels with few of them or many,
+/// some before the last purposes and some behind them.
 pub fn wide_nest(random: &mut Random) -> Model {
     let mut builder = Builder::new(random);
     builder.base();
@@ -715,6 +715,7 @@ pub fn wide_nest(random: &mut Random) -> Model {
         let columns = builder.random.between(1, 5);
         builder.table_of(Scheme::Nest, columns);
     }
+    builder.table();
     for _ in 0..builder.random.between(4, 16) {
         builder.row();
     }

@@ -54,10 +54,11 @@ extern "C" {
         label_len: usize,
         figures: *mut u64,
     ) -> u64;
+    fn gate_why(doc: *const u8, doc_len: usize, line: *const u8, line_len: usize, out: *mut u8, figures: *mut u64) -> u64;
 }
 
 #[cfg(feature = "stub")]
-use crate::stub::{gate_ask, gate_check, gate_import, gate_measure, gate_measure_import};
+use crate::stub::{gate_ask, gate_check, gate_import, gate_measure, gate_measure_import, gate_why};
 
 /// A number of 01 or 02 with its part: the source is 1 for the document, 2 for the query, 3 for the file.
 #[derive(Clone, Copy, Debug, PartialEq, Eq)]
@@ -93,6 +94,12 @@ pub struct Import {
 /// The lines' length, or a refusal.
 pub type Imported = Result<u64, Refused>;
 
+/// The line that a why line prints (02, Q-7), its line feed included, or a refusal.
+pub type Explained = Result<Vec<u8>, Refused>;
+
+/// The longest such line: `(closed deny D)` with a name of 24 bytes.
+pub const LONGEST_WHY: usize = 39;
+
 /// Bytes that the figures hold before a call, so that each is seen to be written.
 const UNWRITTEN: u64 = 0x5a5a_5a5a_5a5a_5a5a;
 
@@ -122,7 +129,7 @@ fn refused(number: u64, figures: [u64; 5]) -> Result<Refused, String> {
     // A date of no day may stand in the document or in the query (02, Q-14).
     let fits = match number {
         1..=9 | 25 | 28 => source == 1,
-        10..=18 | 27 => source == 2,
+        10..=18 | 23 | 24 | 26 | 27 => source == 2,
         31 => source == 1 || source == 2,
         19..=21 => source == 3,
         _ => false,
@@ -191,21 +198,24 @@ pub fn check(doc: &[u8]) -> Result<Checked, String> {
     }
 }
 
+/// A refusal as hosts in Rust get it.
+#[cfg(not(feature = "stub"))]
+fn of_host(refusal: host::Refusal) -> Refused {
+    let source = match refusal.source {
+        host::Source::Document => 1,
+        host::Source::Query => 2,
+        host::Source::File => 3,
+    };
+    Refused { number: refusal.number, source, start: refusal.start as u64, length: refusal.len as u64 }
+}
+
 /// What the gate's asking of a loaded document gives, as that of its text.
 #[cfg(not(feature = "stub"))]
 fn ask_loaded(doc: &[u8], query: &[u8], clock: Clock, out: &mut [u8]) -> Asked {
-    let refused = |r: host::Refusal| {
-        let source = match r.source {
-            host::Source::Document => 1,
-            host::Source::Query => 2,
-            host::Source::File => 3,
-        };
-        Refused { number: r.number, source, start: r.start as u64, length: r.len as u64 }
-    };
     let clock = host::Clock { year: clock.year, day: clock.day, hour: clock.hour };
     let (loaded, _) = match host::Loaded::new(doc) {
         Ok(loaded) => loaded,
-        Err((_, r)) => return Asked::Refused(refused(r)),
+        Err((_, r)) => return Asked::Refused(of_host(r)),
     };
     match loaded.ask(query, clock, out) {
         Ok(a) => Asked::Answered {
@@ -215,7 +225,7 @@ fn ask_loaded(doc: &[u8], query: &[u8], clock: Clock, out: &mut [u8]) -> Asked {
             withheld: a.withheld as u64,
             unmatched: a.unmatched as u64,
         },
-        Err(r) => Asked::Refused(refused(r)),
+        Err(r) => Asked::Refused(of_host(r)),
     }
 }
 
@@ -278,6 +288,58 @@ pub fn measure(doc: &[u8], query: &[u8], clock: Clock) -> Result<Result<u64, Ref
     }
 }
 
+/// A buffer for a why line's answer, between bytes that nobody may touch.
+const WHY_BUFFER: [u8; LONGEST_WHY + 32] = [0xa5; LONGEST_WHY + 32];
+
+/// What stands in that buffer after a call: the line alone, or nothing where it is refused.
+fn explained(given: Result<usize, Refused>, buffer: &[u8]) -> Result<Explained, String> {
+    let length = given.unwrap_or(0);
+    if length > LONGEST_WHY {
+        return Err(format!("a line of {length} bytes"));
+    }
+    let (from, to) = (16, 16 + length);
+    if buffer[..from] != WHY_BUFFER[..from] || buffer[to..] != WHY_BUFFER[to..] {
+        return Err("bytes written beside a why line's answer".to_string());
+    }
+    Ok(given.map(|_| buffer[from..to].to_vec()))
+}
+
+/// The gate's explaining of a text (02, Q-7).
+pub fn why_text(doc: &[u8], line: &[u8]) -> Result<Explained, String> {
+    let mut figures = Figures::new();
+    let mut buffer = WHY_BUFFER;
+    // As in `check`; from byte 16 on the buffer has more than the 39 bytes that it has to have.
+    let number = unsafe { gate_why(doc.as_ptr(), doc.len(), line.as_ptr(), line.len(), buffer[16..].as_mut_ptr(), figures.lent()) };
+    let given = match (number, figures.read()?) {
+        (0, [length, 0, 0, 0, 0]) => Ok(length as usize),
+        (0, figures) => return Err(format!("explained with figures {figures:?}")),
+        (_, figures) => Err(refused(number, figures)?),
+    };
+    explained(given, &buffer)
+}
+
+/// The gate's explaining, of the text and of the loaded document, which have to give the same.
+#[cfg(not(feature = "stub"))]
+pub fn why(doc: &[u8], line: &[u8]) -> Result<Explained, String> {
+    let of_text = why_text(doc, line)?;
+    let mut buffer = WHY_BUFFER;
+    let given = match host::Loaded::new(doc) {
+        Ok((loaded, _)) => match <&mut [u8; LONGEST_WHY]>::try_from(&mut buffer[16..16 + LONGEST_WHY]) {
+            Ok(out) => loaded.why(line, out).map_err(of_host),
+            Err(_) => return Err("no room for a why line's answer".to_string()),
+        },
+        Err((_, refusal)) => Err(of_host(refusal)),
+    };
+    let of_loaded = explained(given, &buffer)?;
+    if of_loaded != of_text {
+        return Err(format!("loaded: {of_loaded:?}, from the text: {of_text:?}"));
+    }
+    Ok(of_text)
+}
+
+#[cfg(feature = "stub")]
+pub use why_text as why;
+
 /// Whose claim the pairs test: the gate's, or a mutant's to see that the test has teeth.
 #[derive(Clone, Copy, Debug, PartialEq, Eq)]
 pub enum Subject {
@@ -290,6 +352,13 @@ impl Subject {
         match self {
             Subject::Gate => ask(doc, query, clock, out),
             Subject::Mutant => Ok(Second::Mutant.ask(doc, query, clock, out)),
+        }
+    }
+
+    pub fn why(self, doc: &[u8], line: &[u8]) -> Result<Explained, String> {
+        match self {
+            Subject::Gate => why(doc, line),
+            Subject::Mutant => Ok(Second::Mutant.why(doc, line)),
         }
     }
 }
@@ -358,6 +427,15 @@ impl Second {
         match self {
             Second::Reference => reference::measure_import(file, table, label).map(|length| length as u64).map_err(of_reference),
             Second::Mutant => mutant::measure_import(file, table, label).map(|length| length as u64).map_err(of_mutant),
+        }
+    }
+}
+
+impl Second {
+    pub fn why(self, doc: &[u8], line: &[u8]) -> Explained {
+        match self {
+            Second::Reference => reference::why(doc, line).map_err(of_reference),
+            Second::Mutant => mutant::why(doc, line).map_err(of_mutant),
         }
     }
 }

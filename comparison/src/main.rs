@@ -20,6 +20,7 @@ mod recase;
 #[cfg(feature = "stub")]
 mod stub;
 mod texts;
+mod whys;
 
 use choices::ChoiceTally;
 use compare::Buffers;
@@ -178,6 +179,15 @@ fn compare_all(options: &Options) -> ExitCode {
         println!("FAILED: too little of nest tables");
         return ExitCode::FAILURE;
     }
+    let never = tally.whys.missing();
+    if options.texts > 0 && !never.is_empty() {
+        println!("FAILED: of why lines never seen: {}", never.join("; "));
+        return ExitCode::FAILURE;
+    }
+    if options.pairs > 0 && [pairs.whys.pairs_printed, pairs.whys.pairs_changed].contains(&0) {
+        println!("FAILED: too few why lines to pairs");
+        return ExitCode::FAILURE;
+    }
     println!("no difference");
     ExitCode::SUCCESS
 }
@@ -208,6 +218,8 @@ fn summary(options: &Options, tally: &Tally, pairs: &PairTally) {
     println!("nest tables:       {neither} answers with neither line, {weak} with a weak one, {strong} with a strong one, {both} with both, {} with a blanked value; {} pairs alike that differ in a closed cell, {} in a row withheld; {} pairs not alike told apart", tally.nest_dashes, pairs.nest_closed, pairs.nest_withheld, pairs.told_apart_nest);
     let misplaced: Vec<String> = MISPLACED.iter().zip(tally.misplaced).map(|(reason, count)| format!("{count} {reason}")).collect();
     println!("misplaced lines:   {}", misplaced.join(", "));
+    println!("{}", tally.whys);
+    println!("explained alike:   {}", pairs.whys.of_pairs());
     println!("without labels:    {} pairs alike that differ in an undeclared table; {} told apart in a public one", pairs.undeclared, pairs.told_apart_public);
 }
 

@@ -8,6 +8,7 @@ use crate::queries::{self, Query};
 use crate::random::Random;
 use crate::recase::{self, listed, same, Recasing};
 use crate::texts::keep;
+use crate::whys::{self, WhyTally};
 
 #[derive(Default)]
 pub struct PairTally {
@@ -43,6 +44,8 @@ pub struct PairTally {
     /// A value that may differ made a range or a number: no pair alike, since 27 may tell; how often it does.
     pub turned: u64,
     pub told_apart_turned: u64,
+    /// Why lines to both documents of a pair (02, Q-7).
+    pub whys: WhyTally,
 }
 
 /// What is said of a pair that is not alike, where another case of values changes more than letters: no break of the claim.
@@ -230,7 +233,8 @@ pub fn run(random: &mut Random, subject: Subject, buffers: &mut Buffers, tally: 
         matched(&model, query.as_ref(), one) && (0..one.cells.len()).any(changed)
     });
     let recasing = Recasing::any(random);
-    let (doc, alike) = (recasing.turn(&model.text()), recasing.turn(&alike.text()));
+    let other_model = alike;
+    let (doc, alike) = (recasing.turn(&model.text()), recasing.turn(&other_model.text()));
     let (text, other) = recase::any(random, text);
     if !accepted(&alike) {
         let question = Question { query: text, clock, buffer: 0 };
@@ -242,9 +246,12 @@ pub fn run(random: &mut Random, subject: Subject, buffers: &mut Buffers, tally: 
     tally.undeclared += u64::from(undeclared);
     tally.ends += u64::from(in_ends);
     tally.dates += u64::from(in_dates);
+    // 02, Q-7: labels alone explain, whatever the values are; a pair needn't even be alike for a query.
+    whys::pair(random, subject, [&model, &other_model], [&doc, &alike], &mut tally.whys)?;
     if let (Some(turned), true) = (turned(random, &model, &free_cells(&model, query.as_ref())), random.chance(1, 4)) {
         let question = Question { query: text.clone(), clock, buffer: LONGEST_RESERVE };
         let (_, equal) = buffers.ask_pair(subject, &model.text(), &turned.text(), &question)?;
+        whys::pair(random, subject, [&model, &turned], [&model.text(), &turned.text()], &mut tally.whys)?;
         tally.turned += 1;
         tally.told_apart_turned += u64::from(!equal);
     }
@@ -282,7 +289,9 @@ pub fn run(random: &mut Random, subject: Subject, buffers: &mut Buffers, tally: 
         .collect();
     let question = Question { query: text.clone(), clock, buffer: LONGEST_RESERVE };
     if let Some(unlike) = changed(random, &model, &bound, true, Change::Values) {
-        let (_, equal) = buffers.ask_pair(subject, &doc, &recasing.turn(&unlike.text()), &question)?;
+        let unlike_doc = recasing.turn(&unlike.text());
+        let (_, equal) = buffers.ask_pair(subject, &doc, &unlike_doc, &question)?;
+        whys::pair(random, subject, [&model, &unlike], [&doc, &unlike_doc], &mut tally.whys)?;
         tally.unlike += 1;
         tally.told_apart += u64::from(!equal);
         tally.told_apart_public += u64::from(!equal && unlabelled.is_some());

@@ -120,3 +120,13 @@ pub unsafe fn gate_measure_import(
     let [file, table, label] = [(file, file_len), (table, table_len), (label, label_len)].map(|(text, len)| slice::from_raw_parts(text, len));
     store(reference::measure_import(file, table, label), figures)
 }
+
+/// # Safety
+/// As the C export: texts of those lengths, room for 39 bytes and for five figures.
+pub unsafe fn gate_why(doc: *const u8, doc_len: usize, line: *const u8, line_len: usize, out: *mut u8, figures: *mut u64) -> u64 {
+    let printed = reference::why(slice::from_raw_parts(doc, doc_len), slice::from_raw_parts(line, line_len));
+    if let Ok(printed) = &printed {
+        slice::from_raw_parts_mut(out, printed.len()).copy_from_slice(printed);
+    }
+    store(printed.map(|printed| printed.len()), figures)
+}

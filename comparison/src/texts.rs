@@ -8,6 +8,7 @@ use crate::model::{Model, Scheme};
 use crate::queries;
 use crate::random::Random;
 use crate::recase::{self, same};
+use crate::whys::{self, WhyTally};
 use reference::Clock;
 
 /// Texts over this length get fewer questions, for the time they take.
@@ -54,6 +55,8 @@ pub struct Tally {
     pub misplaced: [u64; 3],
     /// By refusal number.
     pub refusals: [u64; 32],
+    /// Why lines (02, Q-7).
+    pub whys: WhyTally,
 }
 
 impl Tally {
@@ -114,7 +117,8 @@ pub const VERBS: [&str; 5] = ["select", "count", "blank", "sure", "possible"];
 /// The reasons for 25 (02, Q-11).
 pub const MISPLACED: [&str; 3] = ["given twice", "behind a row", "for another scheme"];
 
-fn scheme(scheme: Scheme) -> usize {
+/// A scheme's place in `SCHEMES`.
+pub fn scheme(scheme: Scheme) -> usize {
     match scheme {
         Scheme::None => 0,
         Scheme::Table(_) => 1,
@@ -254,6 +258,10 @@ impl Run {
             }
             self.tally.recased.queries += u64::from(recased);
             self.tally.recased.answered += u64::from(recased && answered);
+        }
+        let document = whys::Document { doc: &text.doc, model: &text.model, valid: text.valid, accepted: reserve.is_some() };
+        for _ in 0..questions {
+            whys::run(random, self.second, &document, &mut self.tally.whys)?;
         }
         if before == text.doc {
             Ok(())

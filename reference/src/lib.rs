@@ -16,6 +16,7 @@ mod query;
 mod refusal;
 mod rules;
 mod text;
+mod why;
 
 pub use answer::Answer;
 pub use ask::{ask, measure};
@@ -23,3 +24,4 @@ pub use check::{check, Accepted};
 pub use clock::Clock;
 pub use import::{import, measure_import};
 pub use refusal::{Refusal, Source};
+pub use why::why;

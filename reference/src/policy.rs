@@ -127,6 +127,8 @@ pub struct Policy<'a> {
     pub grants: Vec<Grant>,
     pub label_names: Vec<Name<'a>>,
     pub labels: Vec<Label>,
+    /// The purposes that each label denies as its line wrote them (02, Q-8), in its order.
+    pub denied_names: Vec<Vec<Name<'a>>>,
     pub tables: Vec<Table<'a>>,
     pub rows: Vec<Row<'a>>,
 }
@@ -238,6 +240,7 @@ impl<'a> Policy<'a> {
                 let allowed = allow.iter().map(|p| self.purpose(p.text)).collect::<Option<Vec<_>>>()?;
                 let denied = deny.iter().map(|p| self.purpose(p.text)).collect::<Option<Vec<_>>>()?;
                 self.label_names.push(name.text);
+                self.denied_names.push(deny.iter().map(|p| p.text).collect());
                 self.labels.push(Label { allowed, denied });
             }
             Form::Table { name, scheme, columns } => {

@@ -1,4 +1,4 @@
-//! 01, "Sample session": the asking program, over any input and output; and the importing program of 02, Q-1.
+//! 01, "Sample session": the asking program, over any input and output; the importing program of 02, Q-1; and the explaining tool of Q-7.
 
 use std::io::{self, BufRead, Write};
 
@@ -7,6 +7,7 @@ use crate::check::check;
 use crate::clock::{read_clock_line, Clock};
 use crate::import::import;
 use crate::refusal::{Refusal, Source};
+use crate::why::why;
 
 /// 01: "Its answer buffer is 60,021 bytes."
 pub const BUFFER: usize = 60_021;
@@ -30,6 +31,22 @@ pub fn run(doc: &[u8], mut input: impl BufRead, mut output: impl Write) -> io::R
     while let Some(query) = read_one_line(&mut input)? {
         match ask(doc, &query, clock, &mut buffer) {
             Ok(answer) => output.write_all(&buffer[..answer.len])?,
+            Err(refusal) => print_refusal(&mut output, refusal)?,
+        }
+        output.flush()?;
+    }
+    Ok(())
+}
+
+/// 02, Q-7: "A tool, run as the asking program is but without a clock line, takes a document and lines `(why P T ROW COL)`".
+pub fn run_why(doc: &[u8], mut input: impl BufRead, mut output: impl Write) -> io::Result<()> {
+    if let Err(refusal) = check(doc) {
+        print_refusal(&mut output, refusal)?;
+        return output.flush();
+    }
+    while let Some(line) = read_one_line(&mut input)? {
+        match why(doc, &line) {
+            Ok(printed) => output.write_all(&printed)?,
             Err(refusal) => print_refusal(&mut output, refusal)?,
         }
         output.flush()?;
