@@ -5,21 +5,14 @@ use gate::documents::check;
 use programs::input::Loaded;
 use programs::lines;
 use programs::lines::accepted_line;
-use programs::lines::refusal_line;
 use programs::output::write_out;
 use programs::policy;
 use programs::policy::load;
-use text::refusals::Refusal;
+use programs::refusals::write_refused;
 
 fn write_accepted(lines: usize, reserve: usize) {
     let mut line = [0u8; lines::ROOM];
     let n = accepted_line(&mut line, lines, reserve);
-    write_out(&line[..n]);
-}
-
-fn write_refused(r: Refusal) {
-    let mut line = [0u8; lines::ROOM];
-    let n = refusal_line(&mut line, r);
     write_out(&line[..n]);
 }
 

@@ -7,11 +7,9 @@ use libc::STDERR_FILENO;
 use libc::STDIN_FILENO;
 use programs::input::Loaded;
 use programs::input::read_all;
-use programs::lines;
-use programs::lines::refusal_line;
 use programs::output::within;
 use programs::output::write_out;
-use text::refusals::Refusal;
+use programs::refusals::write_refused;
 ghost use Rattle.programs.specs.Input.{ReadsWithin};
 
 // What is lent: more lines than a document has room for are 21.
@@ -19,12 +17,6 @@ const ROOM: usize = 60000;
 
 // Room for a file of 2^18 bytes, and for one byte more, which tells a longer one: four times what is lent.
 const FILE_ROOM: usize = 262145;
-
-fn write_refused(r: Refusal) {
-    let mut line = [0u8; lines::ROOM];
-    let n = refusal_line(&mut line, r);
-    write_out(&line[..n]);
-}
 
 fn import_into(file: &[u8], table: &[u8], label: &[u8], out: &mut [u8]) {
     let x = import_rows(file, table, label, out);
