@@ -83,10 +83,11 @@ enum gate_outcome {
     GATE_CLOSED = 17,              /* table or column closed; part: that table or column */
     GATE_BUFFER_TOO_SHORT = 18,    /* answer longer than the lent buffer; part: empty, at the start */
 
-    /* of a why line, by gate_why and gate_why_loaded, after 11 */
-    GATE_UNKNOWN_WHY = 23,         /* purpose, table or column unknown; part: that name, the leftmost */
+    /* of the why line, by gate_why and gate_why_loaded */
+    /* GATE_NOT_A_QUERY, 11 as above: line not of the form `(why PURPOSE TABLE ROW COLUMN)`; part: the whole line */
+    GATE_UNKNOWN_WHY = 23,         /* purpose, table or column unknown; part: that name */
     GATE_NO_SUCH_ROW = 24,         /* no such row; part: the row's number */
-    GATE_NEST_EXPLAINED = 26,      /* a nest table, which the explaining tool does not take; part: the table */
+    GATE_NEST_EXPLAINED = 26,      /* a nest table; part: the table */
 
     /* of the file, by gate_import and, but for 21, by gate_measure_import */
     GATE_MALFORMED_RECORD = 19,    /* malformed record (another count of fields than the first, or quotes or a lone carriage
