@@ -41,6 +41,10 @@ use Rattle.loaded.specs.declared.measures.Measured.the-variants as measured
 use Rattle.stages.specs.declared.answered.Answered.the-variants as answered
 use Rattle.text.specs.declared.refusals.Refusal.{Refusal}
 
+-- no answer accepts and refuses
+apart : (n m : ℕ) (x : Refusal) → checked.Accepted n m ≡ checked.Refused x → ⊥
+apart n m x z = let y : _≡_ {A = ℕ} 0 1 = cc in omega arith
+
 module _ {doc ps rs bs us cs gs ls ms ts ws : List ℕ} where
   -- the arrays of an accepted document, which is well formed
   standing : {c : Counts} {n : ℕ} (h : HoldsDocument doc ps rs bs us cs gs ls ms ts ws c n) → Formed (h .what .policy) → Standing doc ps rs bs us cs gs ms ts ws c (h .what)
@@ -84,19 +88,19 @@ module _ {doc ps rs bs us cs gs ls ms ts ws cells : List ℕ} where
 
   pub loads-accepted : {c : Counts} {n m : ℕ} (h : Held doc ps rs bs us cs gs ls ms ts ws cells c n) → m ≡ reserveOf (h .what) → LoadsDocument doc ps rs bs us cs gs ls ms ts ws cells (checked.Accepted n m)
   unfolding checkedAs
-  loads-accepted {n} h e = record {
+  loads-accepted {n} {m} h e = record {
     checks = checks-document _ _ (record { is = ap (λ k. accepted (record { lines = n; reserve = k })) e ∙ checked-accepted doc (record { lines = n; doc = h .what }) (h .is) });
     accepts = λ _ _ _. h .holds;
     explains = λ _ _ _. h .labelled;
-    refuses = λ x z. absurd (let y : _≡_ {A = ℕ} 0 1 = cc in omega arith);
+    refuses = λ x z. absurd (apart n m x z);
   }
 
   pub loads-refused : {x : Refusal} → (check doc ≡ refused (refusalOf x)) × (getD cells 0 0 ≡ 0) → LoadsDocument doc ps rs bs us cs gs ls ms ts ws cells (checked.Refused x)
   unfolding checkedAs
   loads-refused {x} h = record {
     checks = checks-document _ _ (record { is = checked-refused doc (refusalOf x) (h .0) });
-    accepts = λ n m z. absurd (let y : _≡_ {A = ℕ} 0 1 = cc in omega arith);
-    explains = λ n m z. absurd (let y : _≡_ {A = ℕ} 0 1 = cc in omega arith);
+    accepts = λ n m z. absurd (apart n m x (sym z));
+    explains = λ n m z. absurd (apart n m x (sym z));
     refuses = λ _ _. h .1;
   }
 
