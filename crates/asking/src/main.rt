@@ -12,7 +12,7 @@ use programs::line_reader::at_start;
 use programs::line_reader::is_line;
 use programs::line_reader::read_line;
 use programs::output::within;
-use programs::output::write_out;
+use programs::output::write_first;
 use programs::policy;
 use programs::refusals::part_len;
 use programs::refusals::write_refused;
@@ -37,10 +37,7 @@ const LINE_BYTES: usize = 4097;
 // Writes what a query gets, and says whether it was written whole.
 fn write_answered(a: Answered, out: &[u8], kept: usize, len: usize) -> bool {
     match a {
-        Answered::Given(x) => {
-            let n = within(x.len, out);
-            write_out(&out[..n]) == n
-        }
+        Answered::Given(x) => write_first(x.len, out),
         Answered::Refused(r) => {
             let mut whole = r;
             whole.len = part_len(r.len, kept, len);

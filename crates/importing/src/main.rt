@@ -7,8 +7,7 @@ use libc::STDERR_FILENO;
 use libc::STDIN_FILENO;
 use programs::input::Loaded;
 use programs::input::read_all;
-use programs::output::within;
-use programs::output::write_out;
+use programs::output::write_first;
 use programs::refusals::write_refused;
 ghost use Rattle.programs.specs.Input.{ReadsWithin};
 
@@ -25,8 +24,7 @@ fn import_into(file: &[u8], table: &[u8], label: &[u8], out: &mut [u8]) {
             write_refused(r);
         }
         Imported::Lines(len) => {
-            let n = within(len, out);
-            write_out(&out[..n]);
+            write_first(len, out);
         }
     }
 }

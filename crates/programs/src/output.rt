@@ -61,3 +61,9 @@ pub fn write_out(bytes: &[u8]) -> usize
     }
     done
 }
+
+// Writes the first bytes, as many as n says or as there are, and says whether all of them were taken.
+pub fn write_first(n: usize, bytes: &[u8]) -> bool {
+    let m = within(n, bytes);
+    write_out(&bytes[..m]) == m
+}

@@ -25,7 +25,9 @@ loop-less : tie.Need-loop-less Inv-loop μ-loop
 loop-less c = omega arith
 
 loop-again : tie.Need-loop-again Inv-loop μ-loop
-loop-again c = (c .before .before .before .bytes .given ∙ c .before .before .before .before .before .before .before .before .before .before .before .loop .inv .0, c .before .line .given ∙ c .before .before .before .before .before .before .before .before .before .before .before .loop .inv .1)
+loop-again c =
+    let turn = c .before .before .before .before .before .before .before .before .before .before .before .loop .inv in
+    (c .before .before .before .bytes .given ∙ turn .0, c .before .line .given ∙ turn .1)
 
 same-length : tie.Need-same-length Inv-loop μ-loop
 same-length c = c .before .before .before .before .loop .inv .0
