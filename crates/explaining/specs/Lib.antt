@@ -1,0 +1,2 @@
+-- The explaining program: what it promises of a line that was not kept whole. Assumes nothing.
+pub mod Kept
