@@ -1,4 +1,4 @@
-"""What tests/asking, tests/checking and tests/importing share: their options, which cases are run, and the count."""
+"""What tests/asking, tests/explaining, tests/checking and tests/importing share: their options, which cases are run, and the count."""
 import argparse
 import os
 import pathlib
