@@ -75,7 +75,7 @@ fn of_label(policy: &Policy, label: usize, purpose: usize) -> Vec<u8> {
     let (tree, names) = (&policy.tree, &policy.denied_names[label]);
     let label = &policy.labels[label];
     let shuts = |&denied: &usize| tree.descends(purpose, denied) || tree.descends(denied, purpose);
-    if let Some(place) = label.denied.iter().position(|denied| shuts(denied)) {
+    if let Some(place) = label.denied.iter().position(shuts) {
         // "The explaining tool prints D as its label line wrote it."
         return [b"(closed deny ", names[place].written(), b")\n"].concat();
     }
