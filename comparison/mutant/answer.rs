@@ -3,7 +3,7 @@
 
 use std::cell::RefCell;
 
-use crate::condition::{Certainty, Condition, Operator};
+use crate::condition::{Certainty, Condition, Operator, Subject};
 use crate::date::Date;
 use crate::dates;
 use crate::forms::Value;
@@ -82,10 +82,10 @@ fn fate<'p>(policy: &Policy<'p>, request: &Request<'_, 'p>, row: &Row<'p>) -> Fa
     }
     let holds = match (request.condition, request.certainty) {
         (None, _) => true,
-        (Some(condition), None) if on(31) => holds_by_bytes(condition, &|name| value_in(table, row, name)),
-        (Some(condition), None) if on(66) || on(67) => holds_out_of_order(condition, &|name| value_in(table, row, name)),
-        (Some(condition), None) => condition.holds(&|name| value_in(table, row, name)),
-        (Some(condition), Some(certainty)) => certain(condition, certainty, &|name| value_in(table, row, name)),
+        (Some(condition), None) if on(31) => holds_by_bytes(condition, &|subject| value_in(table, row, subject.name.text)),
+        (Some(condition), None) if on(66) || on(67) => holds_out_of_order(condition, &|subject| value_in(table, row, subject.name.text)),
+        (Some(condition), None) => condition.holds(&|subject| value_in(table, row, subject.name.text)),
+        (Some(condition), Some(certainty)) => certain(condition, certainty, &|subject| value_in(table, row, subject.name.text)),
     };
     if closed && holds {
         return Fate::Withheld;
@@ -99,7 +99,7 @@ fn fate<'p>(policy: &Policy<'p>, request: &Request<'_, 'p>, row: &Row<'p>) -> Fa
 
 /// 01: "Scheme row withholds a row whose label is closed ..  Scheme cell withholds a row with a closed named cell." 02, Q-11: a nest
 /// table's "row is withheld only for a closed named cell (for blank, one in the condition)".
-fn withheld(policy: &Policy, request: &Request, table: &Table, row: &Row) -> bool {
+pub fn withheld(policy: &Policy, request: &Request, table: &Table, row: &Row) -> bool {
     let unnamed = request.selected.is_none() && request.condition.is_none();
     match table.labelling {
         Labelling::None | Labelling::Table(_) | Labelling::Column => false,
@@ -137,8 +137,8 @@ fn closed(policy: &Policy, request: &Request, label: Option<usize>) -> bool {
 }
 
 /// Blunders 52 to 54, of conditions over ranges.
-fn certain<'p>(condition: &Condition<'p>, certainty: Certainty, value_of: &dyn Fn(Name) -> Option<Value<'p>>) -> bool {
-    let lower = |name: Name| match value_of(name) {
+fn certain<'p>(condition: &Condition<'p>, certainty: Certainty, value_of: &dyn Fn(Subject) -> Option<Value<'p>>) -> bool {
+    let lower = |subject: Subject| match value_of(subject) {
         Some(Value::Range(low, _)) => Some(Value::Number(low)),
         other => other,
     };
@@ -153,9 +153,9 @@ fn certain<'p>(condition: &Condition<'p>, certainty: Certainty, value_of: &dyn F
 }
 
 /// Blunder 31: `eq` and `ne` tell cases apart.
-fn holds_by_bytes<'p>(condition: &Condition<'p>, value_of: &dyn Fn(Name) -> Option<Value<'p>>) -> bool {
+fn holds_by_bytes<'p>(condition: &Condition<'p>, value_of: &dyn Fn(Subject) -> Option<Value<'p>>) -> bool {
     match condition {
-        Condition::Compare(comparison) => match (value_of(comparison.subject.text), comparison.value.value) {
+        Condition::Compare(comparison) => match (value_of(comparison.subject), comparison.value.value) {
             (Some(Value::Name(left)), Value::Name(right)) => (left.written() == right.written()) == (comparison.operator == Operator::Eq),
             _ => condition.holds(value_of),
         },
@@ -166,9 +166,9 @@ fn holds_by_bytes<'p>(condition: &Condition<'p>, value_of: &dyn Fn(Name) -> Opti
 }
 
 /// Blunders 66 and 67: dates in another order.
-fn holds_out_of_order<'p>(condition: &Condition<'p>, value_of: &dyn Fn(Name) -> Option<Value<'p>>) -> bool {
+fn holds_out_of_order<'p>(condition: &Condition<'p>, value_of: &dyn Fn(Subject) -> Option<Value<'p>>) -> bool {
     match condition {
-        Condition::Compare(comparison) => match (value_of(comparison.subject.text), comparison.value.value) {
+        Condition::Compare(comparison) => match (value_of(comparison.subject), comparison.value.value) {
             (Some(Value::Date(left)), Value::Date(right)) => {
                 let order = dates::key(left).cmp(&dates::key(right));
                 match comparison.operator {
@@ -193,7 +193,8 @@ fn reached_closed<'p>(policy: &Policy<'p>, request: &Request<'_, 'p>, table: &Ta
     let selected = if request.blanks { Vec::new() } else { request.selected.clone().unwrap_or_default() };
     let reached = RefCell::new(selected);
     if let Some(condition) = request.condition {
-        condition.holds(&|name| {
+        condition.holds(&|subject| {
+            let name = subject.name.text;
             reached.borrow_mut().extend(table.columns.iter().position(|column| column.name == name));
             value_in(table, row, name)
         });
@@ -266,7 +267,7 @@ fn whole(policy: &Policy, table: usize) -> Vec<u8> {
 }
 
 /// `(end PASSED WITHHELD UNMATCHED)`, and a line feed.
-fn write_end(text: &mut Vec<u8>, passed: usize, withheld: usize, unmatched: usize) {
+pub fn write_end(text: &mut Vec<u8>, passed: usize, withheld: usize, unmatched: usize) {
     text.extend_from_slice(format!("(end {passed} {withheld} {unmatched})\n").as_bytes());
 }
 
@@ -281,18 +282,23 @@ fn write_row(text: &mut Vec<u8>, row: &Row, selected: &[usize], blank: &dyn Fn(u
             text.extend(std::iter::repeat_n(b'-', length));
             continue;
         }
-        match row.cells[column].value {
-            Value::Name(name) if on(30) => text.extend_from_slice(&name.small()),
-            Value::Name(name) => text.extend_from_slice(name.written()),
-            Value::Number(number) => text.extend_from_slice(number.to_string().as_bytes()),
-            Value::Range(low, high) if on(59) && low == high => text.extend_from_slice(low.to_string().as_bytes()),
-            Value::Range(low, high) => text.extend_from_slice(format!("({low} {high})").as_bytes()),
-            Value::Date(Date { year, month, day }) if on(77) => text.extend_from_slice(format!("({year} {month:02} {day:02})").as_bytes()),
-            // 02, Q-14: "the answer prints the same form".
-            Value::Date(Date { year, month, day }) => text.extend_from_slice(format!("({year} {month} {day})").as_bytes()),
-        }
+        write_value(text, row.cells[column].value);
     }
     text.extend_from_slice(b")\n");
+}
+
+/// A value as its row line wrote it.
+pub fn write_value(text: &mut Vec<u8>, value: Value) {
+    match value {
+        Value::Name(name) if on(30) => text.extend_from_slice(&name.small()),
+        Value::Name(name) => text.extend_from_slice(name.written()),
+        Value::Number(number) => text.extend_from_slice(number.to_string().as_bytes()),
+        Value::Range(low, high) if on(59) && low == high => text.extend_from_slice(low.to_string().as_bytes()),
+        Value::Range(low, high) => text.extend_from_slice(format!("({low} {high})").as_bytes()),
+        Value::Date(Date { year, month, day }) if on(77) => text.extend_from_slice(format!("({year} {month:02} {day:02})").as_bytes()),
+        // 02, Q-14: "the answer prints the same form".
+        Value::Date(Date { year, month, day }) => text.extend_from_slice(format!("({year} {month} {day})").as_bytes()),
+    }
 }
 
 /// Blunder 46: as many `-` as the value has bytes.

@@ -1,15 +1,16 @@
 //! A copy of the reference's `ask`, with blunders 2, 4, 5, 8, 9, 10, 16, 29, 33 to 36, 40, 44, 49 to 51, 55 to 57, 71 to 76, 98 and 99.
 
-use crate::answer::{label_open, write, Answer, Request};
+use crate::answer::{label_open, write, Answer, Request, Written};
 use crate::check::read_document;
 use crate::clock::Clock;
-use crate::condition::{Certainty, Operator};
+use crate::condition::{Certainty, Operator, Subject};
 use crate::dates;
 use crate::forms::{Type, Value, Word};
+use crate::join;
 use crate::nest::Sets;
 use crate::on;
 use crate::policy::{Grant, Labelling, Policy, Row, User};
-use crate::query::{read_query, Query, Verb};
+use crate::query::{read_query, Asked, Rows, Verb};
 use crate::refusal::{leftmost, of_query, Refusal};
 use crate::text::{Name, Span};
 
@@ -28,7 +29,7 @@ pub fn ask(doc: &[u8], query: &[u8], clock: Clock, out: &mut [u8]) -> Result<Ans
 
     // "11 query not one form of the two shapes, or over a bound"; 02, Q-3: "in later query forms 11 admits the form".
     let Some(parsed) = read_query(query) else { return Err(of_query(11, whole_query)) };
-    let known: [&[u8]; 5] = [b"(select ", b"(count ", b"(blank ", b"(sure ", b"(possible "];
+    let known: [&[u8]; 6] = [b"(select ", b"(count ", b"(blank ", b"(sure ", b"(possible ", b"(join "];
     if on(33) && !known.iter().any(|word| query.starts_with(word)) {
         return Err(of_query(11, whole_query));
     }
@@ -40,8 +41,10 @@ pub fn ask(doc: &[u8], query: &[u8], clock: Clock, out: &mut [u8]) -> Result<Ans
     let Some(role) = policy.role(parsed.role.text) else { return Err(of_query(12, parsed.role.span)) };
     let Some(purpose) = policy.purpose(parsed.purpose.text) else { return Err(of_query(12, parsed.purpose.span)) };
 
-    if on(16) && policy.table(parsed.table.text).is_none() {
-        return Err(of_query(15, parsed.table.span));
+    if let (Asked::Rows(rows), true) = (&parsed.asked, on(16)) {
+        if policy.table(rows.table.text).is_none() {
+            return Err(of_query(15, rows.table.span));
+        }
     }
 
     // "13 role not given to the user".
@@ -52,6 +55,26 @@ pub fn ask(doc: &[u8], query: &[u8], clock: Clock, out: &mut [u8]) -> Result<Ans
         return Err(of_query(14, parsed.purpose.span));
     };
 
+    let written = match &parsed.asked {
+        Asked::Rows(rows) => of_one_table(&policy, rows, purpose, out.len())?,
+        Asked::Pairs(join) => join::answered(&policy, join, purpose)?,
+    };
+
+    // "18 answer longer than the lent buffer".
+    let len = written.text.len();
+    if on(9) && out.len() < len {
+        let room = out.len();
+        out.copy_from_slice(&written.text[..room]);
+    }
+    let Some(room) = out.get_mut(..len) else { return Err(of_query(18, at_start)) };
+
+    // "An accepted answer fills the first bytes only".
+    room.copy_from_slice(&written.text);
+    Ok(Answer { len, grant, passed: written.passed, withheld: written.withheld, unmatched: written.unmatched })
+}
+
+/// 15 to 17 of a query of one table, then its answer; `room` is the buffer's length, for blunder 8.
+fn of_one_table(policy: &Policy, parsed: &Rows, purpose: usize, room: usize) -> Result<Written, Refusal> {
     // "15 table or named column unknown".
     let Some(table) = policy.table(parsed.table.text) else { return Err(of_query(15, parsed.table.span)) };
     let undeclared = policy.tables[table].labelling == Labelling::None && !policy.tables[table].public;
@@ -59,7 +82,7 @@ pub fn ask(doc: &[u8], query: &[u8], clock: Clock, out: &mut [u8]) -> Result<Ans
         return Err(of_query(17, parsed.table.span));
     }
     let named = parsed.named_columns();
-    if let Some(part) = leftmost(&unknown_columns(&policy, table, &named)) {
+    if let Some(part) = leftmost(&unknown_columns(policy, table, &named)) {
         return Err(of_query(15, part));
     }
 
@@ -70,11 +93,11 @@ pub fn ask(doc: &[u8], query: &[u8], clock: Clock, out: &mut [u8]) -> Result<Ans
 
     // "16 wrong type in the condition".
     if let Some(condition) = &parsed.condition {
-        let kind_of = |name: Name| column_place(&policy, table, name).map(|place| policy.tables[table].columns[place].kind);
+        let kind_of = |subject: Subject| column_place(policy, table, subject.name.text).map(|place| policy.tables[table].columns[place].kind);
         let mut wrong = condition.wrong_types(&kind_of);
         if on(76) {
             let ordered = condition.comparisons().into_iter().filter(|comparison| !matches!(comparison.operator, Operator::Eq | Operator::Ne));
-            wrong.extend(ordered.filter(|comparison| kind_of(comparison.subject.text) == Some(Type::Date)).map(|comparison| comparison.operator_span));
+            wrong.extend(ordered.filter(|comparison| kind_of(comparison.subject) == Some(Type::Date)).map(|comparison| comparison.operator_span));
         }
         if let Some(part) = leftmost(&wrong) {
             return Err(of_query(16, part));
@@ -83,8 +106,8 @@ pub fn ask(doc: &[u8], query: &[u8], clock: Clock, out: &mut [u8]) -> Result<Ans
 
     // 02, Q-12: "27 a range in any row of a named column in a select, blank, count or join, after 16, at the column".
     let looked_at = if on(57) { parsed.columns.clone().unwrap_or_default() } else { named.clone() };
-    let in_27 = |row: &Row| !on(55) || row.label.is_none_or(|label| label_open(&policy, label, purpose));
-    let ranged = if parsed.verb.takes_ranges() { None } else { leftmost(&ranged_columns(&policy, table, &looked_at, &in_27)) };
+    let in_27 = |row: &Row| !on(55) || row.label.is_none_or(|label| label_open(policy, label, purpose));
+    let ranged = if parsed.verb.takes_ranges() { None } else { leftmost(&ranged_columns(policy, table, &looked_at, &in_27)) };
     if let (Some(part), true) = (no_date, on(72)) {
         return Err(of_query(31, part));
     }
@@ -104,7 +127,7 @@ pub fn ask(doc: &[u8], query: &[u8], clock: Clock, out: &mut [u8]) -> Result<Ans
         _ if on(2) => selected(),
         Verb::Blank if on(44) => named.clone(),
         Verb::Blank if on(49) => selected(),
-        Verb::Blank if on(50) => unselected(&parsed),
+        Verb::Blank if on(50) => unselected(parsed),
         _ => parsed.withholding_columns(),
     };
     let named = if on(2) { selected() } else { named };
@@ -113,7 +136,7 @@ pub fn ask(doc: &[u8], query: &[u8], clock: Clock, out: &mut [u8]) -> Result<Ans
     let [named, withholding] = [named, withholding].map(|words| if on(34) { words.into_iter().filter(by_bytes).collect() } else { words });
 
     // "17 table or column closed".
-    if let Some(part) = leftmost(&closed_parts(&policy, &parsed, table, &named, purpose)) {
+    if let Some(part) = leftmost(&closed_parts(policy, parsed, table, &named, purpose)) {
         return Err(of_query(17, part));
     }
 
@@ -124,8 +147,7 @@ pub fn ask(doc: &[u8], query: &[u8], clock: Clock, out: &mut [u8]) -> Result<Ans
         return Err(of_query(31, part));
     }
 
-    // "18 answer longer than the lent buffer".
-    let places = |words: &[Word]| words.iter().filter_map(|word| column_place(&policy, table, word.text)).collect();
+    let places = |words: &[Word]| words.iter().filter_map(|word| column_place(policy, table, word.text)).collect();
     let request = Request {
         purpose,
         table,
@@ -140,20 +162,11 @@ pub fn ask(doc: &[u8], query: &[u8], clock: Clock, out: &mut [u8]) -> Result<Ans
         sets: policy.labels.iter().map(|label| Sets::of_label(&policy.tree, label)).collect(),
         condition: parsed.condition.as_ref(),
     };
-    let written = write(&policy, &request);
-    let len = written.text.len();
-    if on(8) && out.len() < write(&policy, &Request { condition: None, ..request }).text.len() {
-        return Err(of_query(18, at_start));
+    let written = write(policy, &request);
+    if on(8) && room < write(policy, &Request { condition: None, ..request }).text.len() {
+        return Err(of_query(18, Span { start: 0, len: 0 }));
     }
-    if on(9) && out.len() < len {
-        let room = out.len();
-        out.copy_from_slice(&written.text[..room]);
-    }
-    let Some(room) = out.get_mut(..len) else { return Err(of_query(18, at_start)) };
-
-    // "An accepted answer fills the first bytes only".
-    room.copy_from_slice(&written.text);
-    Ok(Answer { len, grant, passed: written.passed, withheld: written.withheld, unmatched: written.unmatched })
+    Ok(written)
 }
 
 /// 01: "the position, counted from 0, of the first grant that authorises it".
@@ -173,21 +186,21 @@ fn belongs(policy: &Policy, user: &User, cond_role: usize, clock: Clock) -> bool
     let Some(cond_role) = policy.cond_roles.get(cond_role) else { return false };
     let matching = if on(5) { user.role == cond_role.role } else { policy.role_descends(user.role, cond_role.role) };
     matching
-        && cond_role.condition.holds(&|name| match clock.value(name) {
+        && cond_role.condition.holds(&|subject| match clock.value(subject.name.text) {
             Some(value) => Some(value),
-            None => user.values.iter().find(|(attribute, _)| *attribute == name).map(|(_, value)| *value),
+            None => user.values.iter().find(|(attribute, _)| *attribute == subject.name.text).map(|(_, value)| *value),
         })
 }
 
 /// Blunder 50: the condition's columns that aren't selected too.
-fn unselected<'a>(query: &Query<'a>) -> Vec<Word<'a>> {
+fn unselected<'a>(query: &Rows<'a>) -> Vec<Word<'a>> {
     let selected = query.columns.clone().unwrap_or_default();
     let only = |word: &Word| !selected.iter().any(|column| column.text == word.text);
     query.withholding_columns().into_iter().filter(only).collect()
 }
 
 /// The place of a column of a table.
-fn column_place(policy: &Policy, table: usize, name: Name) -> Option<usize> {
+pub fn column_place(policy: &Policy, table: usize, name: Name) -> Option<usize> {
     let columns = &policy.tables[table].columns;
     if on(29) {
         return columns.iter().position(|column| column.name.written() == name.written());
@@ -211,7 +224,7 @@ fn ranged_columns(policy: &Policy, table: usize, named: &[Word], counts: &dyn Fn
 
 /// 01: "table label closed, or a named column's label closed, refuses the query"; 02, Q-2: "`none` is closed to every purpose,
 /// and its queries are refused with 17 at the table name", unless the table is public.
-fn closed_parts(policy: &Policy, query: &Query, table: usize, named: &[Word], purpose: usize) -> Vec<Span> {
+fn closed_parts(policy: &Policy, query: &Rows, table: usize, named: &[Word], purpose: usize) -> Vec<Span> {
     match policy.tables[table].labelling {
         _ if on(36) && policy.tables[table].public => Vec::new(),
         Labelling::None if !policy.tables[table].public && !on(35) => vec![query.table.span],

@@ -1,6 +1,6 @@
 //! The reference with one blunder switched on, for `comparison --mutant K`: most modules are the
-//! reference's own files; `answer`, `ask`, `check`, `import`, `nest` and `why` are copies with the blunders in them, and `dates` has
-//! those of dates.
+//! reference's own files; `answer`, `ask`, `check`, `import`, `join`, `nest` and `why` are copies with the blunders in them, and `dates`
+//! has those of dates.
 
 use std::ops::RangeInclusive;
 use std::sync::atomic::{AtomicU32, Ordering};
@@ -18,6 +18,7 @@ mod dates;
 #[path = "../../reference/src/forms.rs"]
 pub mod forms;
 mod import;
+mod join;
 mod nest;
 #[path = "../../reference/src/policy.rs"]
 pub mod policy;
@@ -42,7 +43,7 @@ pub use refusal::{Refusal, Source};
 pub use why::why;
 
 /// What each mutant does wrong, counted from 1.
-pub const BLUNDERS: [&str; 139] = [
+pub const BLUNDERS: [&str; 176] = [
     "a denied purpose closes downwards only",
     "labels tested for selected columns only",
     "withheld counted only where the condition holds",
@@ -182,7 +183,47 @@ pub const BLUNDERS: [&str; 139] = [
     "a why line's column looked up by its bytes",
     "a why line doesn't look at denied purposes from the 65th on",
     "a nest table explained by its cells' labels",
+    "a join's second key not counted as named",
+    "a join's first key not counted as named",
+    "a join withholds nothing",
+    "a pair given though its second row is withheld",
+    "a pair given though its first row is withheld",
+    "22 tested after the types",
+    "22 tested before 15",
+    "22 not given for a table written in another case",
+    "a table joined with itself answered",
+    "keys of withheld rows read: their pairs unmatched where these differ",
+    "an `of` names its column in both tables",
+    "a column of a join's condition read in the first table that has it",
+    "a joined column printed from the first table that has it",
+    "pairs by the second table's rows, then the first's",
+    "a join's keys compared by their bytes",
+    "keys of different types unmatched, not 16",
+    "16 for keys of different types at the first one",
+    "16 of a join's condition before that of its keys",
+    "27 not for a join's keys",
+    "27 not for a join's second table",
+    "27 tested after 17 in a join",
+    "no 31 in a join",
+    "31 tested after 17 in a join",
+    "17 not for a join's second table",
+    "17 not for a closed key column",
+    "an `of` with a third table looked up in the second",
+    "15 at the column of an `of` with neither table",
+    "15 of a join's columns before that of its keys",
+    "a withheld row of the first table counted once, not in each of its pairs",
+    "only the first match of a row given",
+    "an `of` in the condition not counted as named",
+    "an `of`'s table known by its bytes",
+    "a pair that fails the condition alone not counted",
+    "dates as keys compared without their year",
+    "a plain column taken in a join",
+    "27 not for ranges in rows withheld from a join by their label",
+    "every cell of a join's second table counted as named",
 ];
+
+/// These blunders are of joins (02, Q-3).
+pub const JOINING: RangeInclusive<u32> = 140..=176;
 
 /// These blunders are of importing.
 pub const IMPORTING: RangeInclusive<u32> = 17..=28;

@@ -1,8 +1,9 @@
 //! Small documents, each with a query and what `may_differ` says of every cell: `tests/free` holds them against the definition.
 
 use crate::documents::{condition, Builder};
+use crate::joins::{self, Join};
 use crate::model::*;
-use crate::pairs::{blanked, may_differ};
+use crate::pairs::{blanked, may_differ, Names};
 use crate::queries::{self, Query, Verb};
 use crate::random::Random;
 use crate::recase::{self, listed, same};
@@ -60,6 +61,33 @@ const SITUATIONS: [&str; 51] = [
     "nest: bound, weakly allowed",
     "nest: bound, allowed again below a label that denies",
     "nest: bound, the row's own label being closed",
+];
+
+/// Whether joins are queries (02, Q-3); then one case in four is a join, and a run has to see each of these too.
+const JOINS: bool = cfg!(feature = "join");
+const JOINED: [&str; 22] = [
+    "join: no query",
+    "join: unknown purpose",
+    "join: third table",
+    "join: third table, an `of` with it",
+    "join: column not named",
+    "join: column not named, the other table's of its name being named",
+    "join: closed, the first table",
+    "join: closed, the second table",
+    "join: closed key",
+    "join: open, in a withheld row of the first table",
+    "join: open, in a withheld row of the second table",
+    "join: bound key of the first table",
+    "join: bound key of the second table",
+    "join: bound, selected",
+    "join: bound, named by the condition alone",
+    "join: bound, in other cases",
+    "join: bound, the second table being unknown",
+    "join: bound, the first table being unknown",
+    "join: bound, its row's pairs all withheld",
+    "join: with itself, bound",
+    "join: with itself, bound for the second key alone",
+    "join: with itself, column not named",
 ];
 
 /// Two to five purposes, one to three tables with two to six rows, and what these need; at times a user with a grant.
@@ -166,6 +194,101 @@ fn situations(model: &Model, query: Option<&Query>, row: &Row, column: usize) ->
             None => [bound(model, query, row, column), of_nest(model, query, row, column, purpose, "bound")].concat(),
         },
     }
+}
+
+/// Whether a row of either table is withheld from a join.
+fn withholds(model: &Model, join: &Join) -> bool {
+    let Some(purpose) = model.purpose(&join.purpose) else { return false };
+    model.rows.iter().any(|row| join.named_in(&model.tables[row.table].name).is_some_and(|named| model.row_withheld(row, &named, purpose)))
+}
+
+/// A document with a join's text, and the join if it is one.
+fn join_case(random: &mut Random) -> (Model, Vec<u8>, Option<Join>) {
+    loop {
+        let model = joins::document_of(random, 2);
+        let clock = reference::Clock { year: 2028, day: 366, hour: 10 };
+        let mut join = joins::good(random, &model, clock);
+        // The longest texts would take the prover's time from all others.
+        if join.condition.as_ref().is_some_and(|condition| condition.subjects().len() > 4) {
+            join.condition = None;
+        }
+        match random.below(12) {
+            0 => join.purpose = "nobody".to_string(),
+            1 | 2 => join.tables[random.below(2)] = "nobody".to_string(),
+            3..=5 => joins::fault(random, &model, &mut join),
+            6 | 7 => joins::with_itself(random, &model, &mut join),
+            // Half of the others have a row withheld.
+            _ if random.chance(1, 2) && !withholds(&model, &join) => continue,
+            _ => {}
+        }
+        if model.rows.is_empty() || !join.within_bounds() {
+            continue;
+        }
+        if !random.chance(1, 12) {
+            return (model, join.text(), Some(join));
+        }
+        let text = joins::no_join(random, &join);
+        if text.len() <= 1_000 {
+            return (model, text, None);
+        }
+    }
+}
+
+/// What a cell is to a join, by the model (02, Q-3).
+fn join_situations(model: &Model, join: Option<&Join>, row: &Row, column: usize) -> Vec<&'static str> {
+    let Some(join) = join else { return vec!["join: no query"] };
+    let Some(purpose) = model.purpose(&join.purpose) else { return vec!["join: unknown purpose"] };
+    let table = &model.tables[row.table];
+    let name = &table.columns[column].name;
+    let Some(named) = join.named_in(&table.name) else {
+        let with_of = join.ofs().iter().any(|(own, column)| same(own, &table.name) && same(column, name));
+        return vec![if with_of { "join: third table, an `of` with it" } else { "join: third table" }];
+    };
+    let own = |side: usize| same(&join.tables[side], &table.name);
+    let with_itself = own(0) && own(1);
+    let other = usize::from(own(0));
+    let key = (0..2).any(|side| own(side) && same(&join.keys[side], name));
+    let withheld = model.row_withheld(row, &named, purpose);
+    match (listed(&named, name), model.cell_open(row, column, purpose), withheld) {
+        (false, true, false) if with_itself => vec!["join: with itself, column not named"],
+        (false, true, false) if listed(&join.withholding_in(&join.tables[other]), name) => vec!["join: column not named, the other table's of its name being named"],
+        (false, true, false) => vec!["join: column not named"],
+        (true, false, _) => {
+            let side = if own(0) { "join: closed, the first table" } else { "join: closed, the second table" };
+            [side, "join: closed key"].into_iter().take(1 + usize::from(key)).collect()
+        }
+        (true, true, true) if own(0) => vec!["join: open, in a withheld row of the first table"],
+        (true, true, true) => vec!["join: open, in a withheld row of the second table"],
+        (true, true, false) => join_bound(model, join, row, column, purpose),
+        _ => Vec::new(),
+    }
+}
+
+/// The situations of a cell that may not differ for a join.
+fn join_bound(model: &Model, join: &Join, row: &Row, column: usize, purpose: usize) -> Vec<&'static str> {
+    let table = &model.tables[row.table];
+    let is = |name: &str| same(name, &table.columns[column].name);
+    let own = |side: usize| same(&join.tables[side], &table.name);
+    let of = |(own, name): (&str, &str)| same(own, &table.name) && is(name);
+    let selected = join.columns.iter().any(|(own, name)| of((own, name)));
+    let compared = join.subjects().into_iter().any(of);
+    let key = |side: usize| own(side) && is(&join.keys[side]);
+    let known = |side: usize| joins::table_of(model, &join.tables[side]).is_some();
+    let other = usize::from(own(0));
+    let others: Vec<&Row> = model.rows.iter().filter(|row| same(&model.tables[row.table].name, &join.tables[other])).collect();
+    let other_withheld = |row: &&Row| model.row_withheld(row, &join.withholding_in(&join.tables[other]), purpose);
+    let seen = [
+        (key(0) && !own(1), "join: bound key of the first table"),
+        (key(1) && !own(0), "join: bound key of the second table"),
+        (selected, "join: bound, selected"),
+        (compared && !selected && !key(0) && !key(1), "join: bound, named by the condition alone"),
+        (own(0) && !known(1), "join: bound, the second table being unknown"),
+        (own(1) && !known(0), "join: bound, the first table being unknown"),
+        (!others.is_empty() && others.iter().all(other_withheld), "join: bound, its row's pairs all withheld"),
+        (own(0) && own(1), "join: with itself, bound"),
+        (own(0) && own(1) && is(&join.keys[1]) && !is(&join.keys[0]) && !selected && !compared, "join: with itself, bound for the second key alone"),
+    ];
+    seen.into_iter().filter(|(seen, _)| *seen).map(|(_, situation)| situation).collect()
 }
 
 /// What the labels of a nest table make of the cell (02, Q-11), beside what it is in tables of every scheme.
@@ -302,21 +425,45 @@ fn of_values(situation: &str, value: &Value, query: Option<&Query>) -> Vec<&'sta
     words.into_iter().zip([value.is_range(), value.is_date(), of]).filter(|(_, seen)| *seen).map(|(word, _)| word).collect()
 }
 
+/// A document and a query on a line each, then a word of 0 and 1 for each row, 1 where the value may differ.
+fn print_case(model: &Model, document: &[u8], text: &[u8], free: &dyn Fn(&Row, usize) -> bool) {
+    println!("document {}", document.escape_ascii());
+    println!("query {}", text.escape_ascii());
+    let word = |row: &Row| -> String { (0..row.cells.len()).map(|column| if free(row, column) { '1' } else { '0' }).collect() };
+    let words: String = model.rows.iter().map(|row| format!(" {}", word(row))).collect();
+    println!("cells{words}");
+}
+
+/// One join with its document: prints it, and gives the situations of its cells.
+fn print_join(random: &mut Random) -> Vec<&'static str> {
+    let (model, text, join) = join_case(random);
+    let (document, one) = recase::any(random, model.text());
+    let (text, other) = recase::any(random, text);
+    print_case(&model, &document, &text, &|row, column| may_differ(&model, join.as_ref(), row, column));
+    let cells = model.rows.iter().flat_map(|row| (0..row.cells.len()).map(move |column| (row, column)));
+    let mut seen: Vec<&'static str> = cells.flat_map(|(row, column)| join_situations(&model, join.as_ref(), row, column)).collect();
+    if one != other && seen.iter().any(|situation| situation.starts_with("join: bound")) {
+        seen.push("join: bound, in other cases");
+    }
+    seen
+}
+
 /// Prints the cases: the document and the query on a line each, then a word of 0 and 1 for each row, 1 where the value may differ;
 /// and how often each situation was seen. Fails where one never was.
 pub fn print(seed: u64, cases: u64) -> bool {
     let mut seen = Vec::new();
     for place in 0..cases {
         let random = &mut Random::new(seed, place | 1 << 41);
+        if JOINS && random.chance(1, 4) {
+            seen.extend(print_join(random));
+            continue;
+        }
         let (model, text, query) = case(random);
         // 02, Q-8: all that the model says holds in every case.
         let (document, one) = recase::any(random, model.text());
         let (text, other) = recase::any(random, text);
-        println!("document {}", document.escape_ascii());
-        println!("query {}", text.escape_ascii());
-        print!("cells");
+        print_case(&model, &document, &text, &|row, column| may_differ(&model, query.as_ref(), row, column));
         for row in &model.rows {
-            print!(" ");
             for column in 0..row.cells.len() {
                 let found = situations(&model, query.as_ref(), row, column);
                 if one != other {
@@ -324,13 +471,11 @@ pub fn print(seed: u64, cases: u64) -> bool {
                 }
                 seen.extend(of_values(found[0], &row.cells[column].0, query.as_ref()));
                 seen.extend(found);
-                print!("{}", u8::from(may_differ(&model, query.as_ref(), row, column)));
             }
         }
-        println!();
     }
     let mut missing = Vec::new();
-    for situation in SITUATIONS {
+    for situation in SITUATIONS.into_iter().chain(JOINED.into_iter().filter(|_| JOINS)) {
         let count = seen.iter().filter(|&&seen| seen == situation).count();
         println!("seen {count} {situation}");
         if count == 0 {

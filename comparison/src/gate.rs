@@ -129,7 +129,7 @@ fn refused(number: u64, figures: [u64; 5]) -> Result<Refused, String> {
     // A date of no day may stand in the document or in the query (02, Q-14).
     let fits = match number {
         1..=9 | 25 | 28 => source == 1,
-        10..=18 | 23 | 24 | 26 | 27 => source == 2,
+        10..=18 | 22..=24 | 26 | 27 => source == 2,
         31 => source == 1 || source == 2,
         19..=21 => source == 3,
         _ => false,

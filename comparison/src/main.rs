@@ -11,6 +11,8 @@ mod documents;
 mod files;
 mod gate;
 mod imports;
+mod joined;
+mod joins;
 mod model;
 mod nests;
 mod pairs;
@@ -26,17 +28,22 @@ use choices::ChoiceTally;
 use compare::Buffers;
 use gate::{Second, Subject};
 use imports::{ImportTally, Imports};
+use joined::JoinTally;
 use pairs::PairTally;
 use random::Random;
 use std::process::ExitCode;
 use std::time::Instant;
 use texts::{Run, Tally, MISPLACED, SCHEMES, VERBS};
 
+/// How many documents to join in: none where a join is no query (02, Q-3; feature `join`).
+const JOINS: u64 = if cfg!(feature = "join") { 10_000 } else { 0 };
+
 struct Options {
     texts: u64,
     pairs: u64,
     files: u64,
     choices: u64,
+    joins: u64,
     seed: u64,
     mutant: Option<u32>,
     /// How many cases for `tests/free` to print, instead of comparing.
@@ -44,7 +51,7 @@ struct Options {
 }
 
 fn options() -> Result<Options, String> {
-    let mut options = Options { texts: 20_000, pairs: 5_000, files: 40_000, choices: 2_000, seed: 1, mutant: None, cells: None };
+    let mut options = Options { texts: 20_000, pairs: 5_000, files: 40_000, choices: 2_000, joins: JOINS, seed: 1, mutant: None, cells: None };
     let mut arguments = std::env::args().skip(1);
     while let Some(argument) = arguments.next() {
         let given = arguments.next().ok_or(format!("{argument}: a number is missing"))?;
@@ -54,6 +61,7 @@ fn options() -> Result<Options, String> {
             "--pairs" => options.pairs = number,
             "--files" => options.files = number,
             "--choices" => options.choices = number,
+            "--joins" => options.joins = number,
             "--seed" => options.seed = number,
             "--cells" => options.cells = Some(number),
             "--mutant" if (1..=mutant::BLUNDERS.len() as u64).contains(&number) => options.mutant = Some(number as u32),
@@ -67,7 +75,7 @@ fn main() -> ExitCode {
     let options = match options() {
         Ok(options) => options,
         Err(what) => {
-            eprintln!("{what}\ncomparison [--texts N] [--pairs N] [--files N] [--choices N] [--seed S] [--mutant 1..{}] [--cells N]", mutant::BLUNDERS.len());
+            eprintln!("{what}\ncomparison [--texts N] [--pairs N] [--files N] [--choices N] [--joins N] [--seed S] [--mutant 1..{}] [--cells N]", mutant::BLUNDERS.len());
             return ExitCode::from(2);
         }
     };
@@ -119,6 +127,14 @@ fn compare_all(options: &Options) -> ExitCode {
         }
     }
     let pairs_done = start.elapsed();
+    let joins = match join_all(options, Second::Reference) {
+        Ok(joins) => joins,
+        Err(difference) => {
+            print!("{difference}");
+            return ExitCode::FAILURE;
+        }
+    };
+    let joins_done = start.elapsed();
     let imports = match import_all(options, &mut buffers) {
         Ok(imports) => imports,
         Err(difference) => {
@@ -129,9 +145,17 @@ fn compare_all(options: &Options) -> ExitCode {
     summary(options, &tally, &pairs);
     println!("all nest labels:   {nests}");
     println!("choices of ranges: {choices}");
+    if options.joins > 0 {
+        println!("{joins}");
+    }
     import_summary(&imports);
-    let seconds = [texts_done, pairs_done - texts_done, start.elapsed() - pairs_done].map(|time| time.as_secs_f64());
-    println!("seconds:           {:.1} texts, {:.1} pairs and choices, {:.1} files", seconds[0], seconds[1], seconds[2]);
+    let seconds = [texts_done, pairs_done - texts_done, joins_done - pairs_done, start.elapsed() - joins_done].map(|time| time.as_secs_f64());
+    println!("seconds:           {:.1} texts, {:.1} pairs and choices, {:.1} joins, {:.1} files", seconds[0], seconds[1], seconds[2], seconds[3]);
+    let unseen = if options.joins > 0 { joins.missing() } else { Vec::new() };
+    if !unseen.is_empty() {
+        println!("FAILED: of joins never seen: {}", unseen.join("; "));
+        return ExitCode::FAILURE;
+    }
     let unseen = if options.files > 0 { imports.missing() } else { Vec::new() };
     if !unseen.is_empty() {
         println!("FAILED: of importing never seen: {unseen:?}");
@@ -223,6 +247,24 @@ fn summary(options: &Options, tally: &Tally, pairs: &PairTally) {
     println!("without labels:    {} pairs alike that differ in an undeclared table; {} told apart in a public one", pairs.undeclared, pairs.told_apart_public);
 }
 
+/// Every document with joins, half as many pairs, and the most pairs that rows can make.
+fn join_all(options: &Options, second: Second) -> Result<JoinTally, String> {
+    let (mut run, mut tally) = (Run::new(second), JoinTally::default());
+    for place in 0..options.joins {
+        let random = &mut Random::new(options.seed, place | 1 << 43);
+        joined::run(random, &mut run, &mut tally).map_err(|difference| format!("{difference}document {place} of seed {}, joined\n", options.seed))?;
+    }
+    for place in 0..options.joins / 2 {
+        let random = &mut Random::new(options.seed, place | 1 << 44);
+        let alike = joined::pair(random, Subject::Gate, &mut run.buffers, &mut tally.pairs);
+        alike.map_err(|difference| format!("{difference}pair {place} of seed {}, joined\n", options.seed))?;
+    }
+    if options.joins > 0 {
+        joined::largest(&mut run).map_err(|difference| difference.to_string())?;
+    }
+    Ok(tally)
+}
+
 /// Every file: random ones, all short ones, and one document in ten files to which a list's lines are added.
 fn import_all(options: &Options, buffers: &mut Buffers) -> Result<ImportTally, String> {
     let mut imports = Imports::new(Second::Reference);
@@ -264,12 +306,40 @@ fn catch_import(options: &Options, blunder: u32) -> ExitCode {
     }
 }
 
+/// A mutant of joins: a difference has to be found on documents that are joined in.
+fn catch_join(options: &Options, blunder: u32) -> ExitCode {
+    let (mut run, mut tally) = (Run::new(Second::Mutant), JoinTally::default());
+    let caught = (0..options.joins).find_map(|place| Some((place + 1, joined::run(&mut Random::new(options.seed, place | 1 << 43), &mut run, &mut tally).err()?)));
+    let leaked = (0..options.joins / 2).find(|place| {
+        let random = &mut Random::new(options.seed, place | 1 << 44);
+        joined::pair(random, Subject::Mutant, &mut run.buffers, &mut tally.pairs).is_err()
+    });
+    match leaked {
+        Some(place) => println!("mutant {blunder}: breaks the no-difference claim after {} pairs", place + 1),
+        None => println!("mutant {blunder}: keeps the no-difference claim in {} pairs", options.joins / 2),
+    }
+    match caught {
+        Some((documents, difference)) => {
+            print!("{difference}");
+            println!("mutant {blunder}: caught after {documents} documents with joins");
+            ExitCode::SUCCESS
+        }
+        None => {
+            println!("mutant {blunder}: NOT caught in {} documents with joins", options.joins);
+            ExitCode::FAILURE
+        }
+    }
+}
+
 /// The gate against a mutant: a difference has to be found. Whether the mutant keeps the no-difference claim is told beside it.
 fn catch(options: &Options, blunder: u32) -> ExitCode {
     mutant::switch(blunder);
     println!("mutant {blunder}: {}", mutant::BLUNDERS[blunder as usize - 1]);
     if mutant::IMPORTING.contains(&blunder) {
         return catch_import(options, blunder);
+    }
+    if mutant::JOINING.contains(&blunder) {
+        return catch_join(options, blunder);
     }
     let mut run = Run::new(Second::Mutant);
     let caught = (0..options.texts).find_map(|place| {

@@ -89,7 +89,7 @@ impl fmt::Display for Condition {
 }
 
 impl Condition {
-    /// The names compared, evaluated or not.
+    /// The names compared, evaluated or not; of a join as they are written, `(of T COL)`.
     pub fn subjects(&self) -> Vec<&str> {
         match self {
             Condition::Compare(_, subject, _) => vec![subject],
@@ -98,10 +98,11 @@ impl Condition {
         }
     }
 
-    /// How many brackets deep it is, a date's own included.
+    /// How many brackets deep it is, that of a date and of a join's `(of T COL)` included.
     pub fn depth(&self) -> usize {
         match self {
             Condition::Compare(_, _, Value::Range(..) | Value::Date(..)) => 2,
+            Condition::Compare(_, subject, _) if subject.starts_with('(') => 2,
             Condition::Compare(..) => 1,
             Condition::Not(inner) => 1 + inner.depth(),
             Condition::And(list) | Condition::Or(list) => 1 + list.iter().map(|c| c.depth()).max().unwrap_or(0),

@@ -52,10 +52,33 @@ pub struct PairTally {
 pub const COUNTED_OTHERWISE: &str = "another case of values changes what is counted";
 
 /// Cells by row and column.
-type Cells = Vec<(usize, usize)>;
+pub type Cells = Vec<(usize, usize)>;
+
+/// What a query names, as the claim asks it.
+pub trait Names {
+    fn purpose(&self) -> &str;
+    /// The columns that it names in a table; none where it doesn't name the table.
+    fn named_in(&self, table: &str) -> Option<Vec<&str>>;
+    /// The columns whose closed cells withhold a row of a table that it names.
+    fn withholding_in(&self, table: &str) -> Vec<&str>;
+}
+
+impl Names for Query {
+    fn purpose(&self) -> &str {
+        &self.purpose
+    }
+
+    fn named_in(&self, table: &str) -> Option<Vec<&str>> {
+        same(table, &self.table).then(|| self.named())
+    }
+
+    fn withholding_in(&self, _: &str) -> Vec<&str> {
+        self.withholding()
+    }
+}
 
 /// The cells that may have another value in a document alike for the query; none: a text that is no query.
-fn free_cells(model: &Model, query: Option<&Query>) -> Cells {
+pub fn free_cells<Q: Names>(model: &Model, query: Option<&Q>) -> Cells {
     let mut free = Vec::new();
     for (place, row) in model.rows.iter().enumerate() {
         for column in 0..row.cells.len() {
@@ -68,17 +91,16 @@ fn free_cells(model: &Model, query: Option<&Query>) -> Cells {
 }
 
 /// 01: "closed to the query's purpose, stands in a table or column that the query doesn't name, or lies in a row withheld from it".
-pub fn may_differ(model: &Model, query: Option<&Query>, row: &Row, column: usize) -> bool {
+pub fn may_differ<Q: Names>(model: &Model, query: Option<&Q>, row: &Row, column: usize) -> bool {
     // "A text that isn't a query .. names nothing."
     let Some(query) = query else { return true };
     // "A purpose that the documents don't know has every cell closed to it."
-    let Some(purpose) = model.purpose(&query.purpose) else { return true };
+    let Some(purpose) = model.purpose(query.purpose()) else { return true };
     let table = &model.tables[row.table];
-    let named = query.named();
+    let Some(named) = query.named_in(&table.name) else { return true };
     !model.cell_open(row, column, purpose)
-        || !same(&table.name, &query.table)
         || !listed(&named, &table.columns[column].name)
-        || model.row_withheld(row, &query.withholding(), purpose)
+        || model.row_withheld(row, &query.withholding_in(&table.name), purpose)
 }
 
 /// 02, Q-10: whether the query is a blank that writes `-` for this cell, if it gives the cell's row.
@@ -113,13 +135,13 @@ fn unlabelled(model: &Model, query: Option<&Query>) -> Option<usize> {
 /// How values are changed: for others, or in their case alone (02, Q-8: "Two documents that differ in the case of an open value
 /// aren't alike", and a value that may differ may differ in that too).
 #[derive(Clone, Copy, PartialEq, Eq)]
-enum Change {
+pub enum Change {
     Values,
     Case,
 }
 
 /// The model with some of those cells changed, each in its type; at least one, and the text within its bound.
-fn changed(random: &mut Random, model: &Model, cells: &Cells, all: bool, change: Change) -> Option<Model> {
+pub fn changed(random: &mut Random, model: &Model, cells: &Cells, all: bool, change: Change) -> Option<Model> {
     let mut other = model.clone();
     let mut any = false;
     let share = if all { 1 } else { *random.pick(&[1, 2, 4, 20]) };
@@ -188,7 +210,8 @@ fn in_nest(model: &Model, other: &Model, query: Option<&Query>) -> (bool, bool) 
     (closed, withheld)
 }
 
-fn accepted(doc: &[u8]) -> bool {
+/// Whether the gate accepts a document.
+pub fn accepted(doc: &[u8]) -> bool {
     matches!(gate::check(doc), Ok(Checked::Accepted { .. }))
 }
 
@@ -316,7 +339,7 @@ pub fn run(random: &mut Random, subject: Subject, buffers: &mut Buffers, tally: 
 }
 
 /// The same lines deleted from both while both are accepted and told apart.
-fn smaller(subject: Subject, buffers: &mut Buffers, doc: &[u8], alike: &[u8], question: &Question) -> Difference {
+pub fn smaller(subject: Subject, buffers: &mut Buffers, doc: &[u8], alike: &[u8], question: &Question) -> Difference {
     let others: Vec<Vec<u8>> = alike.split_inclusive(|&byte| byte == b'\n').map(|line| line.to_vec()).collect();
     let lines: Vec<Vec<u8>> = doc.split_inclusive(|&byte| byte == b'\n').map(|line| line.to_vec()).collect();
     // Lines are numbered in front while shrinking, so that the other document's are known.

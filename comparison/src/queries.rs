@@ -126,6 +126,21 @@ fn random_below(random: &mut Random, bound: u64) -> u64 {
     random.next() % bound
 }
 
+/// A user form and a purpose that it may mostly act for, by their places; none where there are no users or no purposes.
+pub fn asker(random: &mut Random, model: &Model, clock: Clock) -> Option<(usize, usize)> {
+    let mut found = None;
+    if !model.users.is_empty() && !model.purposes.is_empty() {
+        for _ in 0..40 {
+            let (user, purpose) = (random.below(model.users.len()), random.below(model.purposes.len()));
+            found = Some((user, purpose));
+            if model.authorised(user, purpose, [clock.year, clock.day, clock.hour]) {
+                break;
+            }
+        }
+    }
+    found
+}
+
 /// A query that the document mostly answers.
 pub fn good(random: &mut Random, model: &Model, clock: Clock) -> Query {
     let mut query = Query {
@@ -138,18 +153,11 @@ pub fn good(random: &mut Random, model: &Model, clock: Clock) -> Query {
         condition: None,
     };
     let mut purpose = None;
-    if !model.users.is_empty() && !model.purposes.is_empty() {
-        for _ in 0..40 {
-            let user = random.below(model.users.len());
-            let tried = random.below(model.purposes.len());
-            query.user = model.users[user].name.clone();
-            query.role = model.roles[model.users[user].role].name.clone();
-            query.purpose = model.purposes[tried].name.clone();
-            purpose = Some(tried);
-            if model.authorised(user, tried, [clock.year, clock.day, clock.hour]) {
-                break;
-            }
-        }
+    if let Some((user, tried)) = asker(random, model, clock) {
+        query.user = model.users[user].name.clone();
+        query.role = model.roles[model.users[user].role].name.clone();
+        query.purpose = model.purposes[tried].name.clone();
+        purpose = Some(tried);
     }
     if model.tables.is_empty() {
         query.columns = Some(vec!["who".to_string()]);

@@ -331,7 +331,7 @@ impl Run {
     }
 
     /// Measuring gives the answer's length, or the refusal, and the second implementation measures the same (02, Q-4).
-    fn measure(&self, doc: &[u8], question: &Question, asked: Asked) -> Result<(), Difference> {
+    pub fn measure(&self, doc: &[u8], question: &Question, asked: Asked) -> Result<(), Difference> {
         let expected = match asked {
             Asked::Answered { length, .. } => Ok(length),
             Asked::Refused(refused) => Err(refused),
@@ -363,7 +363,8 @@ impl Run {
         alone("an answer longer than the reserve".to_string(), doc, Some(question), gate)
     }
 
-    fn ask(&mut self, doc: &[u8], question: &Question) -> Result<Asked, Difference> {
+    /// One question to both, and what is seen of it.
+    pub fn ask(&mut self, doc: &[u8], question: &Question) -> Result<Asked, Difference> {
         match self.buffers.ask(self.second, doc, question) {
             Ok(asked) => {
                 self.tally.saw_ask(asked);

@@ -66,8 +66,8 @@ fn fate<'p>(policy: &Policy<'p>, request: &Request<'_, 'p>, row: &Row<'p>) -> Fa
     }
     let holds = match (request.condition, request.certainty) {
         (None, _) => true,
-        (Some(condition), None) => condition.holds(&|name| value_in(table, row, name)),
-        (Some(condition), Some(certainty)) => condition.is(certainty, &|name| value_in(table, row, name)),
+        (Some(condition), None) => condition.holds(&|subject| value_in(table, row, subject.name.text)),
+        (Some(condition), Some(certainty)) => condition.is(certainty, &|subject| value_in(table, row, subject.name.text)),
     };
     if holds {
         Fate::Passed
@@ -78,7 +78,7 @@ fn fate<'p>(policy: &Policy<'p>, request: &Request<'_, 'p>, row: &Row<'p>) -> Fa
 
 /// 01: "Scheme row withholds a row whose label is closed ..  Scheme cell withholds a row with a closed named cell." 02, Q-11: a nest
 /// table's "row is withheld only for a closed named cell (for blank, one in the condition)".
-fn withheld(policy: &Policy, request: &Request, table: &Table, row: &Row) -> bool {
+pub fn withheld(policy: &Policy, request: &Request, table: &Table, row: &Row) -> bool {
     match table.labelling {
         Labelling::None | Labelling::Table(_) | Labelling::Column => false,
         Labelling::Row => closed(policy, request, row.label),
@@ -151,7 +151,7 @@ fn whole(policy: &Policy, table: usize) -> Vec<u8> {
 }
 
 /// `(end PASSED WITHHELD UNMATCHED)`, and a line feed.
-fn write_end(text: &mut Vec<u8>, passed: usize, withheld: usize, unmatched: usize) {
+pub fn write_end(text: &mut Vec<u8>, passed: usize, withheld: usize, unmatched: usize) {
     text.extend_from_slice(format!("(end {passed} {withheld} {unmatched})\n").as_bytes());
 }
 
@@ -164,13 +164,18 @@ fn write_row(text: &mut Vec<u8>, row: &Row, selected: &[usize], blank: &dyn Fn(u
             text.push(b'-');
             continue;
         }
-        match row.cells[column].value {
-            Value::Name(name) => text.extend_from_slice(name.written()),
-            Value::Number(number) => text.extend_from_slice(number.to_string().as_bytes()),
-            Value::Range(low, high) => text.extend_from_slice(format!("({low} {high})").as_bytes()),
-            // 02, Q-14: "the answer prints the same form".
-            Value::Date(Date { year, month, day }) => text.extend_from_slice(format!("({year} {month} {day})").as_bytes()),
-        }
+        write_value(text, row.cells[column].value);
     }
     text.extend_from_slice(b")\n");
+}
+
+/// A value as its row line wrote it.
+pub fn write_value(text: &mut Vec<u8>, value: Value) {
+    match value {
+        Value::Name(name) => text.extend_from_slice(name.written()),
+        Value::Number(number) => text.extend_from_slice(number.to_string().as_bytes()),
+        Value::Range(low, high) => text.extend_from_slice(format!("({low} {high})").as_bytes()),
+        // 02, Q-14: "the answer prints the same form".
+        Value::Date(Date { year, month, day }) => text.extend_from_slice(format!("({year} {month} {day})").as_bytes()),
+    }
 }

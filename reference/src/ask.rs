@@ -1,4 +1,5 @@
-//! 01, "Asking": the numbers 1 to 18 in their order, 25 of 02, Q-11, 27 of Q-12 and 31 of Q-14 among them, then the answer.
+//! 01, "Asking": the numbers 1 to 18 in their order, 25 of 02, Q-11, 27 of Q-12 and 31 of Q-14 among them, then the answer; from 15
+//! on a join has its own (Q-3).
 
 use crate::answer::{label_open, write, Answer, Request, Written};
 use crate::check::read_document;
@@ -6,8 +7,9 @@ use crate::clock::Clock;
 use crate::condition::Certainty;
 use crate::forms::{Value, Word};
 use crate::nest::Sets;
+use crate::join;
 use crate::policy::{Labelling, Policy, User};
-use crate::query::{read_query, Query, Verb};
+use crate::query::{read_query, Asked, Rows, Verb};
 use crate::refusal::{leftmost, of_query, Refusal};
 use crate::text::{Name, Span};
 
@@ -60,17 +62,26 @@ fn answered(doc: &[u8], query: &[u8], clock: Clock) -> Result<(Written, usize), 
         return Err(of_query(14, parsed.purpose.span));
     };
 
+    let written = match &parsed.asked {
+        Asked::Rows(rows) => of_one_table(&policy, rows, purpose)?,
+        Asked::Pairs(join) => join::answered(&policy, join, purpose)?,
+    };
+    Ok((written, grant))
+}
+
+/// 15 to 17 of a query of one table, then its answer.
+fn of_one_table(policy: &Policy, parsed: &Rows, purpose: usize) -> Result<Written, Refusal> {
     // "15 table or named column unknown".
     let Some(table) = policy.table(parsed.table.text) else { return Err(of_query(15, parsed.table.span)) };
     let named = parsed.named_columns();
-    if let Some(part) = leftmost(&unknown_columns(&policy, table, &named)) {
+    if let Some(part) = leftmost(&unknown_columns(policy, table, &named)) {
         return Err(of_query(15, part));
     }
 
     // "16 wrong type in the condition".
     if let Some(condition) = &parsed.condition {
-        let wrong = condition.wrong_types(&|name| {
-            column_place(&policy, table, name).map(|place| policy.tables[table].columns[place].kind)
+        let wrong = condition.wrong_types(&|subject| {
+            column_place(policy, table, subject.name.text).map(|place| policy.tables[table].columns[place].kind)
         });
         if let Some(part) = leftmost(&wrong) {
             return Err(of_query(16, part));
@@ -79,7 +90,7 @@ fn answered(doc: &[u8], query: &[u8], clock: Clock) -> Result<(Written, usize), 
 
     // 02, Q-12: "27 a range in any row of a named column in a select, blank, count or join, after 16, at the column".
     if !parsed.verb.takes_ranges() {
-        if let Some(part) = leftmost(&ranged_columns(&policy, table, &named)) {
+        if let Some(part) = leftmost(&ranged_columns(policy, table, &named)) {
             return Err(of_query(27, part));
         }
     }
@@ -90,11 +101,11 @@ fn answered(doc: &[u8], query: &[u8], clock: Clock) -> Result<(Written, usize), 
     }
 
     // "17 table or column closed".
-    if let Some(part) = leftmost(&closed_parts(&policy, &parsed, table, &named, purpose)) {
+    if let Some(part) = leftmost(&closed_parts(policy, parsed, table, &named, purpose)) {
         return Err(of_query(17, part));
     }
 
-    let places = |words: &[Word]| words.iter().filter_map(|word| column_place(&policy, table, word.text)).collect();
+    let places = |words: &[Word]| words.iter().filter_map(|word| column_place(policy, table, word.text)).collect();
     let request = Request {
         purpose,
         table,
@@ -109,7 +120,7 @@ fn answered(doc: &[u8], query: &[u8], clock: Clock) -> Result<(Written, usize), 
         sets: policy.labels.iter().map(|label| Sets::of_label(&policy.tree, label)).collect(),
         condition: parsed.condition.as_ref(),
     };
-    Ok((write(&policy, &request), grant))
+    Ok(write(policy, &request))
 }
 
 /// 01: "the position, counted from 0, of the first grant that authorises it".
@@ -123,14 +134,14 @@ fn first_grant(policy: &Policy, user: &User, purpose: usize, clock: Clock) -> Op
 fn belongs(policy: &Policy, user: &User, cond_role: usize, clock: Clock) -> bool {
     let Some(cond_role) = policy.cond_roles.get(cond_role) else { return false };
     policy.role_descends(user.role, cond_role.role)
-        && cond_role.condition.holds(&|name| match clock.value(name) {
+        && cond_role.condition.holds(&|subject| match clock.value(subject.name.text) {
             Some(value) => Some(value),
-            None => user.values.iter().find(|(attribute, _)| *attribute == name).map(|(_, value)| *value),
+            None => user.values.iter().find(|(attribute, _)| *attribute == subject.name.text).map(|(_, value)| *value),
         })
 }
 
 /// The place of a column of a table.
-fn column_place(policy: &Policy, table: usize, name: Name) -> Option<usize> {
+pub fn column_place(policy: &Policy, table: usize, name: Name) -> Option<usize> {
     policy.tables[table].columns.iter().position(|column| column.name == name)
 }
 
@@ -147,21 +158,26 @@ fn ranged_columns(policy: &Policy, table: usize, named: &[Word]) -> Vec<Span> {
     named.iter().filter(|word| column_place(policy, table, word.text).is_some_and(has_range)).map(|word| word.span).collect()
 }
 
-/// 01: "table label closed, or a named column's label closed, refuses the query"; 02, Q-2: "`none` is closed to every purpose,
-/// and its queries are refused with 17 at the table name", unless the table is public; Q-11: "A nest table gives no 17".
-fn closed_parts(policy: &Policy, query: &Query, table: usize, named: &[Word], purpose: usize) -> Vec<Span> {
-    match policy.tables[table].labelling {
-        Labelling::None if !policy.tables[table].public => vec![query.table.span],
-        Labelling::Table(label) if !label_open(policy, label, purpose) => vec![query.table.span],
-        Labelling::Column => named
-            .iter()
-            .filter(|word| {
-                let column = column_place(policy, table, word.text);
-                let label = column.and_then(|place| policy.tables[table].columns[place].label);
-                label.is_some_and(|label| !label_open(policy, label, purpose))
-            })
-            .map(|word| word.span)
-            .collect(),
-        Labelling::None | Labelling::Table(_) | Labelling::Row | Labelling::Cell | Labelling::Nest => Vec::new(),
+/// 01: "table label closed, or a named column's label closed, refuses the query".
+fn closed_parts(policy: &Policy, query: &Rows, table: usize, named: &[Word], purpose: usize) -> Vec<Span> {
+    if table_closed(policy, table, purpose) {
+        return vec![query.table.span];
     }
+    let shut = |word: &&Word| column_place(policy, table, word.text).is_some_and(|place| closed_column(policy, table, place, purpose));
+    named.iter().filter(shut).map(|word| word.span).collect()
+}
+
+/// Whether the table's label is closed; 02, Q-2: "`none` is closed to every purpose, and its queries are refused with 17 at the table
+/// name", unless the table is public; Q-11: "A nest table gives no 17".
+pub fn table_closed(policy: &Policy, table: usize, purpose: usize) -> bool {
+    match policy.tables[table].labelling {
+        Labelling::None => !policy.tables[table].public,
+        Labelling::Table(label) => !label_open(policy, label, purpose),
+        Labelling::Column | Labelling::Row | Labelling::Cell | Labelling::Nest => false,
+    }
+}
+
+/// Whether a column has a label, under scheme column, that is closed.
+pub fn closed_column(policy: &Policy, table: usize, place: usize, purpose: usize) -> bool {
+    policy.tables[table].columns[place].label.is_some_and(|label| !label_open(policy, label, purpose))
 }

@@ -1,7 +1,7 @@
 //! 01: "A condition is a comparison, `(not c)`, or `and` or `or` over one or more conditions."
 
 use crate::forms::{constant, word, Given, Type, Value, Word};
-use crate::text::{Item, Kind, Name, Span};
+use crate::text::{Item, Kind, Span};
 
 /// 01: "64 comparisons a condition".
 pub const MOST_COMPARISONS: usize = 64;
@@ -17,12 +17,26 @@ pub enum Operator {
     Ge,
 }
 
+/// What a comparison is over: an attribute or a column, in a join with its table (02, Q-3).
+#[derive(Clone, Copy, Debug)]
+pub struct Subject<'a> {
+    pub table: Option<Word<'a>>,
+    pub name: Word<'a>,
+}
+
+impl<'a> Subject<'a> {
+    /// The name alone, as attributes and the columns of one table are written.
+    pub fn plain(item: &Item<'a>) -> Option<Subject<'a>> {
+        Some(Subject { table: None, name: word(item)? })
+    }
+}
+
 /// One comparison, with the places of its operator and value.
 #[derive(Clone, Debug)]
 pub struct Comparison<'a> {
     pub operator: Operator,
     pub operator_span: Span,
-    pub subject: Word<'a>,
+    pub subject: Subject<'a>,
     pub value: Given<'a>,
 }
 
@@ -48,20 +62,23 @@ fn operator(keyword: &[u8]) -> Option<Operator> {
     }
 }
 
+/// How the subject of a comparison is read.
+pub type ReadSubject<'a> = fn(&Item<'a>) -> Option<Subject<'a>>;
+
 /// Reads one condition; the items nest at most 16 deep, so does this.
-pub fn read_condition<'a>(item: &Item<'a>) -> Option<Condition<'a>> {
+pub fn read_condition<'a>(item: &Item<'a>, subject_of: ReadSubject<'a>) -> Option<Condition<'a>> {
     let Kind::Bracket(items) = &item.kind else { return None };
     let (head, rest) = items.split_first()?;
     let Kind::Name(keyword) = head.kind else { return None };
     let keyword = keyword.small();
     match (&keyword[..], rest) {
-        (b"not", [inner]) => Some(Condition::Not(Box::new(read_condition(inner)?))),
-        (b"and", list) => Some(Condition::And(read_conditions(list)?)),
-        (b"or", list) => Some(Condition::Or(read_conditions(list)?)),
+        (b"not", [inner]) => Some(Condition::Not(Box::new(read_condition(inner, subject_of)?))),
+        (b"and", list) => Some(Condition::And(read_conditions(list, subject_of)?)),
+        (b"or", list) => Some(Condition::Or(read_conditions(list, subject_of)?)),
         (_, [subject, value]) => Some(Condition::Compare(Comparison {
             operator: operator(&keyword)?,
             operator_span: head.span,
-            subject: word(subject)?,
+            subject: subject_of(subject)?,
             value: constant(value)?,
         })),
         _ => None,
@@ -69,11 +86,11 @@ pub fn read_condition<'a>(item: &Item<'a>) -> Option<Condition<'a>> {
 }
 
 /// 01: "over one or more conditions".
-fn read_conditions<'a>(items: &[Item<'a>]) -> Option<Vec<Condition<'a>>> {
+fn read_conditions<'a>(items: &[Item<'a>], subject_of: ReadSubject<'a>) -> Option<Vec<Condition<'a>>> {
     if items.is_empty() {
         return None;
     }
-    items.iter().map(read_condition).collect()
+    items.iter().map(|item| read_condition(item, subject_of)).collect()
 }
 
 impl<'a> Condition<'a> {
@@ -92,10 +109,10 @@ impl<'a> Condition<'a> {
     }
 
     /// 01, 8 and 16: "names take only `eq` and `ne`"; "for 8 the operator or the value".
-    pub fn wrong_types(&self, type_of: &dyn Fn(Name) -> Option<Type>) -> Vec<Span> {
+    pub fn wrong_types(&self, type_of: &dyn Fn(Subject) -> Option<Type>) -> Vec<Span> {
         let mut wrong = Vec::new();
         for comparison in self.comparisons() {
-            let Some(kind) = type_of(comparison.subject.text) else { continue };
+            let Some(kind) = type_of(comparison.subject) else { continue };
             let equality = matches!(comparison.operator, Operator::Eq | Operator::Ne);
             if kind == Type::Name && !equality {
                 wrong.push(comparison.operator_span);
@@ -114,9 +131,9 @@ impl<'a> Condition<'a> {
     }
 
     /// Whether the condition holds for the values that `value_of` gives to its names.
-    pub fn holds(&self, value_of: &dyn Fn(Name) -> Option<Value<'a>>) -> bool {
+    pub fn holds(&self, value_of: &dyn Fn(Subject) -> Option<Value<'a>>) -> bool {
         match self {
-            Condition::Compare(comparison) => match value_of(comparison.subject.text) {
+            Condition::Compare(comparison) => match value_of(comparison.subject) {
                 Some(left) => compare(comparison.operator, left, comparison.value.value),
                 None => false,
             },
@@ -145,9 +162,9 @@ impl Certainty {
 
 impl<'a> Condition<'a> {
     /// 02, Q-12: "`(not c)` is sure if c isn't possible, possible if c isn't sure; `and` and `or` work on each separately."
-    pub fn is(&self, certainty: Certainty, value_of: &dyn Fn(Name) -> Option<Value<'a>>) -> bool {
+    pub fn is(&self, certainty: Certainty, value_of: &dyn Fn(Subject) -> Option<Value<'a>>) -> bool {
         match self {
-            Condition::Compare(comparison) => match value_of(comparison.subject.text) {
+            Condition::Compare(comparison) => match value_of(comparison.subject) {
                 Some(left) => compare_range(certainty, comparison.operator, left, comparison.value.value),
                 None => false,
             },
@@ -175,6 +192,11 @@ fn compare_range(certainty: Certainty, operator: Operator, left: Value, right: V
         (Certainty::Possible, Operator::Gt) => high > r,
         (Certainty::Possible, Operator::Ge) => high >= r,
     }
+}
+
+/// 02, Q-3: "equal" keys are those that `eq` finds equal.
+pub fn equal(left: Value, right: Value) -> bool {
+    compare(Operator::Eq, left, right)
 }
 
 /// The meaning of the six operators; mixed types never come here (8 and 16), nor do ranges (27).

@@ -1,7 +1,7 @@
 //! 01, "Document forms": items to one of the nine forms, or to a `public` line of 02, Q-2, or a `weak` or `strong` one of Q-11, by
 //! shape alone.
 
-use crate::condition::{read_condition, Condition};
+use crate::condition::{read_condition, Condition, Subject};
 use crate::date::Date;
 use crate::text::{read_form, Item, Kind, Name, Span};
 
@@ -194,7 +194,7 @@ fn attribute_value<'a>(item: &Item<'a>) -> Option<(Word<'a>, Given<'a>)> {
 /// 01: "`(cond-role C ROLE cond)`".
 fn cond_role<'a>(items: &[Item<'a>]) -> Option<Form<'a>> {
     let [name, role, condition] = items else { return None };
-    Some(Form::CondRole { name: word(name)?, role: word(role)?, condition: read_condition(condition)? })
+    Some(Form::CondRole { name: word(name)?, role: word(role)?, condition: read_condition(condition, Subject::plain)? })
 }
 
 /// 01: "`(grant PURPOSE C)`".

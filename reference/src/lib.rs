@@ -8,6 +8,7 @@ mod condition;
 mod date;
 mod forms;
 mod import;
+mod join;
 mod nest;
 mod policy;
 pub mod program;

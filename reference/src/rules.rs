@@ -125,7 +125,7 @@ pub fn names_unknown(policy: &Policy, form: &Form) -> Vec<Span> {
             // 01: "any other attribute there is 5".
             if let Some(role) = known_role {
                 for comparison in condition.comparisons() {
-                    let subject = &comparison.subject;
+                    let subject = &comparison.subject.name;
                     uses(subject, policy.condition_type(role, subject.text).is_some());
                 }
             }
@@ -248,7 +248,7 @@ pub fn wrong_types(policy: &Policy, form: &Form) -> Vec<Span> {
             wrong
         }
         Form::CondRole { role, condition, .. } => match policy.role(role.text) {
-            Some(role) => condition.wrong_types(&|name| policy.condition_type(role, name)),
+            Some(role) => condition.wrong_types(&|subject| policy.condition_type(role, subject.name.text)),
             None => Vec::new(),
         },
         Form::Row { table, items } => {
