@@ -4,6 +4,7 @@ A session is (name, policy, input, expected). A policy is a list of lines or byt
 Expected is a list, for each query: the answer's lines, or (number, item) for a refusal, the item being the text of the offending
 word or (text, occurrence counted from 0), None for an empty part at the query's start, and WHOLE for the whole query.
 """
+import re
 
 WHOLE = object()
 
@@ -987,26 +988,29 @@ def printed(query, expected):
         return "".join(line + "\n" for line in expected)
     number, item = expected
     start = length = 0
-    if isinstance(item, tuple):
-        word, nth = item
-        start = [place for place in range(len(query)) if query.startswith(word, place)][nth]
-        length = len(word)
-    elif item is WHOLE:
+    if item is WHOLE:
         length = len(query.encode())
     elif item is not None:
-        start, length = query.index(item), len(item)
+        word, nth = item if isinstance(item, tuple) else (item, 0)
+        places = [found.start() for found in re.finditer(rf"(?<![\w-]){re.escape(word)}(?![\w-])", query)]
+        start, length = places[nth], len(word)
     return f"(refused {number} query {start} {length})\n"
 
 
-def cases():
-    """(name, policy, standard input, what must be printed), in bytes."""
-    for name, policy, lines, expected in SESSIONS:
+def ran(sessions):
+    """(name, policy, standard input, what must be printed) of some sessions, in bytes; each without its last line feed too."""
+    for name, policy, lines, expected in sessions:
         document = "".join(line + "\n" for line in policy).encode()
         wanted = "".join(printed(q, e) for q, e in zip(lines[1:], expected, strict=True)).encode()
         full = "\n".join(lines).encode()
         yield name, document, full + b"\n", wanted
         if lines[-1]:
             yield name + ", without the last line feed", document, full, wanted
+
+
+def cases():
+    """All sessions, and what takes a policy or an input of other bytes."""
+    yield from ran(SESSIONS)
     sample = "".join(line + "\n" for line in SAMPLE).encode()
     yield "no input", sample, b"", b""
     yield "refused policy", sample + b"(purpose x)\n", (DAY + "\n" + SAMPLE_QUERY + "\n").encode(), f"(refused 6 document {len(sample)} 11)\n".encode()

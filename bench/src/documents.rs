@@ -56,7 +56,7 @@ impl Sequence {
 }
 
 /// Purposes, roles, attributes, users, conditional roles, grants and labels, the same in each document.
-const POLICY: &str = "\
+pub const POLICY: &str = "\
 (purpose all)
 (purpose bill all)
 (purpose invoice bill)
@@ -103,7 +103,7 @@ const POLICY: &str = "\
 
 const TOWNS: [&str; 8] = ["Ulm", "Bern", "Graz", "Oslo", "Kiel", "Lund", "Metz", "Pisa"];
 /// Under the purpose `post` these are open ..
-const OPEN: [&str; 4] = ["free", "adsonly", "nophone", "nobill"];
+pub const OPEN: [&str; 4] = ["free", "adsonly", "nophone", "nobill"];
 /// .. and these are closed.
 const CLOSED: [&str; 4] = ["noads", "onlybill", "shut", "caring"];
 /// Of these the first alone denies it, as a closed cell of a nest table has to: a label that says nothing of a purpose leaves what comes

@@ -3,6 +3,7 @@
 //!   bench                     measures and prints the tables
 //!   bench worst [WORD]        documents that are dear to check, with WORD in their names
 //!   bench postgres FOLDER     PostgreSQL, whose socket stands in the folder: bench/postgres starts it
+//!   bench joins [FOLDER]      joins of 512 by 512 rows, beside PostgreSQL too if its folder is given
 //!   bench once WHAT KEY       makes one call, for an instruction counter
 //!   bench keys                prints the keys
 //!   bench text KEY            prints the document; bench query KEY the select
@@ -10,6 +11,8 @@
 mod bytes;
 mod documents;
 mod gate;
+#[cfg_attr(not(sqlite), allow(dead_code))]
+mod joins;
 mod loaded;
 #[cfg_attr(not(sqlite), allow(dead_code))]
 mod modified;
@@ -320,6 +323,8 @@ fn main() -> std::io::Result<()> {
             Ok(())
         }
         ["postgres", folder] => postgres::measure(&cases, folder.as_ref()),
+        ["joins"] => joins::measure(None),
+        ["joins", folder] => joins::measure(Some(folder.as_ref())),
         ["keys"] => {
             for case in &cases {
                 println!("{} {}", key(case), case.text.len());
@@ -333,7 +338,7 @@ fn main() -> std::io::Result<()> {
         ["text", wanted] => std::io::stdout().write_all(&named(wanted).text),
         ["query", wanted] => std::io::stdout().write_all(named(wanted).select.as_bytes()),
         _ => {
-            eprintln!("bench | bench worst [WORD] | bench postgres FOLDER | bench once WHAT KEY | bench keys | bench text KEY | bench query KEY");
+            eprintln!("bench | bench worst [WORD] | bench postgres FOLDER | bench joins [FOLDER] | bench once WHAT KEY | bench keys | bench text KEY | bench query KEY");
             std::process::exit(2)
         }
     }

@@ -16,11 +16,19 @@ impl Form {
         }
     }
 
-    /// The value of a row, which is printed as it is written.
+    /// The value of a row, which is printed as it is written; of a date one number, which stands in the order of dates and is not printed.
     fn value(&self) -> Value {
         match self {
             Form::Word { written, .. } => Value::of(written),
-            Form::List(_) => panic!("a value is wanted"),
+            Form::List(parts) => Value::Number(parts.iter().fold(0, |date, part| 100 * date + part.word().parse::<i64>().expect("a date"))),
+        }
+    }
+
+    /// A column as a condition names it: plainly, or in a join with its table.
+    fn column(&self) -> String {
+        match self {
+            Form::Word { small, .. } => small.clone(),
+            Form::List(parts) => format!("{}.{}", parts[1].word(), parts[2].word()),
         }
     }
 
@@ -241,7 +249,7 @@ impl Document {
             self.add_label(name, column[0].word(), column[2].word());
         }
         let columns = columns.iter().map(Form::list);
-        let columns = columns.map(|column| Column { name: column[0].word().into(), holds_numbers: column[1].word() == "num" });
+        let columns = columns.map(|column| Column { name: column[0].word().into(), holds_numbers: column[1].word() != "name" });
         self.tables.push(self.table(name, scheme, columns.collect()));
     }
 
@@ -348,6 +356,63 @@ impl Document {
     }
 }
 
+/// A join of two tables with labels at their rows (02, Q-3), modified for its purpose.
+pub struct Joined {
+    pub tables: [String; 2],
+    pub keys: [String; 2],
+    /// Whether a row of each table is open.
+    pub opened: [String; 2],
+    /// That the keys are equal, and the condition.
+    tests: Vec<String>,
+    selected: Vec<String>,
+    pub holds_numbers: Vec<bool>,
+}
+
+impl Document {
+    pub fn modify_join(&self, query: &str) -> Joined {
+        let form = read(query);
+        let [_, _, _, purpose, first, second, key, other, selected, rest @ ..] = form.list() else { panic!("a join has two tables and keys") };
+        let tables = [first, second].map(|table| table.word().to_string());
+        let keys = [key, other].map(|key| key.word().to_string());
+        let holds_numbers = |table: &str, name: &str| {
+            let table = self.tables.iter().find(|known| known.name == table).expect("a table of the document");
+            table.columns.iter().any(|column| column.name == name && column.holds_numbers)
+        };
+        let compared = |place: usize| {
+            let column = format!("{}.{}", tables[place], keys[place]);
+            if holds_numbers(&tables[place], &keys[place]) { column } else { self.compared.column(&column) }
+        };
+        let mut tests = vec![format!("{} = {}", compared(0), compared(1))];
+        tests.extend(rest.first().map(|form| condition(form, self.compared, &mut Vec::new())));
+        Joined {
+            opened: [0, 1].map(|place: usize| self.opened(purpose.word(), &format!("{}.{ROW}", tables[place]))),
+            tests,
+            selected: selected.list().iter().map(Form::column).collect(),
+            holds_numbers: selected.list().iter().map(|column| holds_numbers(column.list()[1].word(), column.list()[2].word())).collect(),
+            tables,
+            keys,
+        }
+    }
+}
+
+impl Joined {
+    /// The pairs, those of one row of the first table after the other: SQLite keeps to the order in which tables stand in a cross join.
+    pub fn pairs(&self) -> String {
+        format!("{} AND {} AND {}", self.unlabelled(), self.opened[0], self.opened[1])
+    }
+
+    /// The same without the labels, for a server that tests them itself.
+    pub fn unlabelled(&self) -> String {
+        let Joined { tables: [first, second], selected, tests, .. } = self;
+        format!("SELECT {} FROM {first} CROSS JOIN {second} WHERE {}", selected.join(", "), tests.join(" AND "))
+    }
+
+    /// How many rows of each table are withheld.
+    pub fn withheld(&self) -> [String; 2] {
+        [0, 1].map(|place: usize| format!("SELECT count(*) FROM {} WHERE NOT ({})", self.tables[place], self.opened[place]))
+    }
+}
+
 /// A condition in SQL; the columns that it names are added to the others.
 fn condition(form: &Form, compared: Compared, named: &mut Vec<String>) -> String {
     let [word, rest @ ..] = form.list() else { panic!("a condition has a word") };
@@ -364,10 +429,10 @@ fn condition(form: &Form, compared: Compared, named: &mut Vec<String>) -> String
             return format!("({})", parts.join(&format!(" {} ", joined.to_uppercase())));
         }
     };
-    let column = rest[0].word();
-    named.push(column.to_string());
+    let column = rest[0].column();
+    named.push(column.clone());
     match Value::of(rest[1].word()) {
-        Value::Name(name) => format!("({} {operator} '{name}')", compared.column(column)),
+        Value::Name(name) => format!("({} {operator} '{name}')", compared.column(&column)),
         Value::Number(number) => format!("({column} {operator} {number})"),
     }
 }

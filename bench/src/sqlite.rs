@@ -48,7 +48,7 @@ impl Database {
         Database(handle)
     }
 
-    fn prepare(&self, text: &str) -> Statement {
+    pub fn prepare(&self, text: &str) -> Statement {
         let mut program = null_mut();
         // Sound: the handle is open, the text has its length, and the program is written here.
         let said = unsafe { sqlite3_prepare_v2(self.0, text.as_ptr().cast(), text.len() as c_int, &mut program, null_mut()) };
@@ -57,7 +57,7 @@ impl Database {
         Statement(program)
     }
 
-    fn run(&self, text: &str) {
+    pub fn run(&self, text: &str) {
         self.prepare(text).to_its_end();
     }
 
@@ -72,7 +72,7 @@ impl Database {
         }
     }
 
-    fn load(document: &Document) -> Database {
+    pub fn load(document: &Document) -> Database {
         let database = Database::open();
         database.run("BEGIN");
         for table in &document.tables {
@@ -85,16 +85,16 @@ impl Database {
 
 impl Drop for Database {
     fn drop(&mut self) {
-        // Sound: the statements hold it no longer, as they are dropped before (`Form` has them first).
+        // Sound: the statements hold it no longer, as they are dropped before (`Form` has them first, and so have joins).
         unsafe { sqlite3_close(self.0) };
     }
 }
 
-struct Statement(*mut Program);
+pub struct Statement(*mut Program);
 
 impl Statement {
     /// Whether there is one row more. Behind the last one the statement begins again.
-    fn step(&self) -> bool {
+    pub fn step(&self) -> bool {
         // Sound, here and below: the program is prepared and not yet finalized.
         match unsafe { sqlite3_step(self.0) } {
             ROW => true,
@@ -119,7 +119,7 @@ impl Statement {
         assert_eq!(said, OK, "SQLite takes a value");
     }
 
-    fn number(&self, place: usize) -> i64 {
+    pub fn number(&self, place: usize) -> i64 {
         unsafe { sqlite3_column_int64(self.0, place as c_int) }
     }
 
@@ -128,7 +128,7 @@ impl Statement {
     }
 
     /// Sound as long as the row stands, which is until the next step.
-    fn name(&self, place: usize) -> &[u8] {
+    pub fn name(&self, place: usize) -> &[u8] {
         unsafe {
             let text = sqlite3_column_text(self.0, place as c_int);
             if text.is_null() {
@@ -139,7 +139,7 @@ impl Statement {
     }
 
     /// The only number of the only row.
-    fn only(&self) -> u64 {
+    pub fn only(&self) -> u64 {
         assert!(self.step(), "a count is one row");
         let number = self.number(0);
         self.to_its_end();

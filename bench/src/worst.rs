@@ -49,7 +49,7 @@ fn hash(name: &[u8], factor: u64, bound: u64) -> u64 {
 }
 
 /// Names of 24 bytes with the hash 0: halves are put together that make it so.
-fn of_one_hash(so_many: usize, factor: u64, bound: u64) -> Vec<String> {
+pub fn of_one_hash(so_many: usize, factor: u64, bound: u64) -> Vec<String> {
     let half = |lead: char, number: usize| {
         let tail: String = (0..6).map(|place| letter(number >> (4 * place))).collect();
         format!("{lead}-half{tail}")

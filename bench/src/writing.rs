@@ -46,6 +46,20 @@ impl<'a> Writing<'a> {
         self.bytes(&digits[first..]);
     }
 
+    /// A row line; each value is a number or a name.
+    pub fn row<'b>(&mut self, holds_numbers: &[bool], number: impl Fn(usize) -> i64, name: impl Fn(usize) -> &'b [u8]) {
+        self.bytes(b"(row");
+        for (place, &holds_numbers) in holds_numbers.iter().enumerate() {
+            self.byte(b' ');
+            if holds_numbers {
+                self.number(number(place));
+            } else {
+                self.bytes(name(place));
+            }
+        }
+        self.bytes(b")\n");
+    }
+
     /// The last line, with the rows given, withheld and unmatched.
     pub fn end(&mut self, counts: [u64; 3]) {
         self.bytes(b"(end");

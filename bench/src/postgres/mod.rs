@@ -1,7 +1,7 @@
 //! PostgreSQL with the same rows, beside the gate. Labels of rows are tested by row-level security, a policy of the role that asks; labels
 //! of cells, which depend on the columns that a query names, by the modified query.
 
-mod server;
+pub mod server;
 
 use crate::documents::Case;
 use crate::loaded::Loaded;
@@ -19,10 +19,10 @@ const SECONDS: u64 = 10;
 /// The full documents of these schemes.
 const SCHEMES: [&str; 3] = ["none", "row", "cell"];
 /// Who owns the tables, and who asks and has to obey the policies.
-const OWNER: &str = "postgres";
-const ASKER: &str = "asker";
+pub const OWNER: &str = "postgres";
+pub const ASKER: &str = "asker";
 
-fn fill(owner: &mut Server, table: &Table) -> Result<()> {
+pub fn fill(owner: &mut Server, table: &Table) -> Result<()> {
     owner.run(&table.create())?;
     for row in &table.rows {
         let values = row.iter().map(|value| match value {
@@ -98,16 +98,8 @@ impl Postgres {
         let (mut out, holds_numbers) = (vec![0; BUFFER], &self.holds_numbers);
         let mut writing = Writing::new(&mut out);
         self.asker.ask(&self.select, |row| {
-            writing.bytes(b"(row");
-            for (field, &holds_numbers) in fields(row).zip(holds_numbers) {
-                writing.byte(b' ');
-                if holds_numbers {
-                    writing.number(number(field));
-                } else {
-                    writing.bytes(field);
-                }
-            }
-            writing.bytes(b")\n");
+            let fields: Vec<&[u8]> = fields(row).collect();
+            writing.row(holds_numbers, |place| number(fields[place]), |place| fields[place]);
         });
         let len = writing.len();
         out.truncate(len);
