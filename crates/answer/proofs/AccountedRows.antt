@@ -57,7 +57,7 @@ withheld-counted q rs = refl
 -- ---- values in named columns
 
 -- a value in a named column is seen, or the gap of its closed cell
-named-seen : (o : ℕ → Bool) (ns : List ℕ) (i : ℕ) (vs : List Value) (k c : ℕ) → i + k ≡ c → member c ns ≡ true → getD (seenValues o ns i vs) k [] ≡ getD (withGaps o i vs) k []
+pub named-seen : (o : ℕ → Bool) (ns : List ℕ) (i : ℕ) (vs : List Value) (k c : ℕ) → i + k ≡ c → member c ns ≡ true → getD (seenValues o ns i vs) k [] ≡ getD (withGaps o i vs) k []
 unfolding seenValues seenValue withGaps
 named-seen o ns i [] k c e m = refl
 named-seen o ns i (v ∷ vs) zero c e m = ap (λ n. cond (member n ns) (cond (o i) v gap) []) (omega (arith, e)) ∙ ap (λ b. cond b (cond (o i) v gap) []) m
@@ -70,16 +70,19 @@ open-whole o i [] k c e m = refl
 open-whole o i (v ∷ vs) zero c e m = ap (λ n. cond (o n) v gap) (omega (arith, e)) ∙ ap (λ b. cond b v gap) m
 open-whole o i (v ∷ vs) (suc k) c e m = open-whole o (suc i) vs k c (omega (arith, e)) m
 
+-- a condition holds alike of values that agree in its columns
+pub matches-agree : (f : ℕ → Bool) (m : Mode) (t : Option (Cond Comparison)) → allOf (λ t. f (t .of)) (comparisonsIn t) ≡ true → (vs ws : List Value)
+    → ((c : ℕ) → f c ≡ true → getD vs c [] ≡ getD ws c []) → matches m t vs ≡ matches m t ws
+unfolding matches comparisonsIn passesIn
+matches-agree f m none h vs ws own = refl
+matches-agree f m (some c) h vs ws own =
+    two-agree (λ t. f (t .of)) _ _ _ _ (λ t k. ap (meetsIn m t) (own (t .of) k)) (λ t k. ap (meetsIn (other m) t) (own (t .of) k)) c h
+
 -- a condition over columns that are named and open holds of what is seen exactly when it holds of the row's own values
 matches-seen : (f o : ℕ → Bool) (ns : List ℕ) → ((c : ℕ) → f c ≡ true → member c ns ≡ true) → ((c : ℕ) → f c ≡ true → o c ≡ true)
     → (m : Mode) (t : Option (Cond Comparison)) → allOf (λ t. f (t .of)) (comparisonsIn t) ≡ true → (vs : List Value) → matches m t (seenValues o ns 0 vs) ≡ matches m t vs
-unfolding matches comparisonsIn passesIn
-matches-seen f o ns named opened m none h vs = refl
-matches-seen f o ns named opened m (some c) h vs =
-    two-agree (λ t. f (t .of)) _ _ _ _ (λ t k. ap (meetsIn m t) (own (t .of) k)) (λ t k. ap (meetsIn (other m) t) (own (t .of) k)) c h
-  where
-    own : (i : ℕ) → f i ≡ true → getD (seenValues o ns 0 vs) i [] ≡ getD vs i []
-    own i k = named-seen o ns 0 vs i i (omega arith) (named i k) ∙ open-whole o 0 vs i i (omega arith) (opened i k)
+matches-seen f o ns named opened m t h vs =
+    matches-agree f m t h (seenValues o ns 0 vs) vs (λ i k. named-seen o ns 0 vs i i (omega arith) (named i k) ∙ open-whole o 0 vs i i (omega arith) (opened i k))
 
 -- a line is the same of values that agree in its columns
 pub line-agree : (f : ℕ → Bool) (cs : List ℕ) → allOf f cs ≡ true → (vs ws : List Value) → ((c : ℕ) → f c ≡ true → getD vs c [] ≡ getD ws c []) → rowLine cs vs ≡ rowLine cs ws
@@ -91,32 +94,32 @@ line-agree f cs h vs ws agree =
 
 -- what is told of a row that is withheld if b holds, and else shown with these values
 module _ (passes : List Value → Bool) (vs : List Value) where
-  told-withheld : (b : Bool) → isWithheld (cond b withheld (shown vs)) ≡ b
+  pub told-withheld : (b : Bool) → isWithheld (cond b withheld (shown vs)) ≡ b
   unfolding isWithheld
   told-withheld true = refl
   told-withheld false = refl
 
-  told-passed : (b : Bool) → isPassed passes (cond b withheld (shown vs)) ≡ (not b && passes vs)
+  pub told-passed : (b : Bool) → isPassed passes (cond b withheld (shown vs)) ≡ (not b && passes vs)
   unfolding isPassed
   told-passed true = refl
   told-passed false = refl
 
-  told-unmatched : (b : Bool) → isUnmatched passes (cond b withheld (shown vs)) ≡ (not b && not (passes vs))
+  pub told-unmatched : (b : Bool) → isUnmatched passes (cond b withheld (shown vs)) ≡ (not b && not (passes vs))
   unfolding isUnmatched
   told-unmatched true = refl
   told-unmatched false = refl
 
-  told-line : (cs : List ℕ) (b : Bool) → lineOf passes cs (cond b withheld (shown vs)) ≡ cond (not b && passes vs) (rowLine cs vs) []
+  pub told-line : (cs : List ℕ) (b : Bool) → lineOf passes cs (cond b withheld (shown vs)) ≡ cond (not b && passes vs) (rowLine cs vs) []
   unfolding lineOf
   told-line cs true = refl
   told-line cs false = refl
 
 -- what is told of a row that is not withheld is the same where the tests agree on it
-not-withheld : (b x y : Bool) → (b ≡ false → x ≡ y) → (not b && x) ≡ (not b && y)
+pub not-withheld : (b x y : Bool) → (b ≡ false → x ≡ y) → (not b && x) ≡ (not b && y)
 not-withheld true x y h = refl
 not-withheld false x y h = h refl
 
-line-told : (b x y : Bool) (l m : List ℕ) → (b ≡ false → x ≡ y) → (b ≡ false → l ≡ m) → cond (not b && x) l [] ≡ cond (not b && y) m []
+pub line-told : (b x y : Bool) (l m : List ℕ) → (b ≡ false → x ≡ y) → (b ≡ false → l ≡ m) → cond (not b && x) l [] ≡ cond (not b && y) m []
 line-told true x y l m h k = refl
 line-told false x y l m h k = λ i. cond (h refl i) (k refl i) []
 

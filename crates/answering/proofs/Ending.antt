@@ -19,7 +19,7 @@ use Rattle.writing.proofs.Writing.{both, filled}
 use Rattle.writing.specs.Write.{Stored, Wrote}
 
 -- how long an end line is at most
-end-short : (p w u : ℕ) → length (endLine p w u) ≤ 69
+pub end-short : (p w u : ℕ) → length (endLine p w u) ≤ 69
 unfolding endLine
 end-short p w u =
     let a : List ℕ = ascii "(end " ++ decimal p in

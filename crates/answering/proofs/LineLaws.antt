@@ -30,7 +30,7 @@ use native.Mathlib.Omega.{arith}
 
 module _ (text ws : List ℕ) (r : ℕ) where
   -- a value is no longer than the text
-  values-fit : (k c : ℕ) → length (getD (tabulated (valueIn text ws r) k) c []) ≤ length text
+  pub values-fit : (k c : ℕ) → length (getD (tabulated (valueIn text ws r) k) c []) ≤ length text
   values-fit k c = go (ltb c k) refl
     where
       go : (b : Bool) → ltb c k ≡ b → length (getD (tabulated (valueIn text ws r) k) c []) ≤ length text
@@ -126,7 +126,7 @@ module _ (vs : List Value) where
   spaced-short [] h = omega arith
   spaced-short (c ∷ cs) h = omega (arith, length-append (32 ∷ getD vs c []) (spacedValues cs vs), h c, spaced-short cs h)
 
-  row-short : (cs : List ℕ) → length cs ≤ 16 → ((c : ℕ) → length (getD vs c []) ≤ 60000) → length (rowLine cs vs) ≤ 960022
+  pub row-short : (cs : List ℕ) → length cs ≤ 16 → ((c : ℕ) → length (getD vs c []) ≤ 60000) → length (rowLine cs vs) ≤ 960022
   unfolding rowLine spacedValues
   row-short cs few h = omega (arith, few, spaced-short cs h, length-append (ascii "(row" ++ spacedValues cs vs) (ascii ")\n"))
 

@@ -173,7 +173,9 @@ fn put_measured(
 }
 
 // For a query that was not prepared: any figures will do.
-fn unmeasured() -> Measured {
+pub fn unmeasured() -> Measured
+    ensures { λ x. ⌜ x .len ≡ 0 ⌝ }
+{
     Measured {
         len: 0,
         tally: Tally {

@@ -1,3 +1,3 @@
 // The answer to a query over the rows of its table, measured and written.
 pub mod answers;
-mod lines;
+pub mod lines;

@@ -272,13 +272,7 @@ pub(crate) fn put_lines(
 }
 
 // Writes the last line of an answer.
-pub(crate) fn put_end(
-    out: &mut [u8],
-    at: usize,
-    passed: usize,
-    withheld: usize,
-    unmatched: usize,
-) -> usize
+pub fn put_end(out: &mut [u8], at: usize, passed: usize, withheld: usize, unmatched: usize) -> usize
     ensures { λ r. ⌜ Wrote (now (out .entry)) at (endLine passed withheld unmatched) (now (out .exit)) r ⌝ }
 {
     let a = put_bytes(out, at, b"(end ");

@@ -145,7 +145,7 @@ pub fn cond_role_fault(
     ensures { λ f. ⌜ CondRoleFaultPromise (now (text .entry)) (now (roles .entry)) m (now (attributes .entry)) n (now (conds .entry)) k (now (line .entry)) c r t f ⌝ }
 {
     let mut ops = [0usize; COMPARISONS];
-    let read = read_places(line, t, &mut ops);
+    let read = read_places(line, t, false, &mut ops);
     let Read::At(_, count) = read else {
         return Verdict::Faulty(Fault::Whole(Reason::WrongForm));
     };

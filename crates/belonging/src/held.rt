@@ -211,7 +211,7 @@ fn condition_holds(
 {
     let mut ops = [0; 64];
     let mut truths = [false; 64];
-    let c = read_places(line, place, &mut ops);
+    let c = read_places(line, place, false, &mut ops);
     match c {
         Read::At(_, n) => {
             if 64 < n {

@@ -30,7 +30,7 @@ use Rattle.text.specs.Walking.{writtenEndAt}
 use Rattle.text.specs.Words.{Word, value, written, writtenOf}
 use Rattle.lists.specs.Lists.{there}
 
-forward-written : {A : Type 0} (R : Reader A) → Forward R → Forward (written R)
+pub forward-written : {A : Type 0} (R : Reader A) → Forward R → Forward (written R)
 unfolding written
 forward-written R p l w l′ h = let a = written-some R l w l′ h in p l (a .0) l′ (a .1)
 

@@ -7,16 +7,17 @@ use mathlib.Core.List.{List, [], _∷_, map}
 use mathlib.Core.Option.{Option, none, some}
 use mathlib.Core.Path.{_≡_}
 use Rattle.condition.specs.Cond.{Cond, Conds, both, comparisons, either, holds, last, more, negate, test}
-use Rattle.condition.specs.CondForm.{Compared, conditionInForm}
+use Rattle.condition.specs.CondForm.{Compared, Naming, conditionInForm, conditionInJoin, plainly, tabled}
 use Rattle.condition.specs.Kinds.{Kind, Op, dates, eq, ge, gt, le, lt, names, ne, numbers}
 use Rattle.condition.specs.Ranges.{Mode, possible, sure}
+use Rattle.condition.specs.RefPlaces.{refEndAt, refWritten}
 use Rattle.lists.specs.Lists.{anyOf}
 use Rattle.text.specs.Amounts.{Range}
 use Rattle.text.specs.Bytes.{ascii}
 use Rattle.text.specs.Ends.{answer}
 use Rattle.text.specs.Names.{sameName}
-use Rattle.text.specs.Reader.{Left, from}
-use Rattle.text.specs.Walking.{nextWord}
+use Rattle.text.specs.Reader.{Left, Reader, from}
+use Rattle.text.specs.Walking.{nextWord, past}
 use Rattle.text.specs.Words.{wordAt, wordOf, writtenOf}
 use Rattle.condition.specs.declared.conditions.Read.{Read}
 use Rattle.condition.specs.declared.conditions.Read.the-variants as read
@@ -42,6 +43,11 @@ opOf op.Lt = lt
 opOf op.Le = le
 opOf op.Gt = gt
 opOf op.Ge = ge
+
+-- how comparisons name what they compare, by a flag: in a join or not (02, Q-3)
+abbrev pub namingBy : Bool → Naming
+namingBy true = tabled
+namingBy false = plainly
 
 -- the mode that a flag names
 abbrev pub modeBy : Bool → Mode
@@ -80,6 +86,25 @@ operatorBy (suc (suc (suc (suc (suc n))))) = ge
 unfoldable pub comparedAt : List ℕ → ℕ → Compared
 comparedAt s at = record { op = operatorOf (wordAt s at); operator = writtenOf s at; of = wordOf s (nextWord s at); value = writtenOf s (nextWord s (nextWord s at)) }
 
+-- the same in a join, whose comparisons name columns by `(of T COL)` (02, Q-3): the value is what is written behind that
+unfoldable pub comparedJoined : List ℕ → ℕ → Compared
+comparedJoined s at = record { op = operatorOf (wordAt s at); operator = writtenOf s at; of = refWritten s (nextWord s at); value = writtenOf s (past 32 s (refEndAt s (nextWord s at))) }
+
+-- the comparison whose operator stands at a position, by how it names what it compares
+abbrev pub comparedBy : Naming → List ℕ → ℕ → Compared
+comparedBy plainly = comparedAt
+comparedBy tabled = comparedJoined
+
+-- where its value stands
+abbrev pub valueAt : Naming → List ℕ → ℕ → ℕ
+valueAt plainly s at = nextWord s (nextWord s at)
+valueAt tabled s at = past 32 s (refEndAt s (nextWord s at))
+
+-- the condition of a form, or that of a join
+abbrev pub conditionBy : Naming → Reader (Cond Compared)
+conditionBy plainly = conditionInForm
+conditionBy tabled = conditionInJoin
+
 -- where a condition ends, and how many comparisons it has
 abbrev pub readTo : Option (Cond Compared × Left) → Read
 readTo o = answer read.At read.Refused (λ c. length (comparisons c)) o
@@ -100,9 +125,13 @@ heldRead f (some r) = holds f (r .0)
 
 -- what the code's answer r and the positions that it stored say of the condition at a position of the text s: where it ends
 -- and how many comparisons it has, and the first 64 comparisons by the positions of their operators
-pub record Placed (s : List ℕ) (at : ℕ) (r : Read) (ops : List ℕ) : Type 0 where
-  pub reads : r ≡ readTo (conditionInForm (from s at))
-  pub places : map (comparedAt s) (take (length (comparisonsAt s at)) ops) ≡ take 64 (comparisonsAt s at)
+pub record PlacedBy (way : Naming) (s : List ℕ) (at : ℕ) (r : Read) (ops : List ℕ) : Type 0 where
+  pub reads : r ≡ readTo (conditionBy way (from s at))
+  pub places : map (comparedBy way s) (take (length (comparedIn (conditionBy way (from s at)))) ops) ≡ take 64 (comparedIn (conditionBy way (from s at)))
+
+-- the same of the condition of a form
+abbrev pub Placed : List ℕ → ℕ → Read → List ℕ → Type 0
+Placed s at r ops = PlacedBy plainly s at r ops
 
 -- ---- for the functions that are not called from outside
 

@@ -24,7 +24,7 @@ use Rattle.text.proofs.RefusalLaws.{not-refused}
 use Rattle.text.specs.Names.{Name}
 use Rattle.text.specs.Reasons.{reasonNumber, refusalOf}
 use Rattle.text.specs.Refusal.{Result, accepted, refused}
-use Rattle.text.specs.declared.refusals.Reason.the-variants.{BufferTooShort, ClockOutOfRange, Closed, ImportTooShort, LateAttribute, MalformedRecord, MistypedQuery, NameTaken, NameUnknown, NestExplained, NoSuchDate, NoSuchRow, NotAQuery, NotAuthorised, NoteMisplaced, OverBound, RangeNotTaken, RangeReversed, RoleNotGiven, SecondRoot, TooLong, UnfitField, UnknownColumn, UnknownParty, UnknownWhy, WrongForm, WrongType, WrongValues}
+use Rattle.text.specs.declared.refusals.Reason.the-variants.{BufferTooShort, ClockOutOfRange, Closed, ImportTooShort, LateAttribute, MalformedRecord, MistypedQuery, NameTaken, NameUnknown, NestExplained, NoSuchDate, NoSuchRow, NotAQuery, NotAuthorised, NoteMisplaced, OverBound, RangeNotTaken, RangeReversed, RoleNotGiven, SecondRoot, SelfJoined, TooLong, UnfitField, UnknownColumn, UnknownParty, UnknownWhy, WrongForm, WrongType, WrongValues}
 use Rattle.text.specs.declared.refusals.Reason.{Reason}
 use Rattle.text.specs.declared.refusals.Refusal.{Refusal}
 use lib.ListN.{getD, length}
@@ -55,6 +55,7 @@ numbered BufferTooShort e = omega (arith, e)
 numbered MalformedRecord e = omega (arith, e)
 numbered UnfitField e = omega (arith, e)
 numbered ImportTooShort e = omega (arith, e)
+numbered SelfJoined e = omega (arith, e)
 numbered UnknownWhy e = omega (arith, e)
 numbered NoSuchRow e = omega (arith, e)
 numbered NoteMisplaced e = omega (arith, e)

@@ -1,5 +1,5 @@
 -- What becomes of a row, and how it is counted. Assumes nothing.
-use Prim.Native.Nat.{_+_, _<_, _≤_, ℕ}
+use Prim.Native.Nat.{_+_, _-_, _<_, _≤_, suc, zero, ℕ}
 use borrow.Author.Tests.{eq-eqb, ne-eqb}
 use lib.Dec.{eqb}
 use lib.ListN.{drop, length, set, take}
@@ -16,6 +16,7 @@ use Rattle.judging.specs.Marking.{Marks}
 use Rattle.form.specs.Form.{Note, Scheme}
 use Rattle.judging.specs.Prepared.{Judged, Prepared, firstWithholding}
 use Rattle.judging.specs.declared.fates.Fate.the-variants as fate
+use Rattle.judging.specs.declared.marking.Marking.{Marking}
 use Rattle.judging.specs.declared.fates.Fate.{Fate}
 use Rattle.judging.specs.declared.sought.Sought.{Sought}
 use Rattle.judging.specs.declared.tally.Tally.{Tally}
@@ -34,6 +35,22 @@ use Rattle.lists.specs.Lists.{countOf, keep}
 use Rattle.query.specs.Query.{Query}
 use Rattle.query.specs.QueryForm.{leavesGaps}
 use Rattle.query.specs.QueryPlaces.{verbOf}
+
+-- ---- columns between two places
+
+take-nil : (k : ℕ) → take {A = ℕ} k [] ≡ []
+take-nil zero = refl
+take-nil (suc k) = refl
+
+between : (cs : List ℕ) (i j : ℕ) → take (j - i) (drop i cs) ≡ drop i (take j cs)
+between cs zero j = let e : j - 0 ≡ j = omega arith in ap (λ k. take k cs) e
+between [] (suc i) j = take-nil (j - suc i) ∙ sym (ap (drop (suc i)) (take-nil j))
+between (c ∷ cs) (suc i) zero = let e : 0 - suc i ≡ 0 = omega arith in ap (λ k. take k (drop i cs)) e
+between (c ∷ cs) (suc i) (suc j) = let e : suc j - suc i ≡ j - i = omega arith in ap (λ k. take k (drop i cs)) e ∙ between cs i j
+
+-- a row that is withheld by the columns between two places
+pub held-between : (code : coded.Scheme) (ws : List ℕ) (os : List Bool) (m : Marking) (r : ℕ) (cs : List ℕ) (i j : ℕ) (x : Bool) → WithheldBy code ws os m r (take (j - i) (drop i cs)) x → WithheldBy code ws os m r (drop i (take j cs)) x
+held-between code ws os m r cs i j x h = λ d p l ls ns said marks few room. subst (λ (es : List ℕ). x ≡ rowWithheld (openTo d p) (settled ns (schemeBy code l ls)) es (labelsIn ws r)) (between cs i j) (h d p l ls ns said marks few room)
 
 -- ---- a row of a query that is ready for the rows
 

@@ -4,6 +4,7 @@ pub mod OpenCells
 pub mod DateLaws
 pub mod ConstantLaws
 pub mod TestLaws
+pub mod PairLaws
 pub mod TypeLaws
 pub mod MatchLaws
 pub mod FateLaws

@@ -101,24 +101,22 @@ module _ (d : Policy) (p : ℕ) (os : List Bool) (said : Said d p os) where
 
 -- ---- one of some columns is closed
 
-module _ (f : ℕ → Bool) (cs : List ℕ) (n i : ℕ) (l : i < n) (h : n ≤ length cs) where
+module _ (f : ℕ → Bool) (cs : List ℕ) (i : ℕ) (l : i < length cs) where
   -- the column at i, and those behind it
-  any-next : anyOf f (drop i (take n cs)) ≡ (f (getD cs i 0) || anyOf f (drop (i + 1) (take n cs)))
+  any-next : anyOf f (drop i cs) ≡ (f (getD cs i 0) || anyOf f (drop (i + 1) cs))
   unfolding anyOf
-  any-next =
-      ap (anyOf f) (drop-here (take n cs) i (omega (arith, l, length-take-le n cs h)))
-      ∙ ap (λ c. f c || anyOf f (drop (i + 1) (take n cs))) (getD-take n cs i 0 l)
+  any-next = ap (anyOf f) (drop-here cs i l)
 
-  pub any-found : f (getD cs i 0) ≡ true → anyOf f (drop i (take n cs)) ≡ true
-  any-found e = any-next ∙ or-left (f (getD cs i 0)) (anyOf f (drop (i + 1) (take n cs))) e
+  pub any-found : f (getD cs i 0) ≡ true → anyOf f (drop i cs) ≡ true
+  any-found e = any-next ∙ or-left (f (getD cs i 0)) (anyOf f (drop (i + 1) cs)) e
 
-  pub any-more : f (getD cs i 0) ≡ false → anyOf f (drop i (take n cs)) ≡ anyOf f (drop (i + 1) (take n cs))
-  any-more e = any-next ∙ ap (λ (b : Bool). b || anyOf f (drop (i + 1) (take n cs))) e
+  pub any-more : f (getD cs i 0) ≡ false → anyOf f (drop i cs) ≡ anyOf f (drop (i + 1) cs)
+  any-more e = any-next ∙ ap (λ (b : Bool). b || anyOf f (drop (i + 1) cs)) e
 
 -- behind the last there is none
-pub any-none : (f : ℕ → Bool) (cs : List ℕ) (n i : ℕ) → n ≤ i → anyOf f (drop i (take n cs)) ≡ false
+pub any-none : (f : ℕ → Bool) (cs : List ℕ) (i : ℕ) → length cs ≤ i → anyOf f (drop i cs) ≡ false
 unfolding anyOf
-any-none f cs n i l = ap (anyOf f) (drop-of-length-le (take n cs) {i = i} (omega (arith, l, length-take n cs)))
+any-none f cs i l = ap (anyOf f) (drop-of-length-le cs {i = i} l)
 
 -- ---- the row is withheld, by scheme
 

@@ -22,7 +22,6 @@ use Rattle.condition.specs.declared.conditions.Read.{Read}
 use Rattle.condition.specs.declared.conditions.Read.the-variants as read
 use Rattle.workspace.proofs.CellLaws.{kind-dates}
 use Rattle.workspace.specs.Cells.{kindOfCell}
-use Rattle.relations.specs.Rows.{rowIn}
 use Rattle.lists.proofs.Tests.{and-left, both, never, true-not-false}
 use Rattle.program.proofs.RunLaws.{all-steps, from-step, step-back, step-end, step-first, step-on}
 use Rattle.program.specs.Program.{Programmed}
@@ -58,29 +57,34 @@ bracket-unlike q p s at b = ap (sameName (wordAt q p)) here ∙ go (isNameByte (
     go true k = ap (λ (w : Name). sameName w (40 ∷ toClosing (drop (at + 1) s))) (word-more q p k) ∙ never _ (λ h. true-not-false (same-name-byte (getD q p 0) 40 (and-left (sameByte (getD q p 0) 40) _ h) k) refl)
     go false k = ap (λ (w : Name). sameName w (40 ∷ toClosing (drop (at + 1) s))) (word-stop q p k)
 
--- v is the row's value
-module _ (text ws : List ℕ) (r : ℕ) (s : List ℕ) (x : TestRead) (o : Op) (eo : o ≡ operatorBy (x .operator)) (v : Value) (ev : v ≡ getD (rowIn text ws r .values) (x .column) []) (b : Bool) where
+-- v is the value that is compared
+module _ (s : List ℕ) (x : TestRead) (o : Op) (eo : o ≡ operatorBy (x .operator)) (v : Value) (b : Bool) where
   -- of numbers, e being the ends of the value and n the rank of the other
-  pub holds-numbers : x .kind ≡ 0 → Sized s x → (e : Range) (n : ℕ) → e ≡ endsOf v → n ≡ x .rank → b ≡ rangeMeets (modeIs x) o (e .low) (e .high) n → b ≡ testHolds text ws r s x
-  unfolding testHolds meetsIn valuesMeetIn kindOfCell
+  pub holds-numbers : x .kind ≡ 0 → Sized s x → (e : Range) (n : ℕ) → e ≡ endsOf v → n ≡ x .rank → b ≡ rangeMeets (modeIs x) o (e .low) (e .high) n → b ≡ meetsIn (modeIs x) (comparisonBy s x) v
+  unfolding meetsIn valuesMeetIn kindOfCell
   holds-numbers z sized e n ee en h =
-      h ∙ (λ i. rangeMeets (modeIs x) (eo i) ((ee ∙ ap endsOf ev) i .low) ((ee ∙ ap endsOf ev) i .high) ((en ∙ sized .ranked (ap kindOfCell z)) i))
-      ∙ ap (λ (y : ℕ). valuesMeetIn (modeIs x) (kindOfCell y) (operatorBy (x .operator)) (getD (rowIn text ws r .values) (x .column) []) (writtenAt s (x .place))) (sym z)
+      h ∙ (λ i. rangeMeets (modeIs x) (eo i) (ee i .low) (ee i .high) ((en ∙ sized .ranked (ap kindOfCell z)) i))
+      ∙ ap (λ (y : ℕ). valuesMeetIn (modeIs x) (kindOfCell y) (operatorBy (x .operator)) v (writtenAt s (x .place))) (sym z)
 
   -- of names
-  pub holds-names : x .kind ≡ 1 → Sized s x → b ≡ namesMeet o v (wordAt s (x .place)) → b ≡ testHolds text ws r s x
-  unfolding testHolds meetsIn valuesMeetIn kindOfCell
+  pub holds-names : x .kind ≡ 1 → Sized s x → b ≡ namesMeet o v (wordAt s (x .place)) → b ≡ meetsIn (modeIs x) (comparisonBy s x) v
+  unfolding meetsIn valuesMeetIn kindOfCell
   holds-names z sized h =
-      h ∙ (λ i. namesMeet (eo i) (ev i) (sym (sized .plain (ap kindOfCell z)) i))
-      ∙ ap (λ (y : ℕ). valuesMeetIn (modeIs x) (kindOfCell y) (operatorBy (x .operator)) (getD (rowIn text ws r .values) (x .column) []) (writtenAt s (x .place))) (sym z)
+      h ∙ (λ i. namesMeet (eo i) v (sym (sized .plain (ap kindOfCell z)) i))
+      ∙ ap (λ (y : ℕ). valuesMeetIn (modeIs x) (kindOfCell y) (operatorBy (x .operator)) v (writtenAt s (x .place))) (sym z)
 
   -- of dates, m being the rank of the value and n that of the other
-  pub holds-dates : (x .kind ≡ 0 → ⊥) → (x .kind ≡ 1 → ⊥) → Sized s x → (m n : ℕ) → m ≡ dayRankOf v → n ≡ x .rank → b ≡ ranksMeet o m n → b ≡ testHolds text ws r s x
-  unfolding testHolds meetsIn valuesMeetIn
+  pub holds-dates : (x .kind ≡ 0 → ⊥) → (x .kind ≡ 1 → ⊥) → Sized s x → (m n : ℕ) → m ≡ dayRankOf v → n ≡ x .rank → b ≡ ranksMeet o m n → b ≡ meetsIn (modeIs x) (comparisonBy s x) v
+  unfolding meetsIn valuesMeetIn
   holds-dates y z sized m n em en h =
       let k = kind-dates (x .kind) y z in
-      h ∙ (λ i. ranksMeet (eo i) ((em ∙ ap dayRankOf ev) i) ((en ∙ sized .dated k) i))
-      ∙ ap (λ (y : Kind). valuesMeetIn (modeIs x) y (operatorBy (x .operator)) (getD (rowIn text ws r .values) (x .column) []) (writtenAt s (x .place))) (sym k)
+      h ∙ (λ i. ranksMeet (eo i) (em i) ((en ∙ sized .dated k) i))
+      ∙ ap (λ (y : Kind). valuesMeetIn (modeIs x) y (operatorBy (x .operator)) v (writtenAt s (x .place))) (sym k)
+
+-- the value that is compared stands among these
+pub holds-among : (vs : List Value) (s : List ℕ) (x : TestRead) (v : Value) → v ≡ getD vs (x .column) [] → (b : Bool) → b ≡ meetsIn (modeIs x) (comparisonBy s x) v → b ≡ testHolds vs s x
+unfolding testHolds
+holds-among vs s x v e b h = h ∙ ap (meetsIn (modeIs x) (comparisonBy s x)) e
 
 -- ---- how it is asked
 
@@ -308,16 +312,16 @@ module _ (ts : List ℕ) (t : ℕ) (s ops cs : List ℕ) (chosen : ℕ) (trues f
         (subst (Reads j) (sym (put .is)) new);
   }
 
--- ---- the comparisons of a row, one after the other
+-- ---- the comparisons of a row or a pair, one after the other
 
 -- where to go on behind a comparison x that is the stored one y
-pub next-by : (text ws : List ℕ) (r : ℕ) (s : List ℕ) (x y : TestRead) → x ≡ y → (b c : Bool) → b ≡ testHolds text ws r s x → b ≡ c → cond c (x .hit) (x .miss) ≡ cond (testHolds text ws r s y) (y .hit) (y .miss)
-next-by text ws r s x y e b c h k = λ i. cond ((sym k ∙ h ∙ ap (testHolds text ws r s) e) i) (e i .hit) (e i .miss)
+pub next-by : (vs : List Value) (s : List ℕ) (x y : TestRead) → x ≡ y → (b c : Bool) → b ≡ testHolds vs s x → b ≡ c → cond c (x .hit) (x .miss) ≡ cond (testHolds vs s y) (y .hit) (y .miss)
+next-by vs s x y e b c h k = λ i. cond ((sym k ∙ h ∙ ap (testHolds vs s) e) i) (e i .hit) (e i .miss)
 
-module _ (text ws : List ℕ) (r : ℕ) (s rs : List ℕ) (m : ℕ) (mode : Mode) (o : Option (Cond Comparison)) (tested : Tested s rs m mode o) where
+module _ (vs : List Value) (s rs : List ℕ) (m : ℕ) (mode : Mode) (o : Option (Cond Comparison)) (tested : Tested s rs m mode o) where
   -- comparison j, read under an odd number of `not`s or an even one
   abbrev truth : Bool → ℕ → Bool
-  truth odd j = meetsIn (modeUnder mode odd) (comparisonBy s (testIn rs j)) (getD (rowIn text ws r .values) (testIn rs j .column) [])
+  truth odd j = meetsIn (modeUnder mode odd) (comparisonBy s (testIn rs j)) (getD vs (testIn rs j .column) [])
 
   -- the comparisons from number j on come to what all of them come to
   abbrev pub Goes : ℕ → Type 0
@@ -327,16 +331,16 @@ module _ (text ws : List ℕ) (r : ℕ) (s rs : List ℕ) (m : ℕ) (mode : Mode
   goes-first = step-first truth (tested .trues) (tested .falses) (tested .flips) m
 
   module _ (least : 0 < m) where
-    ends : (t : ℕ) → all-steps truth (tested .trues) (tested .falses) (tested .flips) m ≡ t → eqb t 64 ≡ matches mode o (rowIn text ws r .values)
-    ends t e = ap (λ (n : ℕ). eqb n 64) (sym e) ∙ tested .runs least truth (rowIn text ws r .values) (λ odd j l. refl)
+    ends : (t : ℕ) → all-steps truth (tested .trues) (tested .falses) (tested .flips) m ≡ t → eqb t 64 ≡ matches mode o vs
+    ends t e = ap (λ (n : ℕ). eqb n 64) (sym e) ∙ tested .runs least truth vs (λ odd j l. refl)
 
-    pub goes-end : (j : ℕ) → m ≤ j → Goes j → eqb j 64 ≡ matches mode o (rowIn text ws r .values)
+    pub goes-end : (j : ℕ) → m ≤ j → Goes j → eqb j 64 ≡ matches mode o vs
     goes-end j l h = ends j (h ∙ step-end truth (tested .trues) (tested .falses) (tested .flips) m j l)
 
-  module _ (j n : ℕ) (l : j < m) (e : n ≡ cond (testHolds text ws r s (testIn rs j)) (testIn rs j .hit) (testIn rs j .miss)) where
-    asked : testHolds text ws r s (testIn rs j) ≡ truth (getD (tested .flips) j false) j
+  module _ (j n : ℕ) (l : j < m) (e : n ≡ cond (testHolds vs s (testIn rs j)) (testIn rs j .hit) (testIn rs j .miss)) where
+    asked : testHolds vs s (testIn rs j) ≡ truth (getD (tested .flips) j false) j
     unfolding testHolds
-    asked = ap (λ (k : Mode). meetsIn k (comparisonBy s (testIn rs j)) (getD (rowIn text ws r .values) (testIn rs j .column) [])) (tested .modes j l)
+    asked = ap (λ (k : Mode). meetsIn k (comparisonBy s (testIn rs j)) (getD vs (testIn rs j .column) [])) (tested .modes j l)
 
     told : n ≡ cond (truth (getD (tested .flips) j false) j) (getD (tested .trues) j 0) (getD (tested .falses) j 0)
     told = e ∙ (λ i. cond (asked i) (tested .hit j l i) (tested .miss j l i))
@@ -344,7 +348,7 @@ module _ (text ws : List ℕ) (r : ℕ) (s rs : List ℕ) (m : ℕ) (mode : Mode
     pub goes-on : j < n → Goes j → Goes n
     goes-on k h = h ∙ step-on truth (tested .trues) (tested .falses) (tested .flips) m j n l told k
 
-    pub goes-back : n ≤ j → Goes j → eqb n 64 ≡ matches mode o (rowIn text ws r .values)
+    pub goes-back : n ≤ j → Goes j → eqb n 64 ≡ matches mode o vs
     goes-back k h = ends (omega (arith, l)) n (h ∙ step-back truth (tested .trues) (tested .falses) (tested .flips) m j n l told k)
 
 -- ---- the program

@@ -1,9 +1,12 @@
 -- The values of a row, by their number. Assumes nothing.
-use Prim.Native.Nat.{_<_, _≤_, ℕ}
+use Prim.Native.Nat.{_-_, _<_, _≤_, ℕ}
 use lib.ListN.{List·getD-eq-default, drop-of-length-le, getD, length}
 use mathlib.Core.List.{List, []}
 use mathlib.Core.Path.{_∙_, _≡_, ap, sym}
 use native.Mathlib.Omega.{arith}
+use Rattle.answer.proofs.AccountedPairs.{pair-first, pair-second}
+use Rattle.judging.specs.Pairs.{RowsHere, pairIn}
+use Rattle.relations.specs.Tables.{Cut}
 use Rattle.workspace.proofs.TabulatedLaws.{length-tabulated, tabulated-getD}
 use Rattle.workspace.specs.Tabulated.{tabulated}
 use Rattle.relations.specs.Rows.{rowIn, valueCountIn, valueIn, valuePlaceIn}
@@ -36,3 +39,20 @@ no-value text ws r width c l =
 -- past the last column it is the empty one
 pub value-past : (text ws : List ℕ) (r width c : ℕ) → width ≤ c → writtenAt text (length text) ≡ getD (tabulated (valueIn text ws r) width) c []
 value-past text ws r width c l = value-end text ∙ sym (no-value text ws r width c l)
+
+-- ---- a pair
+
+module _ (text ws : List ℕ) (n i j c : ℕ) (here : RowsHere ws i j) where
+  -- a column of the first table
+  pub place-first : c < n → {w : ℕ} → Cut 16 i 1024 (valueCountIn ws i) w → (p : ℕ) → (i < 1024 → w ≤ 16 → writtenAt text p ≡ getD (tabulated (valueIn text ws i) w) c []) → writtenAt text p ≡ getD (pairIn text ws n i j) c []
+  unfolding pairIn
+  place-first l {w} cut p at =
+      at (here .first) (cut .few) ∙ value-in text ws i c w (cut .is (here .first) (here .narrow))
+      ∙ sym (pair-first n (rowIn text ws i .values) (rowIn text ws j .values) c l)
+
+  -- one of the second
+  pub place-second : n ≤ c → {w : ℕ} → Cut 16 j 1024 (valueCountIn ws j) w → (p : ℕ) → (j < 1024 → w ≤ 16 → writtenAt text p ≡ getD (tabulated (valueIn text ws j) w) (c - n) []) → writtenAt text p ≡ getD (pairIn text ws n i j) c []
+  unfolding pairIn
+  place-second l {w} cut p at =
+      at (here .second) (cut .few) ∙ value-in text ws j (c - n) w (cut .is (here .second) (here .narrowSecond))
+      ∙ sym (pair-second n (rowIn text ws i .values) (rowIn text ws j .values) (c - n) c (omega (arith, l)))

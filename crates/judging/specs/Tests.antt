@@ -1,4 +1,4 @@
--- Contract: the comparisons of a query's condition as they are read, eleven numbers for each, and which hold of a row.
+-- Contract: the comparisons of a query's condition as they are read, eleven numbers for each, and which hold of a row or a pair.
 use Prim.Native.Nat.{_*_, _+_, _<_, _≤_, ℕ}
 use lib.Dec.{eqb}
 use lib.ListN.{getD, length}
@@ -17,7 +17,6 @@ use Rattle.condition.specs.Kinds.{dates, hasKind, names, numbers}
 use Rattle.condition.specs.Ranges.{Mode, meetsIn, other}
 use Rattle.condition.specs.declared.conditions.Read.{Read}
 use Rattle.workspace.specs.Cells.{kindOfCell}
-use Rattle.relations.specs.Rows.{rowIn}
 use Rattle.relations.specs.Tables.{columnKindIn}
 use Rattle.lists.specs.Lists.{orZero}
 use Rattle.program.specs.Program.{Programmed, comesTo}
@@ -91,9 +90,9 @@ abbrev pub TestAt : (ts s ops cs : List ℕ) → Sought → (trues falses : List
 TestAt ts s ops cs g trues falses flips ws j =
     TestOf ts (g .table) s (getD ops j 0) (getD cs (g .chosen + j) 0) (getD trues j 0) (getD falses j 0) (modeUnder (modeOf (verbOf (g .verb))) (getD flips j false)) (testIn ws j)
 
--- it is sure, or possible, of row r, as it is asked
-unfoldable pub testHolds : (text ws : List ℕ) → ℕ → List ℕ → TestRead → Bool
-testHolds text ws r s x = meetsIn (modeIs x) (comparisonBy s x) (getD (rowIn text ws r .values) (x .column) [])
+-- it is sure, or possible, of these values, as it is asked
+unfoldable pub testHolds : List Value → List ℕ → TestRead → Bool
+testHolds vs s x = meetsIn (modeIs x) (comparisonBy s x) (getD vs (x .column) [])
 
 -- ---- the condition
 

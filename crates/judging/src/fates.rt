@@ -25,6 +25,7 @@ ghost use mathlib.Core.Path.{_≡_};
 ghost use Rattle.answer.specs.Answer.{matches};
 ghost use Rattle.judging.specs.Judging.{JudgedTo, Judgeable, WithheldBy, countedBy, fateHere, fateOf, passedBy};
 ghost use Rattle.judging.specs.Marking.{openUnder};
+ghost use Rattle.judging.specs.Promises.{JudgeEachPromise};
 ghost use Rattle.judging.specs.Prepared.{Judged, Prepared, firstWithholding};
 ghost use Rattle.judging.specs.Tests.{Tested};
 ghost use Rattle.condition.specs.Comparison.{Comparison};
@@ -43,21 +44,18 @@ pub enum Fate {
     Unmatched,
 }
 
-// Whether a cell of row r, which is marked so, is closed in one of these columns: the first n but for those before `first`.
+// Whether a cell of row r, which is marked so, is closed in one of these columns.
 fn any_closed(
     rows: &[usize; ROW_CELLS],
     said: &[bool; VERDICTS],
     m: Marking,
     r: usize,
     columns: &[usize],
-    first: usize,
-    n: usize,
 ) -> bool
-    requires { ⌜ n ≤ length (now columns) ⌝ }
-    ensures { λ x. ⌜ (r < 1024 → labelCountIn (now (rows .entry)) r ≤ labelRoom → x ≡ anyOf (λ c. not (openUnder (now (said .entry)) m (labelsIn (now (rows .entry)) r) c)) (drop first (take n (now (columns .entry))))) ⌝ }
+    ensures { λ x. ⌜ (r < 1024 → labelCountIn (now (rows .entry)) r ≤ labelRoom → x ≡ anyOf (λ c. not (openUnder (now (said .entry)) m (labelsIn (now (rows .entry)) r) c)) (now (columns .entry))) ⌝ }
 {
-    let mut i = first;
-    while i < n {
+    let mut i = 0;
+    while i < columns.len() {
         if !cell_open(rows, said, m, r, columns[i]) {
             return true;
         }
@@ -66,30 +64,26 @@ fn any_closed(
     false
 }
 
-// Whether row r is withheld in a table of this scheme, which is marked so, where closed cells in the first n columns but for those before
-// `first` withhold it.
-fn is_withheld(
+// Whether row r is withheld in a table of this scheme, which is marked so, where closed cells in these columns withhold it.
+pub fn is_withheld(
     scheme: Scheme,
     rows: &[usize; ROW_CELLS],
     said: &[bool; VERDICTS],
     m: Marking,
     r: usize,
-    columns: &[usize; 80],
-    first: usize,
-    n: usize,
+    columns: &[usize],
 ) -> bool
-    requires { ⌜ n ≤ 80 ⌝ }
-    ensures { λ x. ⌜ WithheldBy scheme (now (rows .entry)) (now (said .entry)) m r (drop first (take n (now (columns .entry)))) x ⌝ }
+    ensures { λ x. ⌜ WithheldBy scheme (now (rows .entry)) (now (said .entry)) m r (now (columns .entry)) x ⌝ }
 {
     match scheme {
         Scheme::Unlabelled => false,
         Scheme::ByTable => false,
         Scheme::ByColumn => false,
         Scheme::ByRow => !label_open(rows, said, r, 0),
-        Scheme::ByCell => any_closed(rows, said, m, r, columns, first, n),
+        Scheme::ByCell => any_closed(rows, said, m, r, columns),
         Scheme::Nested => {
             let own = under_row(rows, said, m, r);
-            any_closed(rows, said, own, r, columns, first, n)
+            any_closed(rows, said, own, r, columns)
         }
     }
 }
@@ -139,7 +133,7 @@ fn fate_of(
     columns: &[usize; 80],
     tests: &[usize; TEST_CELLS],
 ) -> Fate
-    requires { ⌜ (s .chosen ≤ 16) × (s .tests ≤ 64) ⌝ }
+    requires { ⌜ (s .chosen ≤ 16) × (s .tests ≤ 64) × (first ≤ s .chosen) ⌝ }
     ensures { λ x. ⌜ ((count : ℕ) (d : Doc) (q : Query) → Judgeable (now (text .entry)) (now (rows .entry)) count (now (said .entry)) (now (query .entry)) s first scheme (now (columns .entry)) (now (tests .entry)) d q → r < count → x ≡ fateOf d q (rowIn (now (text .entry)) (now (rows .entry)) r)) ⌝ }
 {
     let m = s.tests;
@@ -147,7 +141,9 @@ fn fate_of(
         return Fate::Elsewhere;
     }
     let marking = s.marking;
-    let held = is_withheld(scheme, rows, said, marking, r, columns, first, s.chosen + m);
+    let named: &[usize] = columns;
+    let end = s.chosen + m;
+    let held = is_withheld(scheme, rows, said, marking, r, &named[first..end]);
     let met = row_met(held, text, rows, r, query, tests, m);
     fate_here(held, met)
 }
@@ -206,8 +202,8 @@ fn judge_each(
     tests: &[usize; TEST_CELLS],
     marks: &mut [bool],
 ) -> Tally
-    requires { ⌜ (s .chosen ≤ 16) × (s .tests ≤ 64) × (count ≤ 1024) × (count ≤ length (now marks)) ⌝ }
-    ensures { λ x. ⌜ ((d : Doc) (q : Query) → Judgeable (now (text .entry)) (now (rows .entry)) count (now (said .entry)) (now (query .entry)) s first scheme (now (columns .entry)) (now (tests .entry)) d q → JudgedTo d q (rowIn (now (text .entry)) (now (rows .entry))) count (now (marks .exit)) x) ⌝ }
+    requires { ⌜ (s .chosen ≤ 16) × (s .tests ≤ 64) × (count ≤ 1024) × (count ≤ length (now marks)) × (first ≤ s .chosen) ⌝ }
+    ensures { λ x. ⌜ JudgeEachPromise (now (text .entry)) (now (rows .entry)) count (now (said .entry)) (now (query .entry)) s first scheme (now (columns .entry)) (now (tests .entry)) (now (marks .exit)) x ⌝ }
 {
     let mut x = Tally {
         passed: 0,
@@ -226,7 +222,7 @@ fn judge_each(
 
 // The first of the columns whose closed cells withhold: where gaps are left, the selected ones do not (02, Q-10).
 fn first_withholding(s: Sought) -> usize
-    ensures { λ n. ⌜ n ≡ firstWithholding s ⌝ }
+    ensures { λ n. ⌜ (n ≡ firstWithholding s) × (n ≤ s .chosen) ⌝ }
 {
     let verb = s.verb;
     if leaves_gaps(verb) {

@@ -15,6 +15,7 @@ use workspace::store::kind_cell;
 ghost use Prim.Native.Nat.{_<_, _≤_, ℕ};
 ghost use lib.Dec.{eqb};
 ghost use lib.ListN.{length};
+ghost use mathlib.Core.Bool.{cond};
 ghost use mathlib.Core.List.{List};
 ghost use mathlib.Core.Path.{_≡_};
 ghost use Rattle.judging.specs.Reading.{Comparable, TestsRead};
@@ -143,6 +144,20 @@ pub(crate) fn test_at(tests: &[usize; TEST_CELLS], j: usize) -> TestRead
     }
 }
 
+// The comparison to go on with behind comparison j, where it holds and where it does not.
+pub fn next_of(tests: &[usize; TEST_CELLS], j: usize, holds: bool) -> usize
+    ensures { λ x. ⌜ (j < 64 → x ≡ cond holds (testIn (now (tests .entry)) j .hit) (testIn (now (tests .entry)) j .miss)) ⌝ }
+{
+    if TESTS <= j {
+        return 0;
+    }
+    let at = 11 * j;
+    if holds {
+        return tests[at + 8];
+    }
+    tests[at + 9]
+}
+
 // Stores the program of the condition, where there is one.
 fn store_program(
     query: &[u8],
@@ -156,7 +171,7 @@ fn store_program(
     match test {
         Test::Always => {}
         Test::When(at, _) => {
-            read_program(query, at, trues, falses, flips);
+            read_program(query, at, false, trues, falses, flips);
         }
     }
 }

@@ -8,8 +8,8 @@ use mathlib.Core.Bool.{Bool, cond, false, not, true}
 use mathlib.Core.List.{List, [], _++_, _∷_, map}
 use mathlib.Core.Option.{some}
 use mathlib.Core.Path.{_≡_}
-use Rattle.condition.specs.Answers.{numbered, readTo}
-use Rattle.condition.specs.CondForm.{Compared, conditionInForm}
+use Rattle.condition.specs.Answers.{conditionBy, numbered, readTo}
+use Rattle.condition.specs.CondForm.{Compared, Naming, plainly}
 use Rattle.condition.specs.declared.conditions.Read.{Read}
 use Rattle.text.specs.Reader.{Left, from}
 use Rattle.condition.specs.Cond.{Cond, Conds, both, comparisons, either, holdsTwo, last, more, negate, test}
@@ -49,9 +49,13 @@ comesTo f ts fs os m = eqb (run f 0 (branchesOf ts fs os 0 m) 0) room
 -- what the code's answer r and the lists that it stored say of the condition at a position of the text s: where it ends and how
 -- many comparisons it has; and, where there is room for them, that running the program is evaluating the condition,
 -- whatever tells which comparisons hold under an even number of `not`s and under an odd one
-pub record Programmed (s : List ℕ) (at : ℕ) (r : Read) (ts fs : List ℕ) (os : List Bool) : Type 0 where
-  pub reads : r ≡ readTo (conditionInForm (from s at))
-  pub runs : (c : Cond Compared) (l : Left) → conditionInForm (from s at) ≡ some (c, l) → length (comparisons c) ≤ room → (f : Bool → ℕ → Bool) → comesTo f ts fs os (length (comparisons c)) ≡ holdsTwo (f false) (f true) (numbered 0 c)
+pub record ProgrammedBy (way : Naming) (s : List ℕ) (at : ℕ) (r : Read) (ts fs : List ℕ) (os : List Bool) : Type 0 where
+  pub reads : r ≡ readTo (conditionBy way (from s at))
+  pub runs : (c : Cond Compared) (l : Left) → conditionBy way (from s at) ≡ some (c, l) → length (comparisons c) ≤ room → (f : Bool → ℕ → Bool) → comesTo f ts fs os (length (comparisons c)) ≡ holdsTwo (f false) (f true) (numbered 0 c)
+
+-- the same of the condition of a form
+abbrev pub Programmed : List ℕ → ℕ → Read → List ℕ → List ℕ → List Bool → Type 0
+Programmed s at r ts fs os = ProgrammedBy plainly s at r ts fs os
 
 -- ---- for the functions that are not called from outside
 

@@ -44,27 +44,28 @@ Named s at e = Behind name (wordOf s (at + 1)) s at e
 module _ (s : List ℕ) {at : ℕ} where
   pub head-wrong-1 : next name (from s at) ≡ none → ReadsHead s at headed.Refused
   unfolding headThen headTo HeadedWithin
-  head-wrong-1 z = record { is = λ K. rw z; within = tt }
+  head-wrong-1 z = record { is = λ K. rw z; joins = λ K. rw z; within = tt }
 
   module _ {e : ℕ} (u : Named s at e) where
     pub head-wrong-2 : next name (from s e) ≡ none → ReadsHead s at headed.Refused
     unfolding headThen headTo HeadedWithin
-    head-wrong-2 z = record { is = λ K. rw (u .is, z); within = tt }
+    head-wrong-2 z = record { is = λ K. rw (u .is, z); joins = λ K. rw (u .is, z); within = tt }
 
     module _ {f : ℕ} (r : Named s e f) where
       pub head-wrong-3 : next name (from s f) ≡ none → ReadsHead s at headed.Refused
       unfolding headThen headTo HeadedWithin
-      head-wrong-3 z = record { is = λ K. rw (u .is, r .is, z); within = tt }
+      head-wrong-3 z = record { is = λ K. rw (u .is, r .is, z); joins = λ K. rw (u .is, r .is, z); within = tt }
 
       module _ {g : ℕ} (p : Named s f g) where
         pub head-wrong-4 : next name (from s g) ≡ none → ReadsHead s at headed.Refused
         unfolding headThen headTo HeadedWithin
-        head-wrong-4 z = record { is = λ K. rw (u .is, r .is, p .is, z); within = tt }
+        head-wrong-4 z = record { is = λ K. rw (u .is, r .is, p .is, z); joins = λ K. rw (u .is, r .is, p .is, z); within = tt }
 
         pub head-read : {h : ℕ} → Named s g h → ReadsHead s at (headed.At (record { user = at + 1; role = e + 1; purpose = f + 1; table = g + 1 }) h)
         unfolding headThen headTo HeadedWithin
         head-read t = record {
           is = λ K. rw (u .is, r .is, p .is, t .is);
+          joins = λ K. rw (u .is, r .is, p .is, t .is);
           within = record { user = omega (arith, u); role = omega (arith, r); purpose = omega (arith, p); table = omega (arith, t) };
         }
 

@@ -8,14 +8,14 @@ use Rattle.condition.proofs.CondLaws.{comparisonsIn-map, mapCond-map}
 use Rattle.condition.proofs.CondPlaces.{mistyped-placeless, placelessCompared}
 use Rattle.condition.specs.Comparison.{Comparison}
 use Rattle.condition.specs.Cond.{Cond, comparisonsIn, mapCond}
-use Rattle.condition.specs.CondForm.{Compared, mistyped}
+use Rattle.condition.specs.CondForm.{Compared, Ref, mistyped}
 use Rattle.condition.specs.Kinds.{Kind}
 use Rattle.document.specs.Lookup.{columnKind, columnOf, columnsOf, labellingOf, purposeOf, roleOf, tableOf}
 use Rattle.document.specs.Open.{columnOpen, tableOpen}
 use Rattle.document.specs.Policy.{Column, Policy}
 use Rattle.query.proofs.WantedLaws.{gaps-map, selected-map}
 use Rattle.query.specs.Query.{closedPart, columnComparison, columnsIn, missingDate, mistypedQuery, isMissingDate, openFor, resolved, sourceOf, unknownColumn, unknownParty, wantedOf}
-use Rattle.query.specs.QueryForm.{QueryForm, Ref, Wanted, countsOnly, hasGaps, mapWanted, namedRefs, namedWords, plainRef, rowsOf, selectedRefs, selectedWords, testedRefs, withholdingRefs, withinBounds}
+use Rattle.query.specs.QueryForm.{QueryForm, Wanted, countsOnly, hasGaps, mapWanted, namedRefs, namedWords, plainRef, rowsOf, selectedRefs, selectedWords, testedRefs, withholdingRefs, withinBounds}
 use Rattle.lists.proofs.KeptLaws.{keep-map}
 use Rattle.lists.proofs.ListLaws.{map-append, map-map}
 use Rattle.text.proofs.Places.{leftmost-placeless, unless-placeless}

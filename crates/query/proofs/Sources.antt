@@ -6,13 +6,13 @@ use mathlib.Core.List.{List, [], _++_, _∷_, map, map-id}
 use mathlib.Core.Option.{Option, none, some}
 use mathlib.Core.Path.{_∙_, _≡_, ap, refl, sym}
 use Rattle.condition.specs.Cond.{comparisonsIn}
-use Rattle.condition.specs.CondForm.{Compared}
+use Rattle.condition.specs.CondForm.{Compared, Ref}
 use Rattle.document.specs.Lookup.{columnOf, columnsOf, tableOf}
 use Rattle.document.specs.Policy.{Policy}
 use Rattle.lists.proofs.ListLaws.{map-append, map-map}
 use Rattle.lists.specs.Lists.{found, keep, there}
 use Rattle.query.specs.Query.{columnsIn, sourceOf, sources}
-use Rattle.query.specs.QueryForm.{QueryForm, Ref, hasGaps, namedRefs, namedWords, plainRef, selectedRefs, selectedWords, testedRefs, withholdingRefs}
+use Rattle.query.specs.QueryForm.{QueryForm, hasGaps, namedRefs, namedWords, plainRef, selectedRefs, selectedWords, testedRefs, withholdingRefs}
 use Rattle.text.proofs.NameLaws.{sameName-refl}
 use Rattle.text.specs.Words.{Word, isCalled}
 

@@ -8,11 +8,11 @@ use Rattle.calendar.specs.Calendar.{exists}
 use Rattle.calendar.specs.DateText.{dateOf}
 use Rattle.condition.specs.Comparison.{Comparison}
 use Rattle.condition.specs.Cond.{Cond, comparisonsIn, mapCond}
-use Rattle.condition.specs.CondForm.{Compared, mistyped}
+use Rattle.condition.specs.CondForm.{Compared, Ref, mistyped}
 use Rattle.document.specs.Lookup.{columnKind, columnOf, columnsOf, labellingAt, labellingOf, purposeOf, roleOf, tableOf}
 use Rattle.document.specs.Open.{Opening, columnOpen, openTo, tableOpen}
 use Rattle.document.specs.Policy.{Column, Policy}
-use Rattle.query.specs.QueryForm.{QueryForm, Ref, Wanted, hasGaps, mapWanted, namedRefs, namedWords, selected, withholdingRefs}
+use Rattle.query.specs.QueryForm.{QueryForm, Wanted, hasGaps, mapWanted, namedRefs, namedWords, selected, withholdingRefs}
 use Rattle.lists.specs.Lists.{anyOf, found, holdsOf, keep, member, orZero, there}
 use Rattle.text.specs.Numbers.{Value}
 use Rattle.text.specs.Offending.{leftmost, missing, offendingIf, unless}

@@ -8,6 +8,7 @@ use mathlib.Core.Option.{Option, none, some}
 use mathlib.Core.Path.{_≡_}
 use Rattle.condition.specs.Cond.{Cond}
 use Rattle.condition.specs.CondForm.{Compared, conditionInForm}
+use Rattle.query.specs.JoinForm.{JoinForm}
 use Rattle.query.specs.QueryPlaces.{HeadWithin, Selects, TestWithin, Within, chosenCount, comparisonCount, conditionAt, formAt, selectedFrom}
 use Rattle.query.specs.QueryForm.{QueryForm, columnList}
 use Rattle.text.specs.Brackets.{next, optional}
@@ -24,11 +25,11 @@ use Rattle.query.specs.declared.reading.Tested.{Tested}
 use Rattle.query.specs.declared.reading.Tested.the-variants as tested
 
 -- what comes behind the four words of a head
-abbrev pub AfterHead : Type 0
-AfterHead = Word → Word → Word → Word → Reader QueryForm
+abbrev pub AfterHead : Type 0 → Type 0
+AfterHead A = Word → Word → Word → Word → Reader A
 
 -- the four words, and then what comes behind them
-unfoldable pub headThen : AfterHead → Reader QueryForm
+unfoldable pub headThen : {A : Type 0} → AfterHead A → Reader A
 headThen K = do
   u ← next name
   r ← next name
@@ -37,7 +38,7 @@ headThen K = do
   K u r p t
 
 -- the same by the code's answer for the four words
-unfoldable pub headTo : List ℕ → AfterHead → Headed → Option (QueryForm × Left)
+unfoldable pub headTo : {A : Type 0} → List ℕ → AfterHead A → Headed → Option (A × Left)
 headTo s K headed.Refused = none
 headTo s K (headed.At h e) = K (wordOf s (h .user)) (wordOf s (h .role)) (wordOf s (h .purpose)) (wordOf s (h .table)) (from s e)
 
@@ -46,9 +47,10 @@ unfoldable pub HeadedWithin : List ℕ → Headed → Type 0
 HeadedWithin s headed.Refused = Unit {0}
 HeadedWithin s (headed.At h e) = HeadWithin s h
 
--- the code's answer r stands for the four words, whatever comes behind them
+-- the code's answer r stands for the four words, whatever comes behind them, in a query of one table or in a join
 pub record ReadsHead (s : List ℕ) (at : ℕ) (r : Headed) : Type 0 where
-  pub is : (K : AfterHead) → headThen K (from s at) ≡ headTo s K r
+  pub is : (K : AfterHead QueryForm) → headThen K (from s at) ≡ headTo s K r
+  pub joins : (K : AfterHead JoinForm) → headThen K (from s at) ≡ headTo s K r
   pub within : HeadedWithin s r
 
 -- the columns of a select, by the code's answer

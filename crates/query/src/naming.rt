@@ -74,7 +74,7 @@ fn store_tested(s: &[u8], t: Test, k: usize, out: &mut [usize], ops: &mut [usize
     match t {
         Test::Always => k,
         Test::When(at, n) => {
-            read_places(s, at, ops);
+            read_places(s, at, false, ops);
             store_placed(s, ops, n, k, out)
         }
     }

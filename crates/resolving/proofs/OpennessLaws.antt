@@ -68,6 +68,9 @@ module _ (text ws : List ℕ) (k t : ℕ) (d : Policy) (p : ℕ) (h : Tables tex
     pub table-by : tableOpen (openTo d p) (labellingAt d t) ≡ tableOpen (openTo d p) (settled (notesOf (d .notes) t) (schemeBy scheme (tableLabelIn ws t) (labelsIn ws t d)))
     table-by = ap (tableOpen (openTo d p)) labelling-is
 
+    pub column-by : (c : ℕ) → columnOpen (openTo d p) (labellingAt d t) c ≡ columnOpen (openTo d p) (schemeBy scheme (tableLabelIn ws t) (labelsIn ws t d)) c
+    column-by c = ap (λ z. columnOpen (openTo d p) z c) labelling-is ∙ settled-column (openTo d p) (notesOf (d .notes) t) (schemeBy scheme (tableLabelIn ws t) (labelsIn ws t d)) c
+
     pub columns-by : (words : List Word)
         → missing (λ w. columnOpen (openTo d p) (labellingAt d t) (orZero (columnOf (columnsAt d t) w))) words
         ≡ missing (λ w. columnOpen (openTo d p) (schemeBy scheme (tableLabelIn ws t) (labelsIn ws t d)) (orZero (columnOf (columnsAt d t) w))) words

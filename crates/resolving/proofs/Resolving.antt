@@ -36,7 +36,7 @@ pub record Resolving (cs : List Column) (s : List ℕ) (n : ℕ) (places numbers
   pub rest : missing (has cs) (wordsAt s n places) ≡ missing (has cs) (pending s n places i)
   pub front : take i numbers ≡ map (number cs) (wordsAt s i places)
 
-at-nothing : {p : ℕ} → offending.At p ≡ offending.Nothing → ⊥
+pub at-nothing : {p : ℕ} → offending.At p ≡ offending.Nothing → ⊥
 at-nothing e = let z : _≡_ {A = ℕ} 0 1 = cc in omega arith
 
 module _ (cs : List Column) (s : List ℕ) (n : ℕ) (places numbers : List ℕ) where

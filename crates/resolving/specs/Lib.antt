@@ -1,4 +1,5 @@
 -- What resolving a query answers. Assumes nothing.
 pub mod Resolved
 pub mod Acting
+pub mod Joins
 pub mod Promises

@@ -24,7 +24,7 @@ ghost use Rattle.workspace.specs.Tabulated.{tabulated};
 ghost use Rattle.resolving.specs.Promises.{ClosedColumnPromise, ClosedPartPromise, FirstClosedPromise};
 
 // Whether the table is open, as a whole: without labels it is where it is declared public.
-fn table_open(tables: &[usize; TABLE_CELLS], t: usize, said: &[bool; VERDICTS]) -> bool
+pub(crate) fn table_open(tables: &[usize; TABLE_CELLS], t: usize, said: &[bool; VERDICTS]) -> bool
     ensures { λ r. ⌜ ((d : Policy) (text : List ℕ) (k p : ℕ) → Tables text (now (tables .entry)) k (d .tables) → Notes (now (tables .entry)) k (d .notes) → t < k → Said d p (now (said .entry)) → r ≡ tableOpen (openTo d p) (labellingAt d t)) ⌝ }
 {
     let scheme = table_scheme(tables, t);
@@ -39,7 +39,12 @@ fn table_open(tables: &[usize; TABLE_CELLS], t: usize, said: &[bool; VERDICTS]) 
 }
 
 // Whether the label of column c is open; a column that the table lacks has none.
-fn column_open(tables: &[usize; TABLE_CELLS], t: usize, said: &[bool; VERDICTS], c: usize) -> bool
+pub(crate) fn column_open(
+    tables: &[usize; TABLE_CELLS],
+    t: usize,
+    said: &[bool; VERDICTS],
+    c: usize,
+) -> bool
     ensures { λ r. ⌜ ((d : Policy) (text : List ℕ) (k p : ℕ) → Tables text (now (tables .entry)) k (d .tables) → t < k → Said d p (now (said .entry)) → r ≡ labelOpen d p (getElem? (tabulated (columnLabelIn (now (tables .entry)) t) (length (columnsAt d t))) c)) ⌝ }
 {
     if c < table_width(tables, t) {

@@ -2,4 +2,3 @@
 pub mod Chain
 pub mod Preparing
 pub mod Parties
-pub mod RangedLaws

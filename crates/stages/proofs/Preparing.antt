@@ -32,7 +32,7 @@ use Rattle.relations.specs.Labels.{Said}
 use Rattle.relations.specs.Tables.{Tables}
 use Rattle.resolving.specs.Resolved.{Resolves}
 use Rattle.stages.proofs.Chain.{no-value, no-word, number-found}
-use Rattle.stages.specs.Promises.{plainAt}
+use Rattle.ranging.specs.Promises.{plainAt}
 use Rattle.stages.specs.Stages.{ColumnsKnown, Granted, InTable, soughtIn}
 use Rattle.text.proofs.OffendingLaws.{leftmost-only, missing-none}
 use Rattle.text.specs.CodeEnds.{offendingOf, offendingValue}

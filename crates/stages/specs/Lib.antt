@@ -2,4 +2,3 @@
 pub mod Figures
 pub mod Tails
 pub mod Stages
-pub mod Promises

@@ -1,7 +1,6 @@
 // The answer under a grant: what the query names, and the rows.
 use crate::answered::Answered;
 use crate::answered::Figures;
-use crate::ranged::ranged_column;
 use crate::refusing::refused_at;
 use crate::refusing::refused_written;
 use answering::answers::answer_rows;
@@ -20,6 +19,7 @@ use query::reading::chosen_count;
 use query::reading::comparison_count;
 use query::reading::takes_ranges;
 use query::reading::verb_in;
+use ranging::ranged::ranged_column;
 use relations::tables::find_table;
 use resolving::columns::NAMED;
 use resolving::columns::resolve_columns;

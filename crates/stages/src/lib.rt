@@ -2,5 +2,4 @@
 pub mod accepted;
 pub mod answered;
 mod granted;
-mod ranged;
 mod refusing;

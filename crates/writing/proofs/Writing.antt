@@ -134,6 +134,10 @@ copied-more d text at start k h =
     ∙ sets-append d at (take k (drop start text)) (getD (drop start text) k 0 ∷ [])
     ∙ ap (sets d at) (sym (take-suc (drop start text) k 0 l) ∙ ap (λ (n : ℕ). take n (drop start text)) (sym (add-one k)))
 
+-- what stands past the end of the buffer is counted
+pub counted-past : (d : List ℕ) (at : ℕ) (w : List ℕ) (size : ℕ) → size ≡ length w → length d ≤ at → (r : ℕ) → (at + size < 2 ^ 63 → r ≡ at + size) → Wrote d at w d r
+counted-past d at w size e l r h = record { kept = refl; room = λ k. record { behind = omega (arith, h (omega (arith, k, e)), e); stored = sym (sets-past d at w l) } }
+
 module _ (d : List ℕ) (at : ℕ) (text : List ℕ) (start size : ℕ) (e : size ≡ length (writtenAt text start)) where
   -- behind the text stands nothing
   pub sized-none : size ≤ length text → length text - size < start → Wrote d at (writtenAt text start) d at
@@ -141,7 +145,7 @@ module _ (d : List ℕ) (at : ℕ) (text : List ℕ) (start size : ℕ) (e : siz
 
   -- a value past the end of the buffer is counted
   pub sized-past : length d ≤ at → (r : ℕ) → (at + size < 2 ^ 63 → r ≡ at + size) → Wrote d at (writtenAt text start) d r
-  sized-past l r h = record { kept = refl; room = λ k. record { behind = omega (arith, h (omega (arith, k, e)), e); stored = sym (sets-past d at (writtenAt text start) l) } }
+  sized-past l r h = counted-past d at (writtenAt text start) size e l r h
 
   -- one that was copied
   pub sized-copied : (f : List ℕ) → f ≡ sets d at (take size (drop start text)) → Wrote d at (writtenAt text start) f (at + size)

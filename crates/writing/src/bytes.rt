@@ -56,7 +56,7 @@ pub fn put_written(out: &mut [u8], at: usize, text: &[u8], start: usize) -> usiz
 }
 
 // The place behind `size` bytes from a place on, as far as counting goes.
-fn place_behind(at: usize, size: usize) -> usize
+pub fn place_behind(at: usize, size: usize) -> usize
     ensures { λ r. ⌜ (at + size < 2 ^ 63 → r ≡ at + size) ⌝ }
 {
     if MOST < size {

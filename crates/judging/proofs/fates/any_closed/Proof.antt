@@ -6,7 +6,7 @@ use Rattle.judging.specs.Marking.{openUnder}
 use Rattle.lists.specs.Lists.{anyOf}
 use Rattle.relations.specs.Rows.{labelCountIn, labelRoom, labelsIn}
 use borrow.Author.Needs.{needs}
-use lib.ListN.{drop, take}
+use lib.ListN.{drop, length}
 use mathlib.Core.Bool.{not}
 use mathlib.Core.Path.{_∙_, _≡_, ap, refl, sym}
 use native.Mathlib.Omega.{arith}
@@ -14,10 +14,10 @@ use Rattle.judging.proofs.fates.any_closed.Statement.{statement}
 use Rattle.judging.proofs.fates.any_closed.Tie as tie
 
 abbrev Inv-loop : tie.InvT-loop
-Inv-loop rows said m r columns first n i₀ i = (r < 1024 → labelCountIn rows r ≤ labelRoom → anyOf (λ k. not (openUnder said m (labelsIn rows r) k)) (drop i (take n columns)) ≡ anyOf (λ k. not (openUnder said m (labelsIn rows r) k)) (drop first (take n columns)))
+Inv-loop rows said m r columns i₀ i = (r < 1024 → labelCountIn rows r ≤ labelRoom → anyOf (λ k. not (openUnder said m (labelsIn rows r) k)) (drop i columns) ≡ anyOf (λ k. not (openUnder said m (labelsIn rows r) k)) columns)
 
 abbrev μ-loop : tie.MeasureT-loop
-μ-loop rows said m r columns first n i₀ i = n - i
+μ-loop rows said m r columns i₀ i = length columns - i
 
 loop-holds : tie.Need-loop-holds Inv-loop μ-loop
 loop-holds c = λ i f. refl
@@ -35,8 +35,8 @@ returns : tie.Need-returns Inv-loop μ-loop
 returns c =
     let a = c .before .before .before .before .before .before .args in
     let l = c .before .before .before .before .loop in
-    λ i f. sym (any-found (λ k. not (openUnder (a .said .now) (a .m) (labelsIn (a .rows .now) (a .r)) k)) (a .columns .now) (a .n) (l .i)
-    (c .before .before .before .loop-test .taken) (c .before .before .before .before .before .before .pre)
+    λ i f. sym (any-found (λ k. not (openUnder (a .said .now) (a .m) (labelsIn (a .rows .now) (a .r)) k)) (a .columns .now) (l .i)
+    (c .before .before .before .loop-test .taken)
     (ap not (sym (c .before .cell-open .ensures i f)) ∙ c .if1 .taken)) ∙ l .inv i f
 
 add-i : tie.Need-add-i Inv-loop μ-loop
@@ -49,14 +49,14 @@ loop-again : tie.Need-loop-again Inv-loop μ-loop
 loop-again c =
     let a = c .before .before .before .before .before .before .args in
     let l = c .before .before .before .before .loop in
-    λ i f. sym (any-more (λ k. not (openUnder (a .said .now) (a .m) (labelsIn (a .rows .now) (a .r)) k)) (a .columns .now) (a .n) (l .i)
-    (c .before .before .before .loop-test .taken) (c .before .before .before .before .before .before .pre)
+    λ i f. sym (any-more (λ k. not (openUnder (a .said .now) (a .m) (labelsIn (a .rows .now) (a .r)) k)) (a .columns .now) (l .i)
+    (c .before .before .before .loop-test .taken)
     (ap not (sym (c .before .cell-open .ensures i f)) ∙ c .if1 .left)) ∙ l .inv i f
 
 returns-2 : tie.Need-returns-2 Inv-loop μ-loop
 returns-2 c =
     let a = c .before .before .before .args in
-    λ i f. sym (any-none (λ k. not (openUnder (a .said .now) (a .m) (labelsIn (a .rows .now) (a .r)) k)) (a .columns .now) (a .n) (c .before .loop .i) (c .loop-test .left)) ∙ c .before .loop .inv i f
+    λ i f. sym (any-none (λ k. not (openUnder (a .said .now) (a .m) (labelsIn (a .rows .now) (a .r)) k)) (a .columns .now) (c .before .loop .i) (c .loop-test .left)) ∙ c .before .loop .inv i f
 
 pub any-closed-spec : {M : Type 1} → statement M
 any-closed-spec =

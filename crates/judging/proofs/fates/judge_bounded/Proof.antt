@@ -17,7 +17,7 @@ returns : tie.Need-returns
 returns c =
     let a = c .before .before .before .before .before .before .args in
     λ d q pr. judged-all (a .text .now) (a .rows .now) (a .count) d q _ _ (pr .rows) (c .judge-each .ensures d q
-    (judgeable (a .text .now) (a .tables .now) (a .rows .now) (a .count) (a .said .now) (a .query .now) (a .s) (a .tests .now) (a .columns .now) d q pr (c .before .before .before .first-withholding .ensures) (c .before .before .table-scheme .result) (c .before .before .table-scheme .ensures)))
+    (judgeable (a .text .now) (a .tables .now) (a .rows .now) (a .count) (a .said .now) (a .query .now) (a .s) (a .tests .now) (a .columns .now) d q pr (c .before .before .before .first-withholding .ensures .0) (c .before .before .table-scheme .result) (c .before .before .table-scheme .ensures)))
 
 pub judge-bounded-spec : {M : Type 1} → statement M
 judge-bounded-spec =

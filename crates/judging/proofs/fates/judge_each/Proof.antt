@@ -22,7 +22,7 @@ loop-holds : tie.Need-loop-holds Inv-loop μ-loop
 loop-holds c = let a = c .before .before .before .args in (omega arith, refl, record { passed = omega arith; withheld = omega arith; unmatched = omega arith }, λ d q jd. judged-none d q (rowIn (a .text .now) (a .rows .now)) (a .marks .now))
 
 fate-of-requires : tie.Need-fate-of-requires Inv-loop μ-loop
-fate-of-requires c κs = (c .before .before .before .before .before .pre .0, c .before .before .before .before .before .pre .1)
+fate-of-requires c κs = let h = c .before .before .before .before .before .pre in (h .0, h .1, h .4)
 
 is-passed-requires : tie.Need-is-passed-requires Inv-loop μ-loop
 is-passed-requires c κs = search needs

@@ -1,0 +1,2 @@
+-- What looking for ranges in named columns gives. Assumes nothing.
+pub mod Promises
