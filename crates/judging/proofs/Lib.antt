@@ -7,4 +7,5 @@ pub mod TestLaws
 pub mod PairLaws
 pub mod TypeLaws
 pub mod MatchLaws
+pub mod QueryTests
 pub mod FateLaws

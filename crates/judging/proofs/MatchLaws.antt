@@ -1,45 +1,39 @@
--- The condition of a query as it was read: what is wrong with its types, and that running its program by the comparisons is evaluating
--- it. Assumes nothing.
+-- The condition of a query or a join as it was read: what is wrong with its types, and that running its program by the comparisons is
+-- evaluating it. Assumes nothing.
 use Prim.Native.Nat.{_+_, _<_, _≤_, suc, zero, ℕ}
-use lib.ListN.{drop, getD, getElem?, length, length-append, length-map, take}
-use lib.Seq.{getD-drop, getD-take, length-take-le}
+use lib.ListN.{getD, length, length-append, length-map, take}
+use lib.Seq.{length-take-le}
 use mathlib.Core.Bool.{Bool, _&&_, _||_, false, not, true}
 use mathlib.Core.List.{List, [], _∷_, map}
-use mathlib.Core.Option.{Option, Option·getD, Option·map, bind, none, some}
+use mathlib.Core.Option.{Option, Option·map, none, some}
 use mathlib.Core.Path.{_∙_, _≡_, ap, refl, subst, sym}
 use native.Mathlib.Omega.{arith}
 use Rattle.answer.specs.Answer.{matches}
-use Rattle.judging.proofs.TypeLaws.{missing-told, none-at, tabulated-taken, wrong-none, wrong-read}
-use Rattle.judging.specs.Reading.{Comparable, TestsRead, firstMissing, firstWrong, missingBy, wrongBy}
-use Rattle.judging.specs.Tests.{ProgramOf, TestAt, TestOf, comparisonBy, modeUnder, testIn}
-use Rattle.judging.specs.declared.sought.Sought.{Sought}
-use Rattle.judging.specs.declared.tests.TestRead.{TestRead}
-use Rattle.condition.specs.Answers.{comparedAt, comparedIn}
+use Rattle.judging.proofs.TypeLaws.{compared-op, missing-told, none-at, tabulated-taken, value-read, wrong-none, wrong-read}
+use Rattle.judging.specs.Reading.{ComparisonsKnown, ComparisonsRead, comparisonOf, conditionFor, firstMissing, firstWrong, missingBy, wrongBy}
+use Rattle.judging.specs.Tests.{ProgramOf, TestAt, comparisonBy, modeUnder, testIn}
+use Rattle.judging.specs.declared.tests.Comparisons.{Comparisons}
+use Rattle.condition.specs.Answers.{comparedBy, comparedIn, conditionBy, modeBy, namingBy}
 use Rattle.condition.specs.Comparison.{Comparison}
 use Rattle.condition.specs.Cond.{Cond, Conds, both, comparisons, comparisonsIn, comparisonsOf, either, holdTwoAll, holdTwoAny, holdsTwo, last, mapCond, mapConds, more, negate, test}
-use Rattle.condition.specs.CondForm.{Compared, conditionInForm, mistyped}
-use Rattle.condition.specs.Kinds.{numbers}
+use Rattle.condition.specs.CondForm.{Compared, mistyped}
+use Rattle.condition.specs.Kinds.{Kind}
 use Rattle.condition.specs.Ranges.{Mode, meetsIn, other, passesIn}
 use Rattle.condition.specs.declared.conditions.Read.{Read}
-use Rattle.document.specs.Lookup.{columnKind, columnOf, columnsAt}
-use Rattle.document.specs.Policy.{Column, Policy}
-use Rattle.relations.proofs.TableLaws.{column-at, column-inside, table-inside}
-use Rattle.relations.specs.Tables.{Tables, columnIn, columnKindIn}
-use Rattle.lists.proofs.ListLaws.{all-map, findIndex-found, map-map, there-some}
-use Rattle.lists.proofs.Tests.{and-left, and-right}
-use Rattle.lists.specs.Lists.{allOf, orZero, there}
+use Rattle.lists.proofs.ListLaws.{map-map}
 use Rattle.program.proofs.ProgramLaws.{Agree, program-two}
-use Rattle.program.specs.Program.{Programmed, comesTo}
-use Rattle.query.specs.QueryForm.{modeOf}
-use Rattle.query.specs.QueryPlaces.{conditionAt, verbOf}
-use Rattle.query.specs.Query.{columnComparison, isMissingDate}
+use Rattle.program.specs.Program.{ProgrammedBy, comesTo}
+use Rattle.query.specs.JoinPlaces.{joinConditionAt}
+use Rattle.query.specs.Query.{isMissingDate}
+use Rattle.query.specs.QueryPlaces.{conditionAt}
 use Rattle.query.specs.declared.reading.Test.the-variants as tests
 use Rattle.query.specs.declared.reading.Test.{Test}
 use Rattle.text.specs.Numbers.{Value}
 use Rattle.text.specs.Reader.{Left, from}
 use Rattle.text.specs.Offending.{leftmost, offendingIf}
-use Rattle.text.specs.Words.{Word, isCalled, writtenAt}
+use Rattle.text.specs.Words.{Word}
 use Rattle.workspace.proofs.TabulatedLaws.{tabulated-same}
+use Rattle.workspace.specs.Cells.{kindOfCell}
 
 -- a condition has one comparison at least
 mutual
@@ -104,134 +98,111 @@ module _ (mode : Mode) (g : Compared → Comparison) (vs : List Value) where
 
 -- ---- the first m of a list, by their numbers
 
-all-taken : (g : ℕ → Bool) (m j : ℕ) (ops : List ℕ) → allOf g (take m ops) ≡ true → j < m → j < length ops → g (getD ops j 0) ≡ true
-unfolding allOf
-all-taken g zero j ops e l k = absurd (omega (arith, l))
-all-taken g (suc m) j [] e l k = absurd (omega (arith, k))
-all-taken g (suc m) zero (o ∷ ops) e l k = and-left (g o) _ e
-all-taken g (suc m) (suc j) (o ∷ ops) e l k = all-taken g m j ops (and-right (g o) _ e) (omega (arith, l)) (omega (arith, k))
-
-getD-mapped : {A : Type 0} (h : ℕ → A) (m j : ℕ) (ops : List ℕ) (z : A) → j < m → j < length ops → getD (map h (take m ops)) j z ≡ h (getD ops j 0)
+pub getD-mapped : {A : Type 0} (h : ℕ → A) (m j : ℕ) (ops : List ℕ) (z : A) → j < m → j < length ops → getD (map h (take m ops)) j z ≡ h (getD ops j 0)
 getD-mapped h zero j ops z l k = absurd (omega (arith, l))
 getD-mapped h (suc m) j [] z l k = absurd (omega (arith, k))
 getD-mapped h (suc m) zero (o ∷ ops) z l k = refl
 getD-mapped h (suc m) (suc j) (o ∷ ops) z l k = getD-mapped h m j ops z (omega (arith, l)) (omega (arith, k))
 
--- ---- one comparison, whose column has the number c
+-- ---- the condition by its place
 
-module _ (text ts : List ℕ) (k t : ℕ) (d : Policy) (tables : Tables text ts k (d .tables)) (inside : t < k) (s : List ℕ) (op c : ℕ) (is : there (columnOf (columnsAt d t) (comparedAt s op .of)) ≡ true) (number : c ≡ orZero (columnOf (columnsAt d t) (comparedAt s op .of))) where
-  number-found : columnOf (columnsAt d t) (comparedAt s op .of) ≡ some c
-  number-found = there-some (columnOf (columnsAt d t) (comparedAt s op .of)) is ∙ ap some (sym number)
+-- the condition at a place, in whichever way it names columns
+condition-when : (joined : Bool) (s : List ℕ) (at n : ℕ) → conditionFor joined s (tests.When at n) ≡ Option·map (λ x. x .0) (conditionBy (namingBy joined) (from s at))
+unfolding conditionAt joinConditionAt
+condition-when true s at n = refl
+condition-when false s at n = refl
 
-  number-inside : c < length (columnsAt d t)
-  unfolding columnOf
-  number-inside = findIndex-found (λ x. isCalled (comparedAt s op .of) (x .name)) (columnsAt d t) c number-found .1
+-- no comparisons where there is none
+condition-always : (joined : Bool) (s : List ℕ) → length (comparisonsIn (conditionFor joined s tests.Always)) ≡ 0
+unfolding conditionAt joinConditionAt comparisonsIn
+condition-always true s = refl
+condition-always false s = refl
 
-  kind-is : columnKind (columnsAt d t) (comparedAt s op .of) ≡ columnKindIn ts t c
-  unfolding columnKind columnIn bind
-  kind-is =
-      ap (λ (o : Option ℕ). Option·getD (Option·map (λ x. x .kind) (bind o (getElem? (columnsAt d t)))) numbers) number-found
-      ∙ ap (λ (o : Option Column). Option·getD (Option·map (λ x. x .kind) o) numbers) (column-at text ts k t d tables inside c number-inside)
+-- ---- a condition whose columns are known
 
-  -- what is read of it is the comparison of the definitions
-  comparison-is : (y n : ℕ) (mode : Mode) (x : TestRead) → TestOf ts t s op c y n mode x → comparisonBy s x ≡ columnComparison (columnsAt d t) (comparedAt s op)
-  unfolding columnComparison comparedAt
-  comparison-is y n mode x h = λ i. record {
-    of = (h .column ∙ number) i;
-    kind = (h .kind (table-inside text ts k t d tables inside) (column-inside text ts k t d tables inside c number-inside) ∙ sym kind-is) i;
-    op = h .operator i;
-    value = writtenAt s (h .place i);
-  }
-
-  -- and tells what is wrong with its types
-  wrong-is : (y n : ℕ) (mode : Mode) (x : TestRead) → TestOf ts t s op c y n mode x → wrongBy s x ≡ mistyped (columnKind (columnsAt d t) (comparedAt s op .of)) (comparedAt s op)
-  wrong-is y n mode x h =
-      wrong-read ts t s op c y n mode x h
-      ∙ ap (λ k. mistyped k (comparedAt s op)) (h .kind (table-inside text ts k t d tables inside) (column-inside text ts k t d tables inside c number-inside) ∙ sym kind-is)
-
--- ---- the condition of a query whose columns are known
-
-module _ (text ts s : List ℕ) (g : Sought) (ops cs : List ℕ) (d : Policy) (pr : Comparable text ts s g ops cs d) (long : g .tests ≤ length ops) where
-  abbrev columns : List Column
-  columns = columnsAt d (g .table)
+module _ (ts s : List ℕ) (g : Comparisons) (ops cs : List ℕ) (number : Compared → ℕ) (kind : Compared → Kind) (pr : ComparisonsKnown ts s g ops cs number kind) where
+  -- the comparison whose operator stands at a place
+  abbrev here : ℕ → Compared
+  here = comparedBy (namingBy (g .joined)) s
 
   -- the mode in which the condition is asked
   abbrev mode : Mode
-  mode = modeOf (verbOf (g .verb))
+  mode = modeBy (g .certain)
+
+  -- the condition, as it was read and with its columns by number
+  abbrev given : Option (Cond Compared)
+  given = conditionFor (g .joined) s (g .test)
 
   abbrev resolved : Option (Cond Comparison)
-  resolved = Option·map (mapCond (columnComparison columns)) (conditionAt s (g .test))
+  resolved = Option·map (mapCond (comparisonOf number kind)) given
 
   -- what is wrong with the types of a comparison
   abbrev wrong : Compared → Option Word
-  wrong x = mistyped (columnKind columns (x .of)) x
+  wrong x = mistyped (kind x) x
 
-  abbrev number : ℕ → ℕ
-  number p = orZero (columnOf columns (comparedAt s p .of))
-
-  number-at : (j : ℕ) → j < g .tests → getD cs (g .chosen + j) 0 ≡ number (getD ops j 0)
-  number-at j l =
-      sym (getD-drop (g .chosen) cs j 0) ∙ sym (getD-take (g .tests) (drop (g .chosen) cs) j 0 l)
-      ∙ ap (λ ys. getD ys j 0) (pr .numbers ∙ ap (map (λ x. orZero (columnOf columns (x .of)))) (sym (pr .compared)) ∙ map-map (λ x. orZero (columnOf columns (x .of))) (comparedAt s) (take (g .tests) ops))
-      ∙ getD-mapped number (g .tests) j ops 0 l (omega (arith, l, long))
-
-  there-at : (j : ℕ) → j < g .tests → there (columnOf columns (comparedAt s (getD ops j 0) .of)) ≡ true
-  there-at j l =
-      all-taken (λ p. there (columnOf columns (comparedAt s p .of))) (g .tests) j ops
-      (sym (all-map (λ x. there (columnOf columns (x .of))) (comparedAt s) (take (g .tests) ops)) ∙ ap (allOf (λ x. there (columnOf columns (x .of)))) (pr .compared) ∙ pr .allThere)
-      l (omega (arith, l, long))
-
-  compared-many : length (comparisonsIn (conditionAt s (g .test))) ≡ g .tests
-  compared-many = ap length (sym (pr .compared)) ∙ length-map (take (g .tests) ops) (comparedAt s) ∙ length-take-le (g .tests) ops long
+  compared-many : length (comparisonsIn given) ≡ g .tests
+  compared-many = ap length (sym (pr .compared)) ∙ length-map (take (g .tests) ops) here ∙ length-take-le (g .tests) ops (pr .long)
 
   -- no comparisons, and so no condition
   absent-here : g .tests ≡ 0 → (vs : List Value) → matches mode resolved vs ≡ true
-  absent-here e vs = matches-none mode (columnComparison columns) vs (conditionAt s (g .test)) (compared-many ∙ e)
+  absent-here e vs = matches-none mode (comparisonOf number kind) vs given (compared-many ∙ e)
 
   -- the comparisons that were read, by the numbers of their places
   module _ (trues falses : List ℕ) (flips : List Bool) (rs : List ℕ)
       (each : (j : ℕ) → j < g .tests → TestAt ts s ops cs g trues falses flips rs j) where
+    kind-at : (j : ℕ) → j < g .tests → kindOfCell (testIn rs j .kind) ≡ kind (here (getD ops j 0))
+    kind-at j l = pr .typed j l (kindOfCell (testIn rs j .kind)) (each j l .kind)
+
+    -- what is read of one is the comparison of the definitions
+    comparison-is : (j : ℕ) → j < g .tests → comparisonBy s (testIn rs j) ≡ comparisonOf number kind (here (getD ops j 0))
+    comparison-is j l = λ i. record {
+      of = (each j l .column ∙ pr .numbered j l) i;
+      kind = kind-at j l i;
+      op = (each j l .operator ∙ sym (compared-op s (getD ops j 0) (namingBy (g .joined)))) i;
+      value = value-read ts g s (getD ops j 0) (getD cs (g .behind + j) 0) (getD trues j 0) (getD falses j 0) (modeUnder mode (getD flips j false)) (testIn rs j) (each j l) i .bytes;
+    }
+
     -- F says which of them are sure or possible of the values
     module _ (F : Bool → ℕ → Bool) (vs : List Value) (says : (odd : Bool) (j : ℕ) → j < g .tests → F odd j ≡ meetsIn (modeUnder mode odd) (comparisonBy s (testIn rs j)) (getD vs (testIn rs j .column) [])) where
       abbrev holdsOfIt : Bool → Compared → Bool
-      holdsOfIt = holdsHere mode (columnComparison columns) vs
+      holdsOfIt = holdsHere mode (comparisonOf number kind) vs
 
-      says-it : (odd : Bool) (j : ℕ) → j < g .tests → F odd j ≡ holdsOfIt odd (comparedAt s (getD ops j 0))
-      says-it odd j l =
-          says odd j l
-          ∙ ap (λ (c : Comparison). meetsIn (modeUnder mode odd) c (getD vs (c .of) []))
-          (comparison-is text ts (pr .tableCount) (g .table) d (pr .tables) (pr .inside) s (getD ops j 0) (getD cs (g .chosen + j) 0) (there-at j l) (number-at j l) (getD trues j 0) (getD falses j 0) (modeUnder mode (getD flips j false)) (testIn rs j) (each j l))
+      says-it : (odd : Bool) (j : ℕ) → j < g .tests → F odd j ≡ holdsOfIt odd (here (getD ops j 0))
+      says-it odd j l = says odd j l ∙ ap (λ (c : Comparison). meetsIn (modeUnder mode odd) c (getD vs (c .of) [])) (comparison-is j l)
 
-      agreed : (odd : Bool) → Agree (F odd) (holdsOfIt odd) 0 (map (comparedAt s) (take (g .tests) ops))
+      agreed : (odd : Bool) → Agree (F odd) (holdsOfIt odd) 0 (map here (take (g .tests) ops))
       agreed odd j h =
-          let l : j < g .tests = omega (arith, h, length-map (take (g .tests) ops) (comparedAt s), length-take-le (g .tests) ops long) in
+          let l : j < g .tests = omega (arith, h, length-map (take (g .tests) ops) here, length-take-le (g .tests) ops (pr .long)) in
           let z : 0 + j ≡ j = omega arith in
           ap (F odd) z ∙ says-it odd j l
-          ∙ sym (getD-mapped (λ p. holdsOfIt odd (comparedAt s p)) (g .tests) j ops false l (omega (arith, l, long)))
-          ∙ ap (λ (bs : List Bool). getD bs j false) (sym (map-map (holdsOfIt odd) (comparedAt s) (take (g .tests) ops)))
+          ∙ sym (getD-mapped (λ p. holdsOfIt odd (here p)) (g .tests) j ops false l (omega (arith, l, pr .long)))
+          ∙ ap (λ (bs : List Bool). getD bs j false) (sym (map-map (holdsOfIt odd) here (take (g .tests) ops)))
 
       -- the condition at a place of the query
-      module _ (at n : ℕ) (e : g .test ≡ tests.When at n) (result : Read) (p : Programmed s at result trues falses flips) (least : 0 < g .tests) where
-        here : conditionAt s (g .test) ≡ Option·map (λ x. x .0) (conditionInForm (from s at))
-        unfolding conditionAt
-        here = ap (conditionAt s) e
+      module _ (at n : ℕ) (e : g .test ≡ tests.When at n) (result : Read) (p : ProgrammedBy (namingBy (g .joined)) s at result trues falses flips) (least : 0 < g .tests) where
+        -- what was read there
+        abbrev there-read : Option (Cond Compared × Left)
+        there-read = conditionBy (namingBy (g .joined)) (from s at)
 
-        compared-here : comparedIn (conditionInForm (from s at)) ≡ map (comparedAt s) (take (g .tests) ops)
-        compared-here = comparisons-read (conditionInForm (from s at)) ∙ ap comparisonsIn (sym here) ∙ sym (pr .compared)
+        given-here : given ≡ Option·map (λ x. x .0) there-read
+        given-here = ap (conditionFor (g .joined) s) e ∙ condition-when (g .joined) s at n
 
-        some-here : 1 ≤ length (comparedIn (conditionInForm (from s at)))
-        some-here = omega (arith, least, ap length compared-here, length-map (take (g .tests) ops) (comparedAt s), length-take-le (g .tests) ops long)
+        compared-here : comparedIn there-read ≡ map here (take (g .tests) ops)
+        compared-here = comparisons-read there-read ∙ ap comparisonsIn (sym given-here) ∙ sym (pr .compared)
 
-        held-here : matches mode resolved vs ≡ twoRead (holdsOfIt false) (holdsOfIt true) (conditionInForm (from s at))
+        some-here : 1 ≤ length (comparedIn there-read)
+        some-here = omega (arith, least, ap length compared-here, length-map (take (g .tests) ops) here, length-take-le (g .tests) ops (pr .long))
+
+        held-here : matches mode resolved vs ≡ twoRead (holdsOfIt false) (holdsOfIt true) there-read
         held-here =
-            ap (λ c. matches mode (Option·map (mapCond (columnComparison columns)) c) vs) here
-            ∙ matches-read mode (columnComparison columns) vs (conditionInForm (from s at)) some-here
+            ap (λ c. matches mode (Option·map (mapCond (comparisonOf number kind)) c) vs) given-here
+            ∙ matches-read mode (comparisonOf number kind) vs there-read some-here
 
-        runs-read : (o : Option (Cond Compared × Left)) → conditionInForm (from s at) ≡ o → comesTo F trues falses flips (g .tests) ≡ twoRead (holdsOfIt false) (holdsOfIt true) o
+        runs-read : (o : Option (Cond Compared × Left)) → there-read ≡ o → comesTo F trues falses flips (g .tests) ≡ twoRead (holdsOfIt false) (holdsOfIt true) o
         runs-read none z = absurd (omega (arith, some-here, ap (λ (o : Option (Cond Compared × Left)). length (comparedIn o)) z))
         runs-read (some r) z =
-            let same : comparisons (r .0) ≡ map (comparedAt s) (take (g .tests) ops) = ap comparedIn (sym z) ∙ compared-here in
-            let many : length (comparisons (r .0)) ≡ g .tests = ap length same ∙ length-map (take (g .tests) ops) (comparedAt s) ∙ length-take-le (g .tests) ops long in
+            let same : comparisons (r .0) ≡ map here (take (g .tests) ops) = ap comparedIn (sym z) ∙ compared-here in
+            let many : length (comparisons (r .0)) ≡ g .tests = ap length same ∙ length-map (take (g .tests) ops) here ∙ length-take-le (g .tests) ops (pr .long) in
             let fits : length (comparisons (r .0)) ≤ 64 = omega (arith, many, pr .few) in
             ap (comesTo F trues falses flips) (sym many)
             ∙ program-two s at result trues falses flips p (r .0) (r .1) z fits F (holdsOfIt false) (holdsOfIt true)
@@ -239,40 +210,41 @@ module _ (text ts s : List ℕ) (g : Sought) (ops cs : List ℕ) (d : Policy) (p
             (subst (λ (xs : List Compared). Agree (F true) (holdsOfIt true) 0 xs) (sym same) (agreed true))
 
         runs-when : comesTo F trues falses flips (g .tests) ≡ matches mode resolved vs
-        runs-when = runs-read (conditionInForm (from s at)) refl ∙ sym held-here
+        runs-when = runs-read there-read refl ∙ sym held-here
 
-      runs-by : ProgramOf s (g .test) trues falses flips → 0 < g .tests → (t : Test) → g .test ≡ t → comesTo F trues falses flips (g .tests) ≡ matches mode resolved vs
-      unfolding conditionAt comparisonsIn
-      runs-by p least tests.Always e = absurd (omega (arith, least, compared-many, ap (λ (z : Test). length (comparisonsIn (conditionAt s z))) e))
+      runs-by : ProgramOf (namingBy (g .joined)) s (g .test) trues falses flips → 0 < g .tests → (t : Test) → g .test ≡ t → comesTo F trues falses flips (g .tests) ≡ matches mode resolved vs
+      runs-by p least tests.Always e = absurd (omega (arith, least, compared-many, ap (λ (z : Test). length (comparisonsIn (conditionFor (g .joined) s z))) e, condition-always (g .joined) s))
       runs-by p least (tests.When at n) e = runs-when at n e (p .result) (p .is at n e) least
 
     -- 16, as the array tells it
-    wrong-told : firstWrong s rs (g .tests) ≡ leftmost (map wrong (comparisonsIn (conditionAt s (g .test))))
+    wrong-told : firstWrong s rs (g .tests) ≡ leftmost (map wrong (comparisonsIn given))
     unfolding firstWrong
     wrong-told =
         ap leftmost
-        (tabulated-same (λ j. wrongBy s (testIn rs j)) (λ j. wrong (comparedAt s (getD ops j 0))) (g .tests)
-        (λ j l. wrong-is text ts (pr .tableCount) (g .table) d (pr .tables) (pr .inside) s (getD ops j 0) (getD cs (g .chosen + j) 0) (there-at j l) (number-at j l) (getD trues j 0) (getD falses j 0) (modeUnder mode (getD flips j false)) (testIn rs j) (each j l))
-        ∙ tabulated-taken (λ p. wrong (comparedAt s p)) (g .tests) ops long
-        ∙ sym (map-map wrong (comparedAt s) (take (g .tests) ops))
+        (tabulated-same (λ j. wrongBy s (testIn rs j)) (λ j. wrong (here (getD ops j 0))) (g .tests)
+        (λ j l.
+        wrong-read ts g s (getD ops j 0) (getD cs (g .behind + j) 0) (getD trues j 0) (getD falses j 0) (modeUnder mode (getD flips j false)) (testIn rs j) (each j l)
+        ∙ ap (λ k. mistyped k (here (getD ops j 0))) (kind-at j l))
+        ∙ tabulated-taken (λ p. wrong (here p)) (g .tests) ops (pr .long)
+        ∙ sym (map-map wrong here (take (g .tests) ops))
         ∙ ap (map wrong) (pr .compared))
 
     -- 31, likewise
     abbrev absent : Compared → Option Word
     absent x = offendingIf (isMissingDate (x .value .bytes)) (x .value)
 
-    dates-told : firstMissing s rs (g .tests) ≡ leftmost (map absent (comparisonsIn (conditionAt s (g .test))))
+    dates-told : firstMissing s rs (g .tests) ≡ leftmost (map absent (comparisonsIn given))
     unfolding firstMissing
     dates-told =
         ap leftmost
-        (tabulated-same (λ j. missingBy s (testIn rs j)) (λ j. absent (comparedAt s (getD ops j 0))) (g .tests)
-        (λ j l. missing-told ts (g .table) s (getD ops j 0) (getD cs (g .chosen + j) 0) (getD trues j 0) (getD falses j 0) (modeUnder mode (getD flips j false)) (testIn rs j) (each j l))
-        ∙ tabulated-taken (λ p. absent (comparedAt s p)) (g .tests) ops long
-        ∙ sym (map-map absent (comparedAt s) (take (g .tests) ops))
+        (tabulated-same (λ j. missingBy s (testIn rs j)) (λ j. absent (here (getD ops j 0))) (g .tests)
+        (λ j l. missing-told ts g s (getD ops j 0) (getD cs (g .behind + j) 0) (getD trues j 0) (getD falses j 0) (modeUnder mode (getD flips j false)) (testIn rs j) (each j l))
+        ∙ tabulated-taken (λ p. absent (here p)) (g .tests) ops (pr .long)
+        ∙ sym (map-map absent here (take (g .tests) ops))
         ∙ ap (map absent) (pr .compared))
 
-    pub tests-read : ProgramOf s (g .test) trues falses flips → TestsRead s g rs columns
-    tests-read p = record {
+    pub comparisons-told : ProgramOf (namingBy (g .joined)) s (g .test) trues falses flips → ComparisonsRead s g rs number kind
+    comparisons-told p = record {
       wrong = wrong-told;
       dates = dates-told;
       tested = λ typed. record {

@@ -11,11 +11,13 @@ use mathlib.Core.Path.{_∙_, _≡_, ap, refl, subst, sym}
 use native.Mathlib.Omega.{arith}
 use Rattle.answer.specs.Answer.{matches}
 use Rattle.judging.specs.Tests.{ProgramOf, Sized, TestOf, TestStored, Tested, comparisonBy, modeIs, modeUnder, testHolds, testIn}
+use Rattle.judging.specs.declared.tests.Comparisons.{Comparisons}
 use Rattle.judging.specs.declared.tests.TestRead.{TestRead}
 use Rattle.calendar.specs.DateText.{dayRankOf}
 use Rattle.condition.specs.Answers.{modeBy, operatorBy}
 use Rattle.condition.specs.Comparison.{Comparison, namesMeet, ranksMeet}
 use Rattle.condition.specs.Cond.{Cond}
+use Rattle.condition.specs.CondForm.{Naming}
 use Rattle.condition.specs.Kinds.{Kind, Op}
 use Rattle.condition.specs.Ranges.{Mode, endsOf, meetsIn, other, rangeMeets, valuesMeetIn}
 use Rattle.condition.specs.declared.conditions.Read.{Read}
@@ -24,7 +26,7 @@ use Rattle.workspace.proofs.CellLaws.{kind-dates}
 use Rattle.workspace.specs.Cells.{kindOfCell}
 use Rattle.lists.proofs.Tests.{and-left, both, never, true-not-false}
 use Rattle.program.proofs.RunLaws.{all-steps, from-step, step-back, step-end, step-first, step-on}
-use Rattle.program.specs.Program.{Programmed}
+use Rattle.program.specs.Program.{ProgrammedBy}
 use Rattle.query.specs.declared.reading.Test.the-variants as tests
 use Rattle.query.specs.declared.reading.Test.{Test}
 use Rattle.text.proofs.Closings.{closing-more, written-bracket}
@@ -293,10 +295,10 @@ module _ (ws : List ℕ) (j : ℕ) (x : TestRead) where
     }
 
 -- what is read of comparison j stands there, and of those before it what stood there
-module _ (ts : List ℕ) (t : ℕ) (s ops cs : List ℕ) (chosen : ℕ) (trues falses : List ℕ) (flips : List Bool) (mode : Mode) where
+module _ (ts : List ℕ) (g : Comparisons) (s ops cs trues falses : List ℕ) (flips : List Bool) where
   -- the comparison x is read as comparison j is to be
   abbrev pub Reads : ℕ → TestRead → Type 0
-  Reads j x = TestOf ts t s (getD ops j 0) (getD cs (chosen + j) 0) (getD trues j 0) (getD falses j 0) (modeUnder mode (getD flips j false)) x
+  Reads j x = TestOf ts g s (getD ops j 0) (getD cs (g .behind + j) 0) (getD trues j 0) (getD falses j 0) (modeUnder (modeBy (g .certain)) (getD flips j false)) x
 
   -- the first m comparisons are read
   pub record ReadTo (ws : List ℕ) (m : ℕ) : Type 0 where
@@ -353,11 +355,11 @@ module _ (vs : List Value) (s rs : List ℕ) (m : ℕ) (mode : Mode) (o : Option
 
 -- ---- the program
 
-pub no-program : (s : List ℕ) (test : Test) → test ≡ tests.Always → (ts fs : List ℕ) (os : List Bool) → ProgramOf s test ts fs os
-no-program s test e ts fs os = record { result = read.Refused; is = λ at n w. let z : _≡_ {A = ℕ} 0 1 = cc in absurd (omega (arith, z)) }
+pub no-program : (way : Naming) (s : List ℕ) (test : Test) → test ≡ tests.Always → (ts fs : List ℕ) (os : List Bool) → ProgramOf way s test ts fs os
+no-program way s test e ts fs os = record { result = read.Refused; is = λ at n w. let z : _≡_ {A = ℕ} 0 1 = cc in absurd (omega (arith, z)) }
 
-pub program-when : (s : List ℕ) (test : Test) (at n : ℕ) → test ≡ tests.When at n → (r : Read) (ts fs : List ℕ) (os : List Bool) → Programmed s at r ts fs os → ProgramOf s test ts fs os
-program-when s test at n e r ts fs os p = record { result = r; is = λ i k w. subst (λ (z : ℕ). Programmed s z r ts fs os) (place-same at i n k (sym e ∙ w)) p }
+pub program-when : (way : Naming) (s : List ℕ) (test : Test) (at n : ℕ) → test ≡ tests.When at n → (r : Read) (ts fs : List ℕ) (os : List Bool) → ProgrammedBy way s at r ts fs os → ProgramOf way s test ts fs os
+program-when way s test at n e r ts fs os p = record { result = r; is = λ i k w. subst (λ (z : ℕ). ProgrammedBy way s z r ts fs os) (place-same at i n k (sym e ∙ w)) p }
   where
     place-same : (a b k l : ℕ) → tests.When a k ≡ tests.When b l → a ≡ b
     place-same a b k l q = cc

@@ -11,18 +11,19 @@ use mathlib.Core.Option.{Option, Option·none-ne-some, Option·some-ne-none, non
 use mathlib.Core.Path.{_∙_, _≡_, ap, refl, sym}
 use native.Mathlib.Nat.{eq-or-lt-of-le}
 use native.Mathlib.Omega.{arith}
-use Rattle.condition.specs.Answers.{comparedAt, operatorBy}
-use Rattle.condition.specs.CondForm.{mistyped}
+use Rattle.condition.specs.Answers.{comparedAt, comparedBy, comparedJoined, namingBy, operatorBy, operatorOf, valueAt}
+use Rattle.condition.specs.CondForm.{Naming, mistyped, plainly, tabled}
 use Rattle.condition.specs.Kinds.{hasKind, takes}
 use Rattle.judging.specs.Reading.{missingBy, wrongBy}
 use Rattle.condition.specs.Ranges.{Mode}
 use Rattle.judging.specs.Tests.{TestOf}
+use Rattle.judging.specs.declared.tests.Comparisons.{Comparisons}
 use Rattle.judging.specs.declared.tests.TestRead.{TestRead}
 use Rattle.lists.proofs.ListLaws.{map-append}
 use Rattle.text.proofs.OffendingLaws.{leftmost-fail, leftmost-head, leftmost-nil, leftmost-on, leftmost-only, leftmost-tail, unless-false, unless-none, unless-true}
 use Rattle.query.specs.Query.{isMissingDate}
 use Rattle.text.specs.Offending.{leftmost, offendingIf, unless}
-use Rattle.text.specs.Words.{Word, writtenAt, writtenOf}
+use Rattle.text.specs.Words.{Word, wordAt, writtenAt, writtenOf}
 use Rattle.workspace.specs.Cells.{kindOfCell}
 use Rattle.workspace.specs.Tabulated.{tabulated}
 
@@ -87,23 +88,47 @@ tabulated-taken h (suc m) xs l =
 
 -- ---- one comparison
 
--- what was read of a comparison tells what is wrong with its types
-pub wrong-read : (ts : List ℕ) (t : ℕ) (s : List ℕ) (op c y n : ℕ) (mode : Mode) (x : TestRead) → TestOf ts t s op c y n mode x → wrongBy s x ≡ mistyped (kindOfCell (x .kind)) (comparedAt s op)
-unfolding wrongBy mistyped comparedAt
-wrong-read ts t s op c y n mode x h = λ i.
-    leftmost (unless (takes (kindOfCell (x .kind)) (h .operator i)) (writtenOf s (h .sign i))
-    ∷ unless ((h .fits ∙ ap (λ p. hasKind (kindOfCell (x .kind)) (writtenAt s p)) (h .place)) i) (writtenOf s (h .place i))
-    ∷ [])
+-- the parts of a comparison by the place of its operator, in whichever way it names its column
+module _ (s : List ℕ) (op : ℕ) where
+  pub compared-op : (way : Naming) → comparedBy way s op .op ≡ operatorOf (wordAt s op)
+  unfolding comparedAt comparedJoined
+  compared-op plainly = refl
+  compared-op tabled = refl
+
+  compared-operator : (way : Naming) → comparedBy way s op .operator ≡ writtenOf s op
+  unfolding comparedAt comparedJoined
+  compared-operator plainly = refl
+  compared-operator tabled = refl
+
+  pub compared-value : (way : Naming) → comparedBy way s op .value ≡ writtenOf s (valueAt way s op)
+  unfolding comparedAt comparedJoined
+  compared-value plainly = refl
+  compared-value tabled = refl
+
+module _ (ts : List ℕ) (g : Comparisons) (s : List ℕ) (op c y n : ℕ) (mode : Mode) (x : TestRead) (h : TestOf ts g s op c y n mode x) where
+  abbrev way : Naming
+  way = namingBy (g .joined)
+
+  pub value-read : writtenOf s (x .place) ≡ comparedBy way s op .value
+  value-read = ap (writtenOf s) (h .place) ∙ sym (compared-value s op way)
+
+  -- what was read of a comparison tells what is wrong with its types
+  pub wrong-read : wrongBy s x ≡ mistyped (kindOfCell (x .kind)) (comparedBy way s op)
+  unfolding wrongBy mistyped
+  wrong-read = λ i.
+      leftmost (unless (takes (kindOfCell (x .kind)) ((h .operator ∙ sym (compared-op s op way)) i)) ((ap (writtenOf s) (h .sign) ∙ sym (compared-operator s op way)) i)
+      ∷ unless ((h .fits ∙ ap (λ (w : Word). hasKind (kindOfCell (x .kind)) (w .bytes)) value-read) i) (value-read i)
+      ∷ [])
+
+  -- and whether its value is a date that does not exist
+  pub missing-told : missingBy s x ≡ offendingIf (isMissingDate (comparedBy way s op .value .bytes)) (comparedBy way s op .value)
+  unfolding missingBy
+  missing-told = ap (λ (w : Word). offendingIf (isMissingDate (w .bytes)) w) value-read
 
 -- where nothing is wrong, the value is of the type
 pub wrong-none : (s : List ℕ) (x : TestRead) → wrongBy s x ≡ none → eqb (x .fits) 1 ≡ true
 unfolding wrongBy
 wrong-none s x h = unless-none _ _ (leftmost-head _ _ (leftmost-tail _ _ h))
-
--- what was read of a comparison tells whether its value is a date that does not exist
-pub missing-told : (ts : List ℕ) (t : ℕ) (s : List ℕ) (op c y n : ℕ) (mode : Mode) (x : TestRead) → TestOf ts t s op c y n mode x → missingBy s x ≡ offendingIf (isMissingDate (comparedAt s op .value .bytes)) (comparedAt s op .value)
-unfolding missingBy comparedAt
-missing-told ts t s op c y n mode x h = ap (λ p. offendingIf (isMissingDate (writtenAt s p)) (writtenOf s p)) (h .place)
 
 -- what the code finds of a comparison, where b says whether the operator takes the type
 module _ (s : List ℕ) (x : TestRead) (b : Bool) (is : b ≡ takes (kindOfCell (x .kind)) (operatorBy (x .operator))) where

@@ -1,5 +1,5 @@
 -- Contract: the comparisons of a query's condition as they are read, eleven numbers for each, and which hold of a row or a pair.
-use Prim.Native.Nat.{_*_, _+_, _<_, _≤_, ℕ}
+use Prim.Native.Nat.{_*_, _+_, _-_, _<_, _≤_, ℕ}
 use lib.Dec.{eqb}
 use lib.ListN.{getD, length}
 use mathlib.Core.Bool.{Bool, cond, false, true}
@@ -7,25 +7,23 @@ use mathlib.Core.List.{List, []}
 use mathlib.Core.Option.{Option}
 use mathlib.Core.Path.{_≡_}
 use Rattle.answer.specs.Answer.{matches}
-use Rattle.judging.specs.declared.sought.Sought.{Sought}
+use Rattle.judging.specs.declared.tests.Comparisons.{Comparisons}
 use Rattle.judging.specs.declared.tests.TestRead.{TestRead}
 use Rattle.calendar.specs.DateText.{dayRankOf}
-use Rattle.condition.specs.Answers.{modeBy, operatorBy, operatorOf}
+use Rattle.condition.specs.Answers.{modeBy, namingBy, operatorBy, operatorOf, valueAt}
 use Rattle.condition.specs.Comparison.{Comparison}
 use Rattle.condition.specs.Cond.{Cond}
-use Rattle.condition.specs.Kinds.{dates, hasKind, names, numbers}
+use Rattle.condition.specs.CondForm.{Naming}
+use Rattle.condition.specs.Kinds.{Kind, dates, hasKind, names, numbers}
 use Rattle.condition.specs.Ranges.{Mode, meetsIn, other}
 use Rattle.condition.specs.declared.conditions.Read.{Read}
 use Rattle.workspace.specs.Cells.{kindOfCell}
 use Rattle.relations.specs.Tables.{columnKindIn}
 use Rattle.lists.specs.Lists.{orZero}
-use Rattle.program.specs.Program.{Programmed, comesTo}
-use Rattle.query.specs.QueryForm.{modeOf}
-use Rattle.query.specs.QueryPlaces.{verbOf}
+use Rattle.program.specs.Program.{ProgrammedBy, comesTo}
 use Rattle.query.specs.declared.reading.Test.the-variants as tests
 use Rattle.query.specs.declared.reading.Test.{Test}
 use Rattle.text.specs.Numbers.{Value, rank}
-use Rattle.text.specs.Walking.{nextWord}
 use Rattle.text.specs.Words.{wordAt, writtenAt}
 
 -- ---- one comparison
@@ -70,25 +68,29 @@ pub record Sized (s : List ℕ) (x : TestRead) : Type 0 where
   pub plain : kindOfCell (x .kind) ≡ names → writtenAt s (x .place) ≡ wordAt s (x .place)
   pub dated : kindOfCell (x .kind) ≡ dates → x .rank ≡ dayRankOf (writtenAt s (x .place))
 
--- x is read of the comparison of column c of table t whose operator stands at a place of s; it goes on with y or n, and is
--- asked in this mode
-pub record TestOf (ts : List ℕ) (t : ℕ) (s : List ℕ) (op c y n : ℕ) (mode : Mode) (x : TestRead) : Type 0 where
+-- x is the type of column c, numbered through both tables, which are among those of the array ts
+pub record KindRead (ts : List ℕ) (g : Comparisons) (c : ℕ) (x : Kind) : Type 0 where
+  pub first : c < g .width → g .first < 8 → c < 16 → x ≡ columnKindIn ts (g .first) c
+  pub second : g .width ≤ c → g .second < 8 → c - g .width < 16 → x ≡ columnKindIn ts (g .second) (c - g .width)
+
+-- x is read of the comparison of column c whose operator stands at a place of s; it goes on with y or n, and is asked in this mode
+pub record TestOf (ts : List ℕ) (g : Comparisons) (s : List ℕ) (op c y n : ℕ) (mode : Mode) (x : TestRead) : Type 0 where
   pub column : x .column ≡ c
-  pub kind : t < 8 → c < 16 → kindOfCell (x .kind) ≡ columnKindIn ts t c
+  pub kind : KindRead ts g c (kindOfCell (x .kind))
   pub operator : operatorBy (x .operator) ≡ operatorOf (wordAt s op)
   pub sign : x .sign ≡ op
-  pub place : x .place ≡ nextWord s (nextWord s op)
+  pub place : x .place ≡ valueAt (namingBy (g .joined)) s op
   pub fits : eqb (x .fits) 1 ≡ hasKind (kindOfCell (x .kind)) (writtenAt s (x .place))
   pub sized : eqb (x .fits) 1 ≡ true → Sized s x
   pub hit : x .hit ≡ y
   pub miss : x .miss ≡ n
   pub asked : modeIs x ≡ mode
 
--- comparison j of what is sought is read: its operator stands at a place of s that ops has, cs has the number of its column, and the
--- three lists say how it goes on and how it is asked
-abbrev pub TestAt : (ts s ops cs : List ℕ) → Sought → (trues falses : List ℕ) → List Bool → List ℕ → ℕ → Type 0
+-- comparison j is read: its operator stands at a place of s that ops has, cs has the number of its column, and the three lists say how it
+-- goes on and how it is asked
+abbrev pub TestAt : (ts s ops cs : List ℕ) → Comparisons → (trues falses : List ℕ) → List Bool → List ℕ → ℕ → Type 0
 TestAt ts s ops cs g trues falses flips ws j =
-    TestOf ts (g .table) s (getD ops j 0) (getD cs (g .chosen + j) 0) (getD trues j 0) (getD falses j 0) (modeUnder (modeOf (verbOf (g .verb))) (getD flips j false)) (testIn ws j)
+    TestOf ts g s (getD ops j 0) (getD cs (g .behind + j) 0) (getD trues j 0) (getD falses j 0) (modeUnder (modeBy (g .certain)) (getD flips j false)) (testIn ws j)
 
 -- it is sure, or possible, of these values, as it is asked
 unfoldable pub testHolds : List Value → List ℕ → TestRead → Bool
@@ -96,10 +98,10 @@ testHolds vs s x = meetsIn (modeIs x) (comparisonBy s x) (getD vs (x .column) []
 
 -- ---- the condition
 
--- the three lists are the program of the condition, where there is one
-pub record ProgramOf (s : List ℕ) (test : Test) (trues falses : List ℕ) (flips : List Bool) : Type 0 where
+-- the three lists are the program of the condition, where there is one; its comparisons name columns in this way
+pub record ProgramOf (way : Naming) (s : List ℕ) (test : Test) (trues falses : List ℕ) (flips : List Bool) : Type 0 where
   pub result : Read
-  pub is : (at n : ℕ) → test ≡ tests.When at n → Programmed s at result trues falses flips
+  pub is : (at n : ℕ) → test ≡ tests.When at n → ProgrammedBy way s at result trues falses flips
 
 -- what was read of the m comparisons of the condition o: they go on as its program says, and running that by which of them are sure
 -- or possible of some values says whether the condition is, in this mode

@@ -1,9 +1,8 @@
 -- `judging::tests::store_tests` meets its contract. The loop's invariant: the comparisons before j are read. Assumes nothing.
 use Prim.Native.Nat.{_-_, _≤_, _+_}
-use Rattle.condition.specs.Answers.{modeBy}
 use Rattle.condition.specs.Ranges.{Mode}
-use Rattle.judging.proofs.TestLaws.{ReadTo, Reads, read-more, read-none}
-use Rattle.judging.specs.Tests.{TestOf, testIn}
+use Rattle.judging.proofs.TestLaws.{ReadTo, read-more, read-none}
+use Rattle.judging.specs.Tests.{TestOf}
 use borrow.Author.Needs.{needs}
 use lib.ListN.{getD}
 use mathlib.Core.Path.{subst}
@@ -12,16 +11,13 @@ use Rattle.judging.proofs.tests.store_tests.Statement.{statement}
 use Rattle.judging.proofs.tests.store_tests.Tie as tie
 
 abbrev Inv-loop : tie.InvT-loop
-Inv-loop tables query ops columns trues falses flips tests₀ t m chosen certain j₀ tests j = (j ≤ m) × ReadTo tables t query ops columns chosen trues falses flips (modeBy certain) tests j
+Inv-loop tables query g ops columns trues falses flips tests₀ m behind certain j₀ tests j = (j ≤ m) × ReadTo tables g query ops columns trues falses flips tests j
 
 abbrev μ-loop : tie.MeasureT-loop
-μ-loop tables query ops columns trues falses flips tests₀ t m chosen certain j₀ tests j = m - j
-
-is-certain-requires : tie.Need-is-certain-requires Inv-loop μ-loop
-is-certain-requires c κs = search needs
+μ-loop tables query g ops columns trues falses flips tests₀ m behind certain j₀ tests j = m - j
 
 loop-holds : tie.Need-loop-holds Inv-loop μ-loop
-loop-holds c = let a = c .before .before .before .args in (omega arith, read-none (a .tables .now) (a .s .table) (a .query .now) (a .ops .now) (a .columns .now) (a .s .chosen) (a .trues .now) (a .falses .now) (a .flips .now) (modeBy (c .is-certain .result)) (a .tests .now))
+loop-holds c = let a = c .before .before .before .args in (omega arith, read-none (a .tables .now) (a .g) (a .query .now) (a .ops .now) (a .columns .now) (a .trues .now) (a .falses .now) (a .flips .now) (a .tests .now))
 
 mul-read-test : tie.Need-mul-read-test Inv-loop μ-loop
 mul-read-test c = search needs
@@ -35,20 +31,20 @@ add-read-test c = search needs
 mul-read-test-2 : tie.Need-mul-read-test-2 Inv-loop μ-loop
 mul-read-test-2 c = search needs
 
-element-copy-out-read-test : tie.Need-element-copy-out-read-test Inv-loop μ-loop
-element-copy-out-read-test c = search needs
+shared-slice-read-read-test-2 : tie.Need-shared-slice-read-read-test-2 Inv-loop μ-loop
+shared-slice-read-read-test-2 c = search needs
 
 mul-read-test-3 : tie.Need-mul-read-test-3 Inv-loop μ-loop
 mul-read-test-3 c = search needs
 
-element-copy-out-read-test-2 : tie.Need-element-copy-out-read-test-2 Inv-loop μ-loop
-element-copy-out-read-test-2 c = search needs
+element-copy-out-read-test : tie.Need-element-copy-out-read-test Inv-loop μ-loop
+element-copy-out-read-test c = search needs
 
 mul-read-test-4 : tie.Need-mul-read-test-4 Inv-loop μ-loop
 mul-read-test-4 c = search needs
 
-element-copy-out-read-test-3 : tie.Need-element-copy-out-read-test-3 Inv-loop μ-loop
-element-copy-out-read-test-3 c = search needs
+element-copy-out-read-test-2 : tie.Need-element-copy-out-read-test-2 Inv-loop μ-loop
+element-copy-out-read-test-2 c = search needs
 
 element-copy-out-asked-certain : tie.Need-element-copy-out-asked-certain Inv-loop μ-loop
 element-copy-out-asked-certain c = search needs
@@ -70,24 +66,19 @@ loop-less c = omega arith
 
 loop-again : tie.Need-loop-again Inv-loop μ-loop
 loop-again c =
-    let a = c .before .before .before .before .before .before .before .before .before .before .before .before .before .before .args in
     let l = c .before .before .before .before .before .before .before .before .before .before .loop in
+    let a = c .before .before .before .before .before .before .before .before .before .before .before .before .before .before .args in
     let x = c .before .before .read-test in (
       omega (arith, c .before .before .before .before .before .before .before .before .before .loop-test .taken),
-      read-more (a .tables .now) (a .s .table) (a .query .now) (a .ops .now) (a .columns .now) (a .s .chosen) (a .trues .now) (a .falses .now)
-          (a .flips .now) (modeBy (c .before .before .before .before .before .before .before .before .before .before .before .is-certain .result))
+      read-more (a .tables .now) (a .g) (a .query .now) (a .ops .now) (a .columns .now) (a .trues .now) (a .falses .now) (a .flips .now)
           (l .tests) _ (l .j) (x .result) (l .inv .1)
           (subst
-          (λ (m : Mode). TestOf (a .tables .now) (a .s .table) (a .query .now) (getD (a .ops .now) (l .j) 0) (getD (a .columns .now) (a .s .chosen + l .j) 0) (getD (a .trues .now) (l .j) 0) (getD (a .falses .now) (l .j) 0) m (x .result))
+          (λ (m : Mode). TestOf (a .tables .now) (a .g) (a .query .now) (getD (a .ops .now) (l .j) 0) (getD (a .columns .now) (a .g .behind + l .j) 0) (getD (a .trues .now) (l .j) 0) (getD (a .falses .now) (l .j) 0) m (x .result))
           (c .before .before .before .asked-certain .ensures) (x .ensures)) (c .store-test .ensures),
     )
 
 returns : tie.Need-returns Inv-loop μ-loop
-returns c =
-    let a = c .before .before .before .before .before .args in
-    λ j l. subst
-    (λ (m : Mode). Reads (a .tables .now) (a .s .table) (a .query .now) (a .ops .now) (a .columns .now) (a .s .chosen) (a .trues .now) (a .falses .now) (a .flips .now) m j (testIn (c .before .loop .tests) j))
-    (c .before .before .is-certain .ensures) (c .before .loop .inv .1 .each j (omega (arith, l)))
+returns c = λ j l. c .before .loop .inv .1 .each j (omega (arith, l))
 
 pub store-tests-spec : {M : Type 1} → statement M
 store-tests-spec =
@@ -95,17 +86,16 @@ store-tests-spec =
     (tie.spec
     Inv-loop
     μ-loop
-    is-certain-requires
     loop-holds
     mul-read-test
     shared-slice-read-read-test
     add-read-test
     mul-read-test-2
-    element-copy-out-read-test
+    shared-slice-read-read-test-2
     mul-read-test-3
-    element-copy-out-read-test-2
+    element-copy-out-read-test
     mul-read-test-4
-    element-copy-out-read-test-3
+    element-copy-out-read-test-2
     element-copy-out-asked-certain
     asked-certain-requires
     read-test-requires
