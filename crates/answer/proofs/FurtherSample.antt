@@ -6,42 +6,42 @@ use mathlib.Core.Path.{refl}
 use native.Mathlib.Omega.{arith}
 use Rattle.answer.proofs.Samples.{cy, ida, policy, session}
 use Rattle.answer.specs.Computing.{computing}
-use Rattle.answer.specs.Further.{SelectsBelow, selectText}
+use Rattle.answer.specs.Further.{SelectsBelow, select_text}
 use Rattle.document.specs.Check.{check}
-use Rattle.document.specs.Policy.{emptyDoc}
-use Rattle.text.proofs.RefusalLaws.{Accepts, accepted-is, acceptedOr}
+use Rattle.document.specs.Policy.{empty_doc}
+use Rattle.text.proofs.RefusalLaws.{Accepts, accepted_is, accepted_or}
 use Rattle.text.specs.Bytes.{ascii}
 
-session-accepted : Accepts (check session)
+session_accepted : Accepts (check session)
 unfolding computing policy ida cy session
-session-accepted = tt
+session_accepted = tt
 
 -- the sample's select for a purpose
 unfoldable pub selecting : List ℕ → List ℕ
-selecting p = selectText (ascii "select") (ascii "ana") (ascii "desk") p (ascii "sub (who) (gt due 50))")
+selecting p = select_text (ascii "select") (ascii "ana") (ascii "desk") p (ascii "sub (who) (gt due 50))")
 
-pub sample-below : SelectsBelow session (selecting (ascii "ads")) (selecting (ascii "post"))
+pub sample_below : SelectsBelow session (selecting (ascii "ads")) (selecting (ascii "post"))
 unfolding computing policy ida cy session selecting zip_with
-sample-below = record {
-  checked = acceptedOr (record { lines = 0; doc = emptyDoc }) (check session);
-  accepts = accepted-is (record { lines = 0; doc = emptyDoc }) (check session) session-accepted;
+sample_below = record {
+  checked = accepted_or (record { lines = 0; doc = empty_doc }) (check session);
+  accepts = accepted_is (record { lines = 0; doc = empty_doc }) (check session) session_accepted;
   keyword = ascii "select";
   user = ascii "ana";
   role = ascii "desk";
   P = ascii "ads";
   Q = ascii "post";
   rest = ascii "sub (who) (gt due 50))";
-  isSelect = refl;
-  isUser = refl;
-  isRole = refl;
-  isP = refl;
-  isQ = refl;
+  is_select = refl;
+  is_user = refl;
+  is_role = refl;
+  is_p = refl;
+  is_q = refl;
   is = refl;
-  isLower = refl;
-  numberP = 2;
-  numberQ = 3;
-  knownP = refl;
-  knownQ = refl;
+  is_lower = refl;
+  number_p = 2;
+  number_q = 3;
+  known_p = refl;
+  known_q = refl;
   below = refl;
   short = omega arith;
 }

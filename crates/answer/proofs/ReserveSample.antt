@@ -5,19 +5,19 @@ use lib.ListN.{length}
 use mathlib.Core.Bool.{Bool, ◌&&◌, false, true}
 use mathlib.Core.List.{List, [], ◌++◌, ◌∷◌}
 use mathlib.Core.Path.{◌≡◌, refl}
-use Rattle.answer.proofs.Samples.{clockAt}
+use Rattle.answer.proofs.Samples.{clock_at}
 use Rattle.answer.specs.Ask.{Outcome, ask}
 use Rattle.answer.specs.Computing.{computing}
-use Rattle.answer.specs.Reserve.{Taken, checked, wholeLength}
+use Rattle.answer.specs.Reserve.{Taken, checked, whole_length}
 use Rattle.document.specs.Policy.{Row}
 use Rattle.lists.specs.Lists.{all_of}
 use Rattle.text.specs.Bytes.{ascii}
 use Rattle.text.specs.Refusal.{Result, accepted, refused}
 
 -- what is handed back is this number of lines and this reserve
-unfoldable pub handsBack : Result Taken → ℕ → ℕ → Bool
-handsBack (refused r) lines reserve = false
-handsBack (accepted t) lines reserve = eqb t.lines lines && eqb t.reserve reserve
+unfoldable pub hands_back : Result Taken → ℕ → ℕ → Bool
+hands_back (refused r) lines reserve = false
+hands_back (accepted t) lines reserve = eqb t.lines lines && eqb t.reserve reserve
 
 -- a document, the number of its lines and its reserve
 pub record Case : Type 0 where
@@ -67,12 +67,12 @@ cases =
     ∷ ascii "(label shut (allow) (deny))\n(table t nest (a num) (b date))\n(weak t shut)\n(row t shut ((7 9) shut) ((2028 2 29) shut))\n" ⇒ (4, 36)
     ∷ []
 
-pub reserves : all_of (λ c. handsBack (checked c.doc) c.lines c.reserve) cases ≡ true
-unfolding computing handsBack ◌⇒◌ sevens wide cases
+pub reserves : all_of (λ c. hands_back (checked c.doc) c.lines c.reserve) cases ≡ true
+unfolding computing hands_back ◌⇒◌ sevens wide cases
 reserves = refl
 
 -- 99 rows and 100: a digit more in the end line
-pub hundred : (eqb (wholeLength (ones 99)) 805 && eqb (wholeLength (ones 100)) 814) ≡ true
+pub hundred : (eqb (whole_length (ones 99)) 805 && eqb (whole_length (ones 100)) 814) ≡ true
 unfolding computing ones
 hundred = refl
 
@@ -83,11 +83,11 @@ opened =
     ++ ascii "(table t row (a name) (b num))\n(row t free Ida 40)\n(row t free Bo 7)\n"
 
 -- the answer has this length
-unfoldable pub isLong : Outcome → ℕ → Bool
-isLong (refused r) n = false
-isLong (accepted a) n = eqb (length a.answer.bytes) n
+unfoldable pub is_long : Outcome → ℕ → Bool
+is_long (refused r) n = false
+is_long (accepted a) n = eqb (length a.answer.bytes) n
 
 -- all its columns, each once, into a buffer of as many bytes as the reserve says: the answer fills it
-pub reached : (handsBack (checked opened) 9 36 && isLong (ask opened (ascii "(select ana desk all t (b a))") (clockAt 2028 1 0) 36) 36) ≡ true
-unfolding computing handsBack opened isLong clockAt
+pub reached : (hands_back (checked opened) 9 36 && is_long (ask opened (ascii "(select ana desk all t (b a))") (clock_at 2028 1 0) 36) 36) ≡ true
+unfolding computing hands_back opened is_long clock_at
 reached = refl

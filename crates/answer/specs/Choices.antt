@@ -2,7 +2,7 @@
 use Rattle.std.specs.Prelude.{ℕ, eqb, get_or, length, true, [], ◌≡◌}
 use Rattle.std.proofs.Math.ListN.{get_elem?}
 use Rattle.std.proofs.Math.Option.{some}
-use Rattle.answer.specs.Exactly.{isGiven}
+use Rattle.answer.specs.Exactly.{is_given}
 use Rattle.condition.specs.Ranges.{Chosen}
 use Rattle.document.specs.Policy.{Doc, Row}
 use Rattle.query.specs.Query.{resolved}
@@ -17,7 +17,7 @@ pub record ChosenRow (r s : Row) : Type 0 where
 -- the second document is the first with a number chosen for each range
 pub record ChosenDocument (d e : Doc) : Type 0 where
   pub policy : e.policy ≡ d.policy
-  pub equallyMany : length e.rows ≡ length d.rows
+  pub equally_many : length e.rows ≡ length d.rows
   pub each : (i : ℕ) (r s : Row) → get_elem? d.rows i ≡ some r → get_elem? e.rows i ≡ some s → ChosenRow r s
 
 -- the query with its rows asked for in this way
@@ -36,7 +36,7 @@ pub record Given (d : Doc) (v : Verb) (q : QueryForm) (i : ℕ) : Type 0 where
   pub row : Row
   pub stands : get_elem? d.rows i ≡ some row
   pub in_table : eqb row.table (resolved d.policy (asking v q)).source.table ≡ true
-  pub given : isGiven d (resolved d.policy (asking v q)) row ≡ true
+  pub given : is_given d (resolved d.policy (asking v q)) row ≡ true
 
 -- each row passed by sure is passed for the choice, and each row that the choice passes is passed by possible
 pub record Covered (d e : Doc) (q : QueryForm) : Type 0 where

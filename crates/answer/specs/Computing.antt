@@ -22,5 +22,5 @@ use Rattle.answer.specs.Session as Session
 use Rattle.answer.specs.Why as Why
 
 unfoldable pub computing : Unit {0}
-unfolding mathlib.Core.Option.bind mathlib.Core.List.flatten lists.computing purpose.computing text.computing calendar.computing condition.computing form.computing document.computing query.computing Seen.gap Seen.seenValue Seen.seenValues Seen.seen_row Seen.rowsIn Seen.seenIn Seen.seenRows Seen.inColumns Seen.pairValues Seen.beside Seen.pairsOf Seen.seenPairs Ranged.rangedAt Ranged.hasRange Ranged.rangedWord Ranged.rangedColumn Ranged.rangedRef Answer.matches Answer.satisfies Answer.satisfiesJoin Answer.row_line Answer.endLine Answer.isWithheld Answer.isPassed Answer.isUnmatched Answer.line_of Answer.row_lines Answer.counted Answer.answerTo Answer.answerJoin Ask.answerForm Ask.askUnbounded Ask.ifFits Ask.ask Ask.measure Ask.after Ask.pointedText Ask.part_of Faults.firstFault Faults.refusalNumber Faults.formFaults Faults.formAnswer Faults.queryFaults Faults.askFaults Exactly.isWithheldRow Exactly.isGiven Exactly.isUnmatchedRow Exactly.withGaps Exactly.gappedValues Exactly.isOut Exactly.rowPairs Exactly.values_of Exactly.isWithheldPair Exactly.isGivenPair Exactly.isUnmatchedPair Choices.asking Reserve.columnsFrom Reserve.wholeLine Reserve.wholeLength Reserve.wholeLengths Reserve.larger Reserve.greatest Reserve.reserveOf Reserve.checked Reserve.SelectsOnce Reserve.IsReserve Alike.sees Alike.free Alike.row_of Alike.lines_of AlikeTest.sameBytes AlikeTest.sameTexts AlikeTest.sameOrFree AlikeTest.rowInForm AlikeTest.labelTexts AlikeTest.sameRow AlikeTest.bothRows AlikeTest.sameOrRows AlikeTest.linesAlike AlikeTest.bothAlike AlikeTest.alike? Further.selectText Further.Prints Session.sourceName Session.refusalLine Session.printed Session.natural Session.clockNumbers Session.clockInLine Session.linesIn Session.programRoom Session.answers Session.writes Session.session Why.reasonBy Why.labelReason Why.reasonAt Why.cellReason Why.unknownWhy Why.rowNumbered Why.explain Why.why Why.reasonText Why.printedReason Why.explains Why.explaining Why.isOpened Why.labelMeant
+unfolding mathlib.Core.Option.bind mathlib.Core.List.flatten lists.computing purpose.computing text.computing calendar.computing condition.computing form.computing document.computing query.computing Seen.gap Seen.seen_value Seen.seen_values Seen.seen_row Seen.rows_in Seen.seen_in Seen.seen_rows Seen.in_columns Seen.pair_values Seen.beside Seen.pairs_of Seen.seen_pairs Ranged.ranged_at Ranged.has_range Ranged.ranged_word Ranged.ranged_column Ranged.ranged_ref Answer.matches Answer.satisfies Answer.satisfies_join Answer.row_line Answer.end_line Answer.is_withheld Answer.is_passed Answer.is_unmatched Answer.line_of Answer.row_lines Answer.counted Answer.answer_to Answer.answer_join Ask.answer_form Ask.ask_unbounded Ask.if_fits Ask.ask Ask.measure Ask.after Ask.pointed_text Ask.part_of Faults.first_fault Faults.refusal_number Faults.form_faults Faults.form_answer Faults.query_faults Faults.ask_faults Exactly.is_withheld_row Exactly.is_given Exactly.is_unmatched_row Exactly.with_gaps Exactly.gapped_values Exactly.is_out Exactly.row_pairs Exactly.values_of Exactly.is_withheld_pair Exactly.is_given_pair Exactly.is_unmatched_pair Choices.asking Reserve.columns_from Reserve.whole_line Reserve.whole_length Reserve.whole_lengths Reserve.larger Reserve.greatest Reserve.reserve_of Reserve.checked Reserve.SelectsOnce Reserve.IsReserve Alike.sees Alike.free Alike.row_of Alike.lines_of AlikeTest.same_bytes AlikeTest.same_texts AlikeTest.same_or_free AlikeTest.row_in_form AlikeTest.label_texts AlikeTest.same_row AlikeTest.both_rows AlikeTest.same_or_rows AlikeTest.lines_alike AlikeTest.both_alike AlikeTest.alike? Further.select_text Further.Prints Session.source_name Session.refusal_line Session.printed Session.natural Session.clock_numbers Session.clock_in_line Session.lines_in Session.program_room Session.answers Session.writes Session.session Why.reason_by Why.label_reason Why.reason_at Why.cell_reason Why.unknown_why Why.row_numbered Why.explain Why.why Why.reason_text Why.printed_reason Why.explains Why.explaining Why.is_opened Why.label_meant
 computing = tt

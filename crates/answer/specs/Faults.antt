@@ -2,15 +2,15 @@
 -- earliest that holds counts.
 use Rattle.std.specs.Prelude.{ℕ, ltb, length, Bool, cond, not, List, [], ◌++◌, ◌∷◌}
 use Rattle.std.proofs.Math.Option.{Option, none, some}
-use Rattle.answer.specs.Answer.{Answer, answerTo}
-use Rattle.answer.specs.Ranged.{rangedColumn}
-use Rattle.answer.specs.Seen.{seenRows}
-use Rattle.document.specs.Lookup.{purposeOf, userOf}
+use Rattle.answer.specs.Answer.{Answer, answer_to}
+use Rattle.answer.specs.Ranged.{ranged_column}
+use Rattle.answer.specs.Seen.{seen_rows}
+use Rattle.document.specs.Lookup.{purpose_of, user_of}
 use Rattle.document.specs.Policy.{Doc}
 use Rattle.lists.specs.Lists.{or_zero, there}
-use Rattle.query.specs.Authority.{Clock, firstGrant, in_range}
-use Rattle.query.specs.Query.{closedPart, missingDate, mistypedQuery, resolved, unknownColumn, unknownParty}
-use Rattle.query.specs.QueryForm.{QueryForm, queryOf}
+use Rattle.query.specs.Authority.{Clock, first_grant, in_range}
+use Rattle.query.specs.Query.{closed_part, missing_date, mistyped_query, resolved, unknown_column, unknown_party}
+use Rattle.query.specs.QueryForm.{QueryForm, query_of}
 use Rattle.text.specs.Refusal.{Result, accepted, refused}
 
 -- a refusal's number, and whether its condition holds
@@ -18,37 +18,37 @@ abbrev pub Fault : Type 0
 Fault = (number : ℕ) × Bool
 
 -- the first number of the list whose condition holds
-unfoldable pub firstFault : List Fault → Option ℕ
-firstFault [] = none
-firstFault (f ∷ fs) = cond f.1 (some f.0) (firstFault fs)
+unfoldable pub first_fault : List Fault → Option ℕ
+first_fault [] = none
+first_fault (f ∷ fs) = cond f.1 (some f.0) (first_fault fs)
 
 -- the number of a refusal; an accepted step has none
-unfoldable pub refusalNumber : {A : Type 0} → Result A → Option ℕ
-refusalNumber (refused r) = some r.number
-refusalNumber (accepted x) = none
+unfoldable pub refusal_number : {A : Type 0} → Result A → Option ℕ
+refusal_number (refused r) = some r.number
+refusal_number (accepted x) = none
 
 -- the faults of a query, in the order of 01 and 02: 12 to 16, 27, 31 and 17
-unfoldable pub formFaults : Doc → Clock → QueryForm → List Fault
-formFaults d c q =
-    (12, there (unknownParty d.policy q))
-    ∷ (13, not (there (userOf d.policy q.user q.role)))
-    ∷ (14, not (there (firstGrant d.policy c (or_zero (userOf d.policy q.user q.role)) (or_zero (purposeOf d.policy q.purpose)))))
-    ∷ (15, there (unknownColumn d.policy q))
-    ∷ (16, there (mistypedQuery d.policy q))
-    ∷ (27, there (rangedColumn d q))
-    ∷ (31, there (missingDate q))
-    ∷ (17, there (closedPart d.policy q))
+unfoldable pub form_faults : Doc → Clock → QueryForm → List Fault
+form_faults d c q =
+    (12, there (unknown_party d.policy q))
+    ∷ (13, not (there (user_of d.policy q.user q.role)))
+    ∷ (14, not (there (first_grant d.policy c (or_zero (user_of d.policy q.user q.role)) (or_zero (purpose_of d.policy q.purpose)))))
+    ∷ (15, there (unknown_column d.policy q))
+    ∷ (16, there (mistyped_query d.policy q))
+    ∷ (27, there (ranged_column d q))
+    ∷ (31, there (missing_date q))
+    ∷ (17, there (closed_part d.policy q))
     ∷ []
 
 -- the answer to a query as read
-unfoldable pub formAnswer : Doc → QueryForm → Answer
-formAnswer d q = answerTo (resolved d.policy q) (seenRows d (resolved d.policy q))
+unfoldable pub form_answer : Doc → QueryForm → Answer
+form_answer d q = answer_to (resolved d.policy q) (seen_rows d (resolved d.policy q))
 
 -- the faults of a query text that is a query, these and 18; one that is none has 11 already
-unfoldable pub queryFaults : Doc → Clock → (room : ℕ) → Option QueryForm → List Fault
-queryFaults d c room none = []
-queryFaults d c room (some q) = formFaults d c q ++ (18, ltb room (length (formAnswer d q).bytes)) ∷ []
+unfoldable pub query_faults : Doc → Clock → (room : ℕ) → Option QueryForm → List Fault
+query_faults d c room none = []
+query_faults d c room (some q) = form_faults d c q ++ (18, ltb room (length (form_answer d q).bytes)) ∷ []
 
 -- the faults of asking about an accepted document: 10, 11, those of the query, and 18
-unfoldable pub askFaults : Doc → (text : List ℕ) → Clock → (room : ℕ) → List Fault
-askFaults d text c room = (10, not (in_range c)) ∷ (11, not (there (queryOf text))) ∷ queryFaults d c room (queryOf text)
+unfoldable pub ask_faults : Doc → (text : List ℕ) → Clock → (room : ℕ) → List Fault
+ask_faults d text c room = (10, not (in_range c)) ∷ (11, not (there (query_of text))) ∷ query_faults d c room (query_of text)

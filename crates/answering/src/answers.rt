@@ -1,9 +1,9 @@
 // The whole answer: measured first, and then, where there is room, written straight into the lent buffer.
 ghost use Rattle.std.specs.Prelude.{◌≤◌, ℕ, length, take, ◌≡◌};
-ghost use Rattle.answer.specs.Answer.{answerTo};
-ghost use Rattle.answer.specs.Seen.{seenRows};
+ghost use Rattle.answer.specs.Answer.{answer_to};
+ghost use Rattle.answer.specs.Seen.{seen_rows};
 ghost use Rattle.answering.specs.Answering.{Writes};
-ghost use Rattle.answering.specs.Lines.{OfMarked, gapsBy};
+ghost use Rattle.answering.specs.Lines.{OfMarked, gaps_by};
 ghost use Rattle.judging.specs.Prepared.{Prepared};
 ghost use Rattle.document.specs.Policy.{Doc};
 ghost use Rattle.query.specs.Query.{Query};
@@ -33,7 +33,7 @@ pub struct Measured {
 // Whether gaps are written: they are left, and cells have labels of their own. In a table of another scheme a row that is given has
 // no closed cell in the selected columns.
 fn writes_gaps(verb: Verb, scheme: Scheme) -> bool
-    ensures { result ≡ gapsBy verb scheme }
+    ensures { result ≡ gaps_by verb scheme }
 {
     if leaves_gaps(verb) {
         return has_brackets(scheme);
@@ -162,7 +162,7 @@ pub fn answer_rows(
     columns: &[usize; 80],
     out: &mut [u8],
 ) -> Measured
-    ensures { (d : Doc) (q : Query) → Prepared text.now tables.now rows.now count said.now query.now s tests.now columns.now d q → Writes (answerTo q (seenRows d q)) out.old out.new result }
+    ensures { (d : Doc) (q : Query) → Prepared text.now tables.now rows.now count said.now query.now s tests.now columns.now d q → Writes (answer_to q (seen_rows d q)) out.old out.new result }
 {
     // A prepared query passes these: they keep lengths from wrapping.
     if TEXT_BYTES < text.len() {

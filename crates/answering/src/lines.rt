@@ -1,13 +1,13 @@
 // The lines of an answer: those of the rows that are given, and the last.
 ghost use Rattle.std.specs.Prelude.{◌<◌, ◌≤◌, get_or, length, set, take, List, [], ◌≡◌};
-ghost use Rattle.answer.specs.Answer.{endLine, row_line};
-ghost use Rattle.answer.specs.Exactly.{withGaps};
-ghost use Rattle.answering.specs.Lines.{Sizes, cellShown, lineMarked, linesMarked, rowShown, shownIn, spacedValues, valuesIn};
+ghost use Rattle.answer.specs.Answer.{end_line, row_line};
+ghost use Rattle.answer.specs.Exactly.{with_gaps};
+ghost use Rattle.answering.specs.Lines.{Sizes, cell_shown, line_marked, lines_marked, row_shown, shown_in, spaced_values, values_in};
 ghost use Rattle.document.specs.Policy.{Doc};
 ghost use Rattle.judging.specs.Marking.{open_in};
-ghost use Rattle.relations.specs.Rows.{Rows, labelCountIn, labelRoom, labelsIn, valueCountIn};
+ghost use Rattle.relations.specs.Rows.{Rows, label_count_in, label_room, labels_in, value_count_in};
 ghost use Rattle.text.specs.Numbers.{Value};
-ghost use Rattle.text.specs.Words.{writtenAt};
+ghost use Rattle.text.specs.Words.{written_at};
 ghost use Rattle.writing.specs.Write.{Wrote};
 
 use judging::cells::value_place;
@@ -39,7 +39,7 @@ fn keep_size(sizes: &mut [usize], c: usize, size: usize)
 
 // The size that was kept, or else that of the value at a place.
 fn written_size(text: &[u8], place: usize, kept: usize) -> usize
-    ensures { (0 < kept → kept ≡ length (writtenAt text.now place)) → result ≡ length (writtenAt text.now place) }
+    ensures { (0 < kept → kept ≡ length (written_at text.now place)) → result ≡ length (written_at text.now place) }
 {
     if 0 < kept {
         return kept;
@@ -49,7 +49,7 @@ fn written_size(text: &[u8], place: usize, kept: usize) -> usize
 
 // How long the value of column c is, which stands at a place: a size that was kept, or else that of what stands there, which is kept.
 fn value_size(text: &[u8], place: usize, c: usize, sizes: &mut [usize; COLUMNS]) -> usize
-    ensures { (vs : List Value) → writtenAt text.now place ≡ get_or vs c [] → Sizes vs sizes.old → (result ≡ length (get_or vs c [])) × Sizes vs sizes.new }
+    ensures { (vs : List Value) → written_at text.now place ≡ get_or vs c [] → Sizes vs sizes.old → (result ≡ length (get_or vs c [])) × Sizes vs sizes.new }
 {
     let size = written_size(text, place, kept_size(sizes, c));
     keep_size(sizes, c, size);
@@ -67,7 +67,7 @@ fn put_values(
     columns: &[usize],
 ) -> usize
     requires { (r < 1024) × (width ≤ 16) }
-    ensures { Wrote out.old at (spacedValues columns.now (valuesIn text.now rows.now r width)) out.new result }
+    ensures { Wrote out.old at (spaced_values columns.now (values_in text.now rows.now r width)) out.new result }
 {
     let mut sizes = [0usize; COLUMNS];
     let mut to = at;
@@ -97,7 +97,7 @@ fn put_cell(
     sizes: &mut [usize; COLUMNS],
 ) -> usize
     requires { (r < 1024) × (width ≤ 16) }
-    ensures { Sizes (valuesIn text.now rows.now r width) sizes.old → Wrote out.old at (cellShown shown (valuesIn text.now rows.now r width) c) out.new result × Sizes (valuesIn text.now rows.now r width) sizes.new }
+    ensures { Sizes (values_in text.now rows.now r width) sizes.old → Wrote out.old at (cell_shown shown (values_in text.now rows.now r width) c) out.new result × Sizes (values_in text.now rows.now r width) sizes.new }
 {
     if shown {
         let place = value_place(text, rows, r, width, c);
@@ -123,7 +123,7 @@ fn put_gapped(
     columns: &[usize],
 ) -> usize
     requires { (r < 1024) × (width ≤ 16) }
-    ensures { labelCountIn rows.now r ≤ labelRoom → Wrote out.old at (spacedValues columns.now (withGaps (open_in said.now m (labelsIn rows.now r)) 0 (valuesIn text.now rows.now r width))) out.new result }
+    ensures { label_count_in rows.now r ≤ label_room → Wrote out.old at (spaced_values columns.now (with_gaps (open_in said.now m (labels_in rows.now r)) 0 (values_in text.now rows.now r width))) out.new result }
 {
     let own = under_row(rows, said, m, r);
     let mut sizes = [0usize; COLUMNS];
@@ -153,7 +153,7 @@ fn put_shown(
     columns: &[usize],
 ) -> usize
     requires { (r < 1024) × (width ≤ 16) }
-    ensures { labelCountIn rows.now r ≤ labelRoom → Wrote out.old at (spacedValues columns.now (shownIn said.now m text.now rows.now gaps r width)) out.new result }
+    ensures { label_count_in rows.now r ≤ label_room → Wrote out.old at (spaced_values columns.now (shown_in said.now m text.now rows.now gaps r width)) out.new result }
 {
     if gaps {
         return put_gapped(out, at, text, rows, said, m, r, width, columns);
@@ -175,7 +175,7 @@ fn put_row(
     columns: &[usize],
 ) -> usize
     requires { (r < 1024) × (width ≤ 16) }
-    ensures { labelCountIn rows.now r ≤ labelRoom → Wrote out.old at (row_line columns.now (shownIn said.now m text.now rows.now gaps r width)) out.new result }
+    ensures { label_count_in rows.now r ≤ label_room → Wrote out.old at (row_line columns.now (shown_in said.now m text.now rows.now gaps r width)) out.new result }
 {
     let a = put_bytes(out, at, b"(row");
     let b = put_shown(out, a, text, rows, said, m, gaps, r, width, columns);
@@ -196,7 +196,7 @@ fn put_line(
     columns: &[usize],
 ) -> usize
     requires { r < 1024 }
-    ensures { valueCountIn rows.now r ≤ 16 → labelCountIn rows.now r ≤ labelRoom → Wrote out.old at (lineMarked (rowShown said.now m text.now rows.now gaps) columns.now r marked) out.new result }
+    ensures { value_count_in rows.now r ≤ 16 → label_count_in rows.now r ≤ label_room → Wrote out.old at (line_marked (row_shown said.now m text.now rows.now gaps) columns.now r marked) out.new result }
 {
     if marked {
         let width = row_values(rows, r);
@@ -218,7 +218,7 @@ fn put_marked(
     columns: &[usize],
 ) -> usize
     requires { (count ≤ 1024) × (length marks.now ≡ 1024) }
-    ensures { (d : Doc) → Rows text.now rows.now count d.rows → Wrote out.old 0 (linesMarked (rowShown said.now m text.now rows.now gaps) columns.now marks.now count) out.new result }
+    ensures { (d : Doc) → Rows text.now rows.now count d.rows → Wrote out.old 0 (lines_marked (row_shown said.now m text.now rows.now gaps) columns.now marks.now count) out.new result }
 {
     let mut to = 0;
     let mut r = 0;
@@ -243,7 +243,7 @@ pub(crate) fn put_lines(
     chosen: usize,
 ) -> usize
     requires { (chosen ≤ 16) × (count ≤ 1024) }
-    ensures { (d : Doc) → Rows text.now rows.now count d.rows → Wrote out.old 0 (linesMarked (rowShown said.now m text.now rows.now gaps) (take chosen columns.now) marks.now count) out.new result }
+    ensures { (d : Doc) → Rows text.now rows.now count d.rows → Wrote out.old 0 (lines_marked (row_shown said.now m text.now rows.now gaps) (take chosen columns.now) marks.now count) out.new result }
 {
     let marked: &[bool] = marks;
     let numbers: &[usize] = columns;
@@ -262,7 +262,7 @@ pub(crate) fn put_lines(
 
 // Writes the last line of an answer.
 pub fn put_end(out: &mut [u8], at: usize, passed: usize, withheld: usize, unmatched: usize) -> usize
-    ensures { Wrote out.old at (endLine passed withheld unmatched) out.new result }
+    ensures { Wrote out.old at (end_line passed withheld unmatched) out.new result }
 {
     let a = put_bytes(out, at, b"(end ");
     let b = put_decimal(out, a, passed);

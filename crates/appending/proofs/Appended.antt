@@ -8,136 +8,136 @@ use mathlib.Core.List.{List, [], ◌++◌, ◌∷◌, append_assoc, append-nil, 
 use mathlib.Core.Option.{Option, none}
 use mathlib.Core.Path.{◌∙◌, ◌≡◌, ap, refl, sym}
 use native.Mathlib.Omega.{arith}
-use Rattle.appending.proofs.RowLine.{Takes, row-accepts, row_of, row-taken, with_row}
-use Rattle.appending.specs.Appended.{Appends, appended, fitsColumns, rowFor}
-use Rattle.document.proofs.Accepting.{check-accepted, more-accepted}
-use Rattle.document.proofs.Joined.{check-joined, line_first}
-use Rattle.document.specs.Check.{Accepted, check, checkFrom, checkLine}
-use Rattle.document.specs.Lookup.{columnsAt, columnsOf, label_of, schemeAt, schemeOf, table_of}
+use Rattle.appending.proofs.RowLine.{Takes, row_accepts, row_of, row_taken, with_row}
+use Rattle.appending.specs.Appended.{Appends, appended, fits_columns, row_for}
+use Rattle.document.proofs.Accepting.{check_accepted, more_accepted}
+use Rattle.document.proofs.Joined.{check_joined, line_first}
+use Rattle.document.specs.Check.{Accepted, check, check_from, check_line}
+use Rattle.document.specs.Lookup.{columns_at, columns_of, label_of, scheme_at, scheme_of, table_of}
 use Rattle.document.specs.Policy.{Doc, Policy, Row}
-use Rattle.form.specs.Form.{byRow}
-use Rattle.form.specs.RowText.{rowText}
+use Rattle.form.specs.Form.{by_row}
+use Rattle.form.specs.RowText.{row_text}
 use Rattle.import.proofs.ReadBack.{lines_cut}
-use Rattle.import.proofs.RowLaws.{unfit-first}
-use Rattle.import.specs.Importing.{oneLabel, recordLines}
-use Rattle.csv.specs.Records.{Entry, firstUnfit}
-use Rattle.lists.proofs.ListLaws.{there-some}
+use Rattle.import.proofs.RowLaws.{unfit_first}
+use Rattle.import.specs.Importing.{one_label, record_lines}
+use Rattle.csv.specs.Records.{Entry, first_unfit}
+use Rattle.lists.proofs.ListLaws.{there_some}
 use Rattle.lists.proofs.Tests.{and_both, and_left, and_right}
 use Rattle.lists.specs.Lists.{all_of, or_zero, there}
 use Rattle.text.specs.Bytes.{ascii}
 use Rattle.text.specs.Lines.{Pieces, cut}
-use Rattle.text.specs.Names.{Name, isName}
+use Rattle.text.specs.Names.{Name, is_name}
 use Rattle.text.specs.Numbers.{is_value}
-use Rattle.text.specs.Refusal.{Result, ◌>>◌, accepted, movedBy, refuseIf}
-use Rattle.text.specs.Words.{plainWord}
+use Rattle.text.specs.Refusal.{Result, ◌>>◌, accepted, moved_by, refuse_if}
+use Rattle.text.specs.Words.{plain_word}
 
 -- ---- the lines of records, behind a document whose rows are rs
 
-module _ (t l : Name) (nameT : isName t ≡ true) (nameL : isName l ≡ true) (p : Policy) (s : schemeOf p (plainWord t) ≡ byRow) where
-  abbrev docWith : List Row → Doc
-  docWith rs = record { policy = p; rows = rs }
+module _ (t l : Name) (name_t : is_name t ≡ true) (name_l : is_name l ≡ true) (p : Policy) (s : scheme_of p (plain_word t) ≡ by_row) where
+  abbrev doc_with : List Row → Doc
+  doc_with rs = record { policy = p; rows = rs }
 
-  abbrev rowWith : Entry → Row
-  rowWith e = rowFor (or_zero (table_of p (plainWord t))) (or_zero (label_of p (plainWord l))) e
+  abbrev row_with : Entry → Row
+  row_with e = row_for (or_zero (table_of p (plain_word t))) (or_zero (label_of p (plain_word l))) e
 
-  abbrev checkLines : List Row → ℕ → ℕ → List Entry → Result Accepted
-  checkLines rs n at es = checkFrom (docWith rs) n at (cut (recordLines t l es)).head (cut (recordLines t l es)).others
+  abbrev check_lines : List Row → ℕ → ℕ → List Entry → Result Accepted
+  check_lines rs n at es = check_from (doc_with rs) n at (cut (record_lines t l es)).head (cut (record_lines t l es)).others
 
   -- nothing stands behind the last line
-  none_left : (rs : List Row) (n at : ℕ) → checkLines rs n at [] ≡ accepted (record { lines = n; doc = docWith rs })
-  unfolding recordLines flatten cut checkFrom movedBy refuseIf ◌>>◌
+  none_left : (rs : List Row) (n at : ℕ) → check_lines rs n at [] ≡ accepted (record { lines = n; doc = doc_with rs })
+  unfolding record_lines flatten cut check_from moved_by refuse_if ◌>>◌
   none_left rs n at = refl
 
-  line-checked : (e : Entry) (rs : List Row) → all_of is_value e.fields ≡ true → Takes (docWith rs) t l e
-      → checkLine (docWith rs) (rowText oneLabel (ascii "row") t (l ∷ []) e.fields) ≡ accepted (docWith (rs ++ (rowWith e ∷ [])))
+  line_checked : (e : Entry) (rs : List Row) → all_of is_value e.fields ≡ true → Takes (doc_with rs) t l e
+      → check_line (doc_with rs) (row_text one_label (ascii "row") t (l ∷ []) e.fields) ≡ accepted (doc_with (rs ++ (row_with e ∷ [])))
   unfolding with_row
-  line-checked e rs v k = let r = row_of t l e.fields nameT nameL v in row-accepts (docWith rs) e r.2 s (rowText oneLabel (ascii "row") t (l ∷ []) e.fields) r.1 v k
+  line_checked e rs v k = let r = row_of t l e.fields name_t name_l v in row_accepts (doc_with rs) e r.2 s (row_text one_label (ascii "row") t (l ∷ []) e.fields) r.1 v k
 
   -- the first line, and those behind it
-  one-checked : (e : Entry) (es : List Entry) (rs : List Row) (n at : ℕ) → all_of is_value e.fields ≡ true → Takes (docWith rs) t l e
-      → (at' : ℕ) × (checkLines rs n at (e ∷ es) ≡ checkLines (rs ++ (rowWith e ∷ [])) (n + 1) at' es)
-  one-checked e es rs n at v k = (
+  one_checked : (e : Entry) (es : List Entry) (rs : List Row) (n at : ℕ) → all_of is_value e.fields ≡ true → Takes (doc_with rs) t l e
+      → (at' : ℕ) × (check_lines rs n at (e ∷ es) ≡ check_lines (rs ++ (row_with e ∷ [])) (n + 1) at' es)
+  one_checked e es rs n at v k = (
     _,
-    ap (λ (ps : Pieces). checkFrom (docWith rs) n at ps.head ps.others) (lines_cut t l nameT nameL e es v)
-        ∙ line_first (docWith rs) _ n at _ (cut (recordLines t l es)).head (cut (recordLines t l es)).others (line-checked e rs v k),
+    ap (λ (ps : Pieces). check_from (doc_with rs) n at ps.head ps.others) (lines_cut t l name_t name_l e es v)
+        ∙ line_first (doc_with rs) _ n at _ (cut (record_lines t l es)).head (cut (record_lines t l es)).others (line_checked e rs v k),
   )
 
-  lines-accepted : there (table_of p (plainWord t)) ≡ true → there (label_of p (plainWord l)) ≡ true
-      → (es : List Entry) (rs : List Row) (n at : ℕ) → firstUnfit es ≡ none → all_of (fitsColumns (columnsOf p (plainWord t))) es ≡ true → length rs + length es ≤ 1024
-      → checkLines rs n at es ≡ accepted (record { lines = n + length es; doc = docWith (rs ++ map rowWith es) })
+  lines_accepted : there (table_of p (plain_word t)) ≡ true → there (label_of p (plain_word l)) ≡ true
+      → (es : List Entry) (rs : List Row) (n at : ℕ) → first_unfit es ≡ none → all_of (fits_columns (columns_of p (plain_word t))) es ≡ true → length rs + length es ≤ 1024
+      → check_lines rs n at es ≡ accepted (record { lines = n + length es; doc = doc_with (rs ++ map row_with es) })
   unfolding all_of
-  lines-accepted isT isL [] rs n at u f few =
+  lines_accepted is_t is_l [] rs n at u f few =
       let same : n ≡ n + 0 = omega arith in
-      none_left rs n at ∙ (λ i. accepted (record { lines = same i; doc = docWith (sym (append-nil rs) i) }))
-  lines-accepted isT isL (e ∷ es) rs n at u f few =
-      let v = unfit-first e es u in
-      let fits = and_left (fitsColumns (columnsOf p (plainWord t)) e) _ f in
-      let x = one-checked e es rs n at v.0 (record { table = isT; label = isL; fit = fits; room = omega arith }) in
+      none_left rs n at ∙ (λ i. accepted (record { lines = same i; doc = doc_with (sym (append-nil rs) i) }))
+  lines_accepted is_t is_l (e ∷ es) rs n at u f few =
+      let v = unfit_first e es u in
+      let fits = and_left (fits_columns (columns_of p (plain_word t)) e) _ f in
+      let x = one_checked e es rs n at v.0 (record { table = is_t; label = is_l; fit = fits; room = omega arith }) in
       let same : n + 1 + length es ≡ n + suc (length es) = omega arith in
       x.1
-      ∙ lines-accepted isT isL es (rs ++ (rowWith e ∷ [])) (n + 1) x.0 v.1 (and_right (fitsColumns (columnsOf p (plainWord t)) e) _ f) (omega (arith, length-append rs (rowWith e ∷ [])))
-      ∙ (λ i. accepted (record { lines = same i; doc = docWith (append_assoc rs (rowWith e ∷ []) (map rowWith es) i) }))
+      ∙ lines_accepted is_t is_l es (rs ++ (row_with e ∷ [])) (n + 1) x.0 v.1 (and_right (fits_columns (columns_of p (plain_word t)) e) _ f) (omega (arith, length-append rs (row_with e ∷ [])))
+      ∙ (λ i. accepted (record { lines = same i; doc = doc_with (append_assoc rs (row_with e ∷ []) (map row_with es) i) }))
 
   -- what an accepted line and those behind it were
-  first_taken : (e : Entry) (es : List Entry) (rs : List Row) (n at : ℕ) (b : Accepted) → all_of is_value e.fields ≡ true → checkLines rs n at (e ∷ es) ≡ accepted b
-      → Takes (docWith rs) t l e × ((at' : ℕ) × (checkLines (rs ++ (rowWith e ∷ [])) (n + 1) at' es ≡ accepted b))
+  first_taken : (e : Entry) (es : List Entry) (rs : List Row) (n at : ℕ) (b : Accepted) → all_of is_value e.fields ≡ true → check_lines rs n at (e ∷ es) ≡ accepted b
+      → Takes (doc_with rs) t l e × ((at' : ℕ) × (check_lines (rs ++ (row_with e ∷ [])) (n + 1) at' es ≡ accepted b))
   first_taken e es rs n at b v h =
-      let r = row_of t l e.fields nameT nameL v in
-      let m = more-accepted (docWith rs) n at (rowText oneLabel (ascii "row") t (l ∷ []) e.fields) (cut (recordLines t l es)).head (cut (recordLines t l es)).others b
-      (sym (ap (λ (ps : Pieces). checkFrom (docWith rs) n at ps.head ps.others) (lines_cut t l nameT nameL e es v)) ∙ h) in
-      let k = row-taken (docWith rs) e r.2 s (rowText oneLabel (ascii "row") t (l ∷ []) e.fields) r.1 m.0 m.1 in
-      let x = one-checked e es rs n at v k in
+      let r = row_of t l e.fields name_t name_l v in
+      let m = more_accepted (doc_with rs) n at (row_text one_label (ascii "row") t (l ∷ []) e.fields) (cut (record_lines t l es)).head (cut (record_lines t l es)).others b
+      (sym (ap (λ (ps : Pieces). check_from (doc_with rs) n at ps.head ps.others) (lines_cut t l name_t name_l e es v)) ∙ h) in
+      let k = row_taken (doc_with rs) e r.2 s (row_text one_label (ascii "row") t (l ∷ []) e.fields) r.1 m.0 m.1 in
+      let x = one_checked e es rs n at v k in
       (k, (x.0, sym x.1 ∙ h))
 
-  lines-taken : (es : List Entry) (rs : List Row) (n at : ℕ) (b : Accepted) → firstUnfit es ≡ none → length rs ≤ 1024 → checkLines rs n at es ≡ accepted b
-      → (all_of (fitsColumns (columnsOf p (plainWord t))) es ≡ true) × (length rs + length es ≤ 1024)
+  lines_taken : (es : List Entry) (rs : List Row) (n at : ℕ) (b : Accepted) → first_unfit es ≡ none → length rs ≤ 1024 → check_lines rs n at es ≡ accepted b
+      → (all_of (fits_columns (columns_of p (plain_word t))) es ≡ true) × (length rs + length es ≤ 1024)
   unfolding all_of
-  lines-taken [] rs n at b u few h = (refl, omega arith)
-  lines-taken (e ∷ es) rs n at b u few h =
-      let v = unfit-first e es u in
+  lines_taken [] rs n at b u few h = (refl, omega arith)
+  lines_taken (e ∷ es) rs n at b u few h =
+      let v = unfit_first e es u in
       let x = first_taken e es rs n at b v.0 h in
       let room = x.0.room in
-      let y = lines-taken es (rs ++ (rowWith e ∷ [])) (n + 1) x.1.0 b v.1 (omega (arith, room, length-append rs (rowWith e ∷ []))) x.1.1 in
-      (and_both (fitsColumns (columnsOf p (plainWord t)) e) _ x.0.fit y.0, omega (arith, y.1, length-append rs (rowWith e ∷ [])))
+      let y = lines_taken es (rs ++ (row_with e ∷ [])) (n + 1) x.1.0 b v.1 (omega (arith, room, length-append rs (row_with e ∷ []))) x.1.1 in
+      (and_both (fits_columns (columns_of p (plain_word t)) e) _ x.0.fit y.0, omega (arith, y.1, length-append rs (row_with e ∷ [])))
 
 -- ---- behind a document
 
 -- The lines of records that fit an accepted document are accepted behind it, and add one row for each record, in order.
-pub rows-appended : (doc : List ℕ) (t l : Name) (es : List Entry) → isName t ≡ true → isName l ≡ true → firstUnfit es ≡ none
-    → (h : Appends doc (recordLines t l es) t l es) → check (doc ++ recordLines t l es) ≡ accepted (appended h.checked h.table h.label es)
-unfolding schemeOf columnsOf or_zero there appended
-rows-appended doc t l es nameT nameL u h =
+pub rows_appended : (doc : List ℕ) (t l : Name) (es : List Entry) → is_name t ≡ true → is_name l ≡ true → first_unfit es ≡ none
+    → (h : Appends doc (record_lines t l es) t l es) → check (doc ++ record_lines t l es) ≡ accepted (appended h.checked h.table h.label es)
+unfolding scheme_of columns_of or_zero there appended
+rows_appended doc t l es name_t name_l u h =
     let a = h.checked in
     let p : Policy = a.doc.policy in
-    let scheme : schemeOf p (plainWord t) ≡ byRow = ap (λ (o : Option ℕ). schemeAt p (or_zero o)) h.knownTable ∙ h.isByRow in
-    let fits : all_of (fitsColumns (columnsOf p (plainWord t))) es ≡ true = ap (λ (o : Option ℕ). all_of (fitsColumns (columnsAt p (or_zero o))) es) h.knownTable ∙ h.fit in
-    let x = check-joined doc (recordLines t l es) a h.accepts h.short in
+    let scheme : scheme_of p (plain_word t) ≡ by_row = ap (λ (o : Option ℕ). scheme_at p (or_zero o)) h.known_table ∙ h.is_by_row in
+    let fits : all_of (fits_columns (columns_of p (plain_word t))) es ≡ true = ap (λ (o : Option ℕ). all_of (fits_columns (columns_at p (or_zero o))) es) h.known_table ∙ h.fit in
+    let x = check_joined doc (record_lines t l es) a h.accepts h.short in
     x.1
-    ∙ lines-accepted t l nameT nameL p scheme (ap there h.knownTable) (ap there h.knownLabel) es a.doc.rows a.lines x.0 u fits h.few
-    ∙ (λ i. accepted (appended a (or_zero (h.knownTable i)) (or_zero (h.knownLabel i)) es))
+    ∙ lines_accepted t l name_t name_l p scheme (ap there h.known_table) (ap there h.known_label) es a.doc.rows a.lines x.0 u fits h.few
+    ∙ (λ i. accepted (appended a (or_zero (h.known_table i)) (or_zero (h.known_label i)) es))
 
 -- and where they are accepted behind it they fit it, if there is a record and the table is labelled by row
-pub only-appended : (doc : List ℕ) (t l : Name) (e : Entry) (es : List Entry) → isName t ≡ true → isName l ≡ true → firstUnfit (e ∷ es) ≡ none
-    → (a b : Accepted) → check doc ≡ accepted a → schemeOf a.doc.policy (plainWord t) ≡ byRow → check (doc ++ recordLines t l (e ∷ es)) ≡ accepted b
-    → Appends doc (recordLines t l (e ∷ es)) t l (e ∷ es)
-unfolding schemeOf columnsOf all_of
-only-appended doc t l e es nameT nameL u a b h scheme g =
+pub only_appended : (doc : List ℕ) (t l : Name) (e : Entry) (es : List Entry) → is_name t ≡ true → is_name l ≡ true → first_unfit (e ∷ es) ≡ none
+    → (a b : Accepted) → check doc ≡ accepted a → scheme_of a.doc.policy (plain_word t) ≡ by_row → check (doc ++ record_lines t l (e ∷ es)) ≡ accepted b
+    → Appends doc (record_lines t l (e ∷ es)) t l (e ∷ es)
+unfolding scheme_of columns_of all_of
+only_appended doc t l e es name_t name_l u a b h scheme g =
     let p : Policy = a.doc.policy in
     let rs : List Row = a.doc.rows in
-    let v = unfit-first e es u in
-    let short : length (doc ++ recordLines t l (e ∷ es)) ≤ 60000 = ltb-false 60000 _ (check-accepted _ b g).0 in
-    let x = check-joined doc (recordLines t l (e ∷ es)) a h short in
-    let k = first_taken t l nameT nameL p scheme e es rs a.lines x.0 b v.0 (sym x.1 ∙ g) in
+    let v = unfit_first e es u in
+    let short : length (doc ++ record_lines t l (e ∷ es)) ≤ 60000 = ltb-false 60000 _ (check_accepted _ b g).0 in
+    let x = check_joined doc (record_lines t l (e ∷ es)) a h short in
+    let k = first_taken t l name_t name_l p scheme e es rs a.lines x.0 b v.0 (sym x.1 ∙ g) in
     let room = k.0.room in
-    let y = lines-taken t l nameT nameL p scheme (e ∷ es) rs a.lines x.0 b u (omega (arith, room)) (sym x.1 ∙ g) in
+    let y = lines_taken t l name_t name_l p scheme (e ∷ es) rs a.lines x.0 b u (omega (arith, room)) (sym x.1 ∙ g) in
     record {
       checked = a;
       accepts = h;
-      table = or_zero (table_of p (plainWord t));
-      knownTable = there-some (table_of p (plainWord t)) k.0.table;
-      isByRow = scheme;
-      label = or_zero (label_of p (plainWord l));
-      knownLabel = there-some (label_of p (plainWord l)) k.0.label;
+      table = or_zero (table_of p (plain_word t));
+      known_table = there_some (table_of p (plain_word t)) k.0.table;
+      is_by_row = scheme;
+      label = or_zero (label_of p (plain_word l));
+      known_label = there_some (label_of p (plain_word l)) k.0.label;
       fit = y.0;
       few = y.1;
       short = short;

@@ -3,14 +3,14 @@ use Prim.Native.Nat.{ℕ}
 use mathlib.Core.List.{List, [], ◌++◌, ◌∷◌}
 use mathlib.Core.Path.{◌∙◌, ◌≡◌, ap, refl, subst, sym}
 use native.Mathlib.Omega.{arith}
-use Rattle.appending.proofs.Imported.{file-appended}
+use Rattle.appending.proofs.Imported.{file_appended}
 use Rattle.appending.specs.Appended.{Appends, appended}
 use Rattle.appending.specs.Computing.{computing}
 use Rattle.document.specs.Check.{Accepted, check}
-use Rattle.document.specs.Policy.{emptyDoc}
+use Rattle.document.specs.Policy.{empty_doc}
 use Rattle.import.specs.Importing.{importing}
 use Rattle.csv.specs.Records.{Entry, Split, malformed, records, split}
-use Rattle.text.proofs.RefusalLaws.{Accepts, accepted-is, acceptedOr}
+use Rattle.text.proofs.RefusalLaws.{Accepts, accepted_is, accepted_or}
 use Rattle.text.specs.Bytes.{ascii}
 use Rattle.text.specs.Refusal.{accepted}
 
@@ -39,62 +39,62 @@ entries =
 unfoldable pub row_lines : List ℕ
 row_lines = ascii "(row sub noads Bo 75)\n(row sub noads Cy -60)\n"
 
-pub sample-records : records file ≡ split entries
+pub sample_records : records file ≡ split entries
 unfolding computing file entries
-sample-records = refl
+sample_records = refl
 
-pub sample-imported : importing file (ascii "sub") (ascii "noads") 60021 ≡ accepted row_lines
+pub sample_imported : importing file (ascii "sub") (ascii "noads") 60021 ≡ accepted row_lines
 unfolding computing file row_lines
-sample-imported = refl
+sample_imported = refl
 
 -- what the document means
-unfoldable pub checkedDesk : Accepted
-checkedDesk = acceptedOr (record { lines = 0; doc = emptyDoc }) (check desk)
+unfoldable pub checked_desk : Accepted
+checked_desk = accepted_or (record { lines = 0; doc = empty_doc }) (check desk)
 
-pub desk-accepted : Accepts (check desk)
+pub desk_accepted : Accepts (check desk)
 unfolding computing desk
-desk-accepted = tt
+desk_accepted = tt
 
-unfoldable pub sample-appends : Appends desk row_lines (ascii "sub") (ascii "noads") entries
-unfolding computing desk entries row_lines checkedDesk
-sample-appends = record {
-  checked = checkedDesk;
-  accepts = accepted-is (record { lines = 0; doc = emptyDoc }) (check desk) desk-accepted;
+unfoldable pub sample_appends : Appends desk row_lines (ascii "sub") (ascii "noads") entries
+unfolding computing desk entries row_lines checked_desk
+sample_appends = record {
+  checked = checked_desk;
+  accepts = accepted_is (record { lines = 0; doc = empty_doc }) (check desk) desk_accepted;
   table = 1;
-  knownTable = refl;
-  isByRow = refl;
+  known_table = refl;
+  is_by_row = refl;
   label = 1;
-  knownLabel = refl;
+  known_label = refl;
   fit = refl;
   few = omega arith;
   short = omega arith;
 }
 
-entriesOf : Split → List Entry
-entriesOf (malformed n) = []
-entriesOf (split es) = es
+entries_of : Split → List Entry
+entries_of (malformed n) = []
+entries_of (split es) = es
 
 -- so the document with the file's lines behind it is accepted with these rows
-pub sample-meant : check (desk ++ row_lines) ≡ accepted (appended sample-appends.checked sample-appends.table sample-appends.label entries)
-unfolding entriesOf
-sample-meant =
-    let w = file-appended desk file (ascii "sub") (ascii "noads") 60021 row_lines sample-imported in
+pub sample_meant : check (desk ++ row_lines) ≡ accepted (appended sample_appends.checked sample_appends.table sample_appends.label entries)
+unfolding entries_of
+sample_meant =
+    let w = file_appended desk file (ascii "sub") (ascii "noads") 60021 row_lines sample_imported in
     subst (λ (es : List Entry). (h : Appends desk row_lines (ascii "sub") (ascii "noads") es) → check (desk ++ row_lines) ≡ accepted (appended h.checked h.table h.label es))
-    (ap entriesOf (sym w.are ∙ sample-records)) w.meant sample-appends
+    (ap entries_of (sym w.are ∙ sample_records)) w.meant sample_appends
 
 -- which are, written out
-pub sample-rows : (appended sample-appends.checked sample-appends.table sample-appends.label entries).doc.rows
+pub sample_rows : (appended sample_appends.checked sample_appends.table sample_appends.label entries).doc.rows
     ≡ record { table = 1; values = ascii "Ida" ∷ ascii "40" ∷ []; labels = 0 ∷ [] }
     ∷ record { table = 1; values = ascii "Bo" ∷ ascii "75" ∷ []; labels = 1 ∷ [] }
     ∷ record { table = 1; values = ascii "Cy" ∷ ascii "-60" ∷ []; labels = 1 ∷ [] }
     ∷ []
-unfolding computing sample-appends checkedDesk desk entries
-sample-rows = refl
+unfolding computing sample_appends checked_desk desk entries
+sample_rows = refl
 
 -- that the table is labelled by row has to be said: behind this document, whose table has no labels, the same lines are accepted too
-unfoldable pub unlabelledDesk : List ℕ
-unlabelledDesk = ascii "(table sub none (kind name) (who name) (due num))\n"
+unfoldable pub unlabelled_desk : List ℕ
+unlabelled_desk = ascii "(table sub none (kind name) (who name) (due num))\n"
 
-pub unlabelled-accepted : Accepts (check (unlabelledDesk ++ row_lines))
-unfolding computing unlabelledDesk row_lines
-unlabelled-accepted = tt
+pub unlabelled_accepted : Accepts (check (unlabelled_desk ++ row_lines))
+unfolding computing unlabelled_desk row_lines
+unlabelled_accepted = tt

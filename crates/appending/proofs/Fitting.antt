@@ -7,45 +7,45 @@ use mathlib.Core.Bool.{not, true}
 use mathlib.Core.List.{List, [], ◌∷◌, map}
 use mathlib.Core.Option.{Option, none-ne-some, some-injective, none, some}
 use mathlib.Core.Path.{◌≡◌, ap, refl, subst₂}
-use Rattle.appending.specs.Appended.{fitsColumns}
+use Rattle.appending.specs.Appended.{fits_columns}
 use Rattle.document.specs.Policy.{Column}
-use Rattle.document.specs.TypeFaults.{cellHasKind, mistypedValue}
+use Rattle.document.specs.TypeFaults.{cell_has_kind, mistyped_value}
 use Rattle.csv.specs.Records.{Entry}
-use Rattle.lists.proofs.ListLaws.{there-none}
+use Rattle.lists.proofs.ListLaws.{there_none}
 use Rattle.lists.proofs.Tests.{and_both, and_left, and_right}
 use Rattle.lists.specs.Lists.{there}
-use Rattle.text.proofs.OffendingLaws.{leftmost-head, leftmost-nil, leftmost-none, leftmost-tail, unless-none, unless-true}
+use Rattle.text.proofs.OffendingLaws.{leftmost_head, leftmost_nil, leftmost_none, leftmost_tail, unless_none, unless_true}
 use Rattle.text.specs.Numbers.{Value}
-use Rattle.text.specs.Words.{Word, plainWord}
+use Rattle.text.specs.Words.{Word, plain_word}
 
 -- each value is of its column's type
 pub record Typed (cs : List Column) (vs : List Value) : Type 0 where
-  pub each : (i : ℕ) (c : Column) (v : Value) → get_elem? cs i ≡ some c → get_elem? vs i ≡ some v → cellHasKind c.kind v ≡ true
+  pub each : (i : ℕ) (c : Column) (v : Value) → get_elem? cs i ≡ some c → get_elem? vs i ≡ some v → cell_has_kind c.kind v ≡ true
 
-typed-if : (cs : List Column) (vs : List Value) → mistypedValue cs (map plainWord vs) ≡ none → Typed cs vs
-typed-if [] vs h = record { each = λ i c v e g. absurd (none-ne-some _ e) }
-typed-if (d ∷ cs) [] h = record { each = λ i c v e g. absurd (none-ne-some _ g) }
-typed-if (d ∷ cs) (w ∷ vs) h = record { each = go (unfold mistypedValue plainWord in unless-none _ _ (leftmost-head _ _ h)) (typed-if cs vs (unfold mistypedValue in leftmost-head _ _ (leftmost-tail _ _ h))).each }
+typed_if : (cs : List Column) (vs : List Value) → mistyped_value cs (map plain_word vs) ≡ none → Typed cs vs
+typed_if [] vs h = record { each = λ i c v e g. absurd (none-ne-some _ e) }
+typed_if (d ∷ cs) [] h = record { each = λ i c v e g. absurd (none-ne-some _ g) }
+typed_if (d ∷ cs) (w ∷ vs) h = record { each = go (unfold mistyped_value plain_word in unless_none _ _ (leftmost_head _ _ h)) (typed_if cs vs (unfold mistyped_value in leftmost_head _ _ (leftmost_tail _ _ h))).each }
   where
-    go : cellHasKind d.kind w ≡ true → ((i : ℕ) (c : Column) (v : Value) → get_elem? cs i ≡ some c → get_elem? vs i ≡ some v → cellHasKind c.kind v ≡ true)
-        → (i : ℕ) (c : Column) (v : Value) → get_elem? (d ∷ cs) i ≡ some c → get_elem? (w ∷ vs) i ≡ some v → cellHasKind c.kind v ≡ true
-    go k rest zero c v e g = subst₂ (λ (x : Column) (y : Value). cellHasKind x.kind y ≡ true) (some-injective _ _ e) (some-injective _ _ g) k
+    go : cell_has_kind d.kind w ≡ true → ((i : ℕ) (c : Column) (v : Value) → get_elem? cs i ≡ some c → get_elem? vs i ≡ some v → cell_has_kind c.kind v ≡ true)
+        → (i : ℕ) (c : Column) (v : Value) → get_elem? (d ∷ cs) i ≡ some c → get_elem? (w ∷ vs) i ≡ some v → cell_has_kind c.kind v ≡ true
+    go k rest zero c v e g = subst₂ (λ (x : Column) (y : Value). cell_has_kind x.kind y ≡ true) (some-injective _ _ e) (some-injective _ _ g) k
     go k rest (suc i) c v e g = rest i c v e g
 
-if-typed : (cs : List Column) (vs : List Value) → Typed cs vs → mistypedValue cs (map plainWord vs) ≡ none
-unfolding mistypedValue plainWord
-if-typed [] vs h = refl
-if-typed (c ∷ cs) [] h = refl
-if-typed (c ∷ cs) (v ∷ vs) h =
-    leftmost-none _ _ (unless-true _ _ (h.each 0 c v refl refl)) (leftmost-none _ _ (if-typed cs vs (record { each = λ i. h.each (suc i) })) leftmost-nil)
+if_typed_lem : (cs : List Column) (vs : List Value) → Typed cs vs → mistyped_value cs (map plain_word vs) ≡ none
+unfolding mistyped_value plain_word
+if_typed_lem [] vs h = refl
+if_typed_lem (c ∷ cs) [] h = refl
+if_typed_lem (c ∷ cs) (v ∷ vs) h =
+    leftmost_none _ _ (unless_true _ _ (h.each 0 c v refl refl)) (leftmost_none _ _ (if_typed_lem cs vs (record { each = λ i. h.each (suc i) })) leftmost_nil)
 
-pub fits-reads : (cs : List Column) (e : Entry) → fitsColumns cs e ≡ true → (length e.fields ≡ length cs) × Typed cs e.fields
-unfolding fitsColumns
-fits-reads cs e h =
+pub fits_reads : (cs : List Column) (e : Entry) → fits_columns cs e ≡ true → (length e.fields ≡ length cs) × Typed cs e.fields
+unfolding fits_columns
+fits_reads cs e h =
     let n : eqb (length e.fields) (length cs) ≡ true = and_left _ _ h in
-    let t : not (there (mistypedValue cs (map plainWord e.fields))) ≡ true = and_right (eqb (length e.fields) (length cs)) _ h in
-    (eqb-true _ _ n, typed-if cs e.fields (there-none _ (not-true _ t)))
+    let t : not (there (mistyped_value cs (map plain_word e.fields))) ≡ true = and_right (eqb (length e.fields) (length cs)) _ h in
+    (eqb-true _ _ n, typed_if cs e.fields (there_none _ (not-true _ t)))
 
-pub reads-fits : (cs : List Column) (e : Entry) → length e.fields ≡ length cs → Typed cs e.fields → fitsColumns cs e ≡ true
-unfolding fitsColumns there
-reads-fits cs e n t = and_both (eqb (length e.fields) (length cs)) _ (eq-eqb _ _ n) (ap (λ (o : Option Word). not (there o)) (if-typed cs e.fields t))
+pub reads_fits : (cs : List Column) (e : Entry) → length e.fields ≡ length cs → Typed cs e.fields → fits_columns cs e ≡ true
+unfolding fits_columns there
+reads_fits cs e n t = and_both (eqb (length e.fields) (length cs)) _ (eq-eqb _ _ n) (ap (λ (o : Option Word). not (there o)) (if_typed_lem cs e.fields t))

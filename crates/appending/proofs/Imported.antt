@@ -4,36 +4,36 @@ use mathlib.Core.Bool.{false, true}
 use mathlib.Core.List.{List, [], ◌++◌, ◌∷◌}
 use mathlib.Core.Option.{none}
 use mathlib.Core.Path.{◌≡◌, refl, subst, sym}
-use Rattle.appending.proofs.Appended.{only-appended, rows-appended}
+use Rattle.appending.proofs.Appended.{only_appended, rows_appended}
 use Rattle.appending.specs.Appended.{Appended, Appends, appended}
 use Rattle.document.specs.Check.{Accepted, check}
-use Rattle.document.specs.Lookup.{schemeOf}
-use Rattle.form.specs.Form.{byRow}
-use Rattle.import.proofs.ReadBack.{was-accepted}
-use Rattle.import.specs.Importing.{importing, recordLines}
-use Rattle.csv.specs.Records.{Entry, firstUnfit}
-use Rattle.lists.proofs.Tests.{and_left, and_right, true-not-false}
+use Rattle.document.specs.Lookup.{scheme_of}
+use Rattle.form.specs.Form.{by_row}
+use Rattle.import.proofs.ReadBack.{was_accepted}
+use Rattle.import.specs.Importing.{importing, record_lines}
+use Rattle.csv.specs.Records.{Entry, first_unfit}
+use Rattle.lists.proofs.Tests.{and_left, and_right, true_not_false}
 use Rattle.lists.specs.Lists.{is_empty}
-use Rattle.text.specs.Names.{Name, isName}
+use Rattle.text.specs.Names.{Name, is_name}
 use Rattle.text.specs.Refusal.{accepted}
-use Rattle.text.specs.Words.{plainWord}
+use Rattle.text.specs.Words.{plain_word}
 
 -- The lines of an imported file are accepted behind a document where its records fit, and only there; they then mean its rows.
-pub file-appended : (doc file : List ℕ) (t l : Name) (room : ℕ) (bs : List ℕ) → importing file t l room ≡ accepted bs → Appended doc file t l bs
-file-appended doc file t l room bs h =
-    let w = was-accepted file t l room bs h in
-    let isT : isName t ≡ true = and_left (isName t) (isName l) w.names in
-    let isL : isName l ≡ true = and_right (isName t) (isName l) w.names in
+pub file_appended : (doc file : List ℕ) (t l : Name) (room : ℕ) (bs : List ℕ) → importing file t l room ≡ accepted bs → Appended doc file t l bs
+file_appended doc file t l room bs h =
+    let w = was_accepted file t l room bs h in
+    let is_t : is_name t ≡ true = and_left (is_name t) (is_name l) w.names in
+    let is_l : is_name l ≡ true = and_right (is_name t) (is_name l) w.names in
     record {
       entries = w.entries;
       are = w.are;
       meant = subst (λ (ls : List ℕ). (k : Appends doc ls t l w.entries) → check (doc ++ ls) ≡ accepted (appended k.checked k.table k.label w.entries)) (sym w.lines)
-          (rows-appended doc t l w.entries isT isL w.fit);
-      only = subst (λ (ls : List ℕ). (a b : Accepted) → check doc ≡ accepted a → schemeOf a.doc.policy (plainWord t) ≡ byRow → is_empty w.entries ≡ false → check (doc ++ ls) ≡ accepted b → Appends doc ls t l w.entries) (sym w.lines)
-          (some-record w.entries isT isL w.fit);
+          (rows_appended doc t l w.entries is_t is_l w.fit);
+      only = subst (λ (ls : List ℕ). (a b : Accepted) → check doc ≡ accepted a → scheme_of a.doc.policy (plain_word t) ≡ by_row → is_empty w.entries ≡ false → check (doc ++ ls) ≡ accepted b → Appends doc ls t l w.entries) (sym w.lines)
+          (some_record w.entries is_t is_l w.fit);
     }
   where
-    some-record : (es : List Entry) → isName t ≡ true → isName l ≡ true → firstUnfit es ≡ none → (a b : Accepted) → check doc ≡ accepted a → schemeOf a.doc.policy (plainWord t) ≡ byRow → is_empty es ≡ false
-        → check (doc ++ recordLines t l es) ≡ accepted b → Appends doc (recordLines t l es) t l es
-    some-record [] isT isL u a b h s e g = true-not-false refl e
-    some-record (x ∷ es) isT isL u a b h s e g = only-appended doc t l x es isT isL u a b h s g
+    some_record : (es : List Entry) → is_name t ≡ true → is_name l ≡ true → first_unfit es ≡ none → (a b : Accepted) → check doc ≡ accepted a → scheme_of a.doc.policy (plain_word t) ≡ by_row → is_empty es ≡ false
+        → check (doc ++ record_lines t l es) ≡ accepted b → Appends doc (record_lines t l es) t l es
+    some_record [] is_t is_l u a b h s e g = true_not_false refl e
+    some_record (x ∷ es) is_t is_l u a b h s e g = only_appended doc t l x es is_t is_l u a b h s g

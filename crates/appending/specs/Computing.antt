@@ -11,5 +11,5 @@ use Rattle.document.specs.Computing as document
 use Rattle.appending.specs.Appended as Appended
 
 unfoldable pub computing : Unit {0}
-unfolding mathlib.Core.Option.bind mathlib.Core.List.flatten lists.computing purpose.computing text.computing calendar.computing condition.computing form.computing csv.computing import.computing document.computing Appended.fitsColumns Appended.rowFor Appended.appended
+unfolding mathlib.Core.Option.bind mathlib.Core.List.flatten lists.computing purpose.computing text.computing calendar.computing condition.computing form.computing csv.computing import.computing document.computing Appended.fits_columns Appended.row_for Appended.appended
 computing = tt

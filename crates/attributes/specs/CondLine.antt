@@ -2,10 +2,10 @@
 use Rattle.std.specs.Prelude.{ℕ, List, ◌≡◌}
 use Rattle.std.proofs.Math.Option.{none, some}
 use Rattle.condition.specs.Cond.{Cond}
-use Rattle.condition.specs.CondForm.{Compared, conditionInForm}
+use Rattle.condition.specs.CondForm.{Compared, condition_in_form}
 use Rattle.document.specs.Policy.{Doc}
 use Rattle.stepping.specs.Judged.{Judges}
-use Rattle.form.specs.Form.{condRole}
+use Rattle.form.specs.Form.{cond_role}
 use Rattle.text.specs.Reader.{Left, from}
 use Rattle.text.specs.Words.{word_of}
 use Rattle.stepping.specs.declared.fault.Fault.TheVariants.{Whole}
@@ -15,5 +15,5 @@ use Rattle.text.specs.declared.refusals.Reason.TheVariants.{WrongForm}
 
 -- the outcome of the check, for the condition that is read at t of the line; where none is, the line has the wrong form
 pub record JudgesCond (Held : Doc → Type 0) (Placed : Type 0) (line : List ℕ) (c r t k : ℕ) (f : Verdict) : Type 0 where
-  pub judges : (x : Cond Compared) (l : Left) → conditionInForm (from line t) ≡ some (x, l) → Judges Held Placed line (condRole (word_of line c) (word_of line r) x) k 64 f
-  pub refuses : conditionInForm (from line t) ≡ none → f ≡ Faulty (Whole WrongForm)
+  pub judges : (x : Cond Compared) (l : Left) → condition_in_form (from line t) ≡ some (x, l) → Judges Held Placed line (cond_role (word_of line c) (word_of line r) x) k 64 f
+  pub refuses : condition_in_form (from line t) ≡ none → f ≡ Faulty (Whole WrongForm)

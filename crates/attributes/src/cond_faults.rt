@@ -2,8 +2,8 @@
 // operators.
 ghost use Rattle.std.specs.Prelude.{◌≤◌, length, ◌≡◌};
 ghost use Rattle.condition.specs.Answers.{kind_of};
-ghost use Rattle.document.specs.Lookup.{attributeKind};
-ghost use Rattle.document.specs.NameFaults.{usableFor};
+ghost use Rattle.document.specs.Lookup.{attribute_kind};
+ghost use Rattle.document.specs.NameFaults.{usable_for};
 ghost use Rattle.document.specs.Policy.{Policy};
 ghost use Rattle.principals.specs.Attributes.{Attributes};
 ghost use Rattle.principals.specs.Nodes.{Nodes};
@@ -37,7 +37,7 @@ fn usable(
     role: usize,
     at: usize,
 ) -> bool
-    ensures { (d : Policy) → Nodes 64 text.now roles.now m d.roles → Attributes text.now attributes.now n d.attributes → result ≡ usableFor d role (word_of line.now at) }
+    ensures { (d : Policy) → Nodes 64 text.now roles.now m d.roles → Attributes text.now attributes.now n d.attributes → result ≡ usable_for d role (word_of line.now at) }
 {
     let f = find_attribute(text, attributes, n, line, at);
     let Found::At(a) = f else {
@@ -84,7 +84,7 @@ fn kind_named(
     line: &[u8],
     at: usize,
 ) -> Kind
-    ensures { (d : Policy) → Attributes text.now attributes.now n d.attributes → kind_of result ≡ attributeKind d (word_of line.now at) }
+    ensures { (d : Policy) → Attributes text.now attributes.now n d.attributes → kind_of result ≡ attribute_kind d (word_of line.now at) }
 {
     let f = find_attribute(text, attributes, n, line, at);
     let Found::At(a) = f else {

@@ -15,5 +15,5 @@ pub record Authorities (text rs bs us cs gs : List ℕ) (c : Counts) (d : Policy
   pub roles : Nodes 64 text rs c.roles d.roles
   pub attributes : Attributes text bs c.attributes d.attributes
   pub users : Users d text us c.users d.users
-  pub conds : CondRoles d text cs c.conds d.condRoles
+  pub conds : CondRoles d text cs c.conds d.cond_roles
   pub grants : Grants gs c.grants d.grants

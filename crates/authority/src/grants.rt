@@ -2,14 +2,14 @@
 ghost use Rattle.std.specs.Prelude.{◌<◌, ◌≤◌, ℕ, length, true, List, ◌≡◌};
 ghost use Rattle.std.proofs.Math.ListN.{get_elem?};
 ghost use Rattle.authority.specs.Authorities.{Authorities};
-ghost use Rattle.belonging.specs.Held.{Held, conditionHolds};
+ghost use Rattle.belonging.specs.Held.{Held, condition_holds};
 ghost use Rattle.document.specs.Policy.{CondRole, Node, Policy, User, tree_of};
-ghost use Rattle.workspace.specs.Found.{foundAs};
+ghost use Rattle.workspace.specs.Found.{found_as};
 ghost use Rattle.principals.specs.Nodes.{Nodes};
 ghost use Rattle.lists.specs.Lists.{holds_of};
 ghost use Rattle.purpose.specs.Compliance.{in_tree, parent};
 ghost use Rattle.purpose.specs.Meaning.{ClosureOf};
-ghost use Rattle.query.specs.HostClock.{clockOf};
+ghost use Rattle.query.specs.HostClock.{clock_of};
 ghost use Rattle.query.specs.Authority as authority;
 ghost use Rattle.authority.specs.Promises.{FirstGrantPromise};
 
@@ -39,7 +39,7 @@ fn role_parent(ws: &[usize; ROLE_CELLS], k: usize, r: usize) -> usize
 
 // Whether conditional role c is there, among the first k, and its condition holds.
 fn holds_at(held: &[bool; COND_ROLES], k: usize, c: usize) -> bool
-    ensures { (t : authority.Clock) (u : User) (rs : List CondRole) → length rs ≡ k → k ≤ 64 → Held t u rs held.now → result ≡ holds_of (conditionHolds t u) (get_elem? rs c) }
+    ensures { (t : authority.Clock) (u : User) (rs : List CondRole) → length rs ≡ k → k ≤ 64 → Held t u rs held.now → result ≡ holds_of (condition_holds t u) (get_elem? rs c) }
 {
     if k <= c {
         return false;
@@ -101,7 +101,7 @@ pub fn authorising_grant(
     clock: Clock,
     user: usize,
 ) -> Found
-    ensures { (d : Policy) (p : ℕ) → Authorities text.now roles.now attributes.now users.now conds.now grants.now c d → user < c.users → ClosureOf (tree_of d.purposes) p closure → in_tree (tree_of d.purposes) p ≡ true → authority.in_range (clockOf clock) ≡ true → foundAs result ≡ authority.firstGrant d (clockOf clock) user p }
+    ensures { (d : Policy) (p : ℕ) → Authorities text.now roles.now attributes.now users.now conds.now grants.now c d → user < c.users → ClosureOf (tree_of d.purposes) p closure → in_tree (tree_of d.purposes) p ≡ true → authority.in_range (clock_of clock) ≡ true → found_as result ≡ authority.first_grant d (clock_of clock) user p }
 {
     let start = user_start(users, user);
     let end = user_end(users, user);

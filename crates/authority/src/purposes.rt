@@ -6,7 +6,7 @@ ghost use Rattle.document.specs.Policy as policy;
 ghost use Rattle.principals.specs.Nodes.{Nodes};
 ghost use Rattle.workspace.specs.Tabulated.{tabulated};
 ghost use Rattle.purpose.specs.Compliance.{Grown};
-ghost use Rattle.purpose.specs.Meaning.{ClosureOf, treeHeld};
+ghost use Rattle.purpose.specs.Meaning.{ClosureOf, tree_held};
 ghost use Rattle.purpose.specs.Members.{limit};
 
 use purpose::{Closure, Tree, closure_of, tree_of};
@@ -14,7 +14,7 @@ use workspace::layout::{PURPOSE_CELLS, PURPOSES};
 
 // The tree of the first k purposes: their parents stand behind their names.
 fn purpose_tree(ws: &[usize; PURPOSE_CELLS], k: usize) -> Tree
-    ensures { (text : List ℕ) (ns : List Node) → Nodes limit text ws.now k ns → Grown (policy.tree_of ns) → treeHeld result ≡ tabulated (parent_in ws.now) k }
+    ensures { (text : List ℕ) (ns : List Node) → Nodes limit text ws.now k ns → Grown (policy.tree_of ns) → tree_held result ≡ tabulated (parent_in ws.now) k }
 {
     let cells = &ws[..];
     tree_of(&cells[PURPOSES..], k)

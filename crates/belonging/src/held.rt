@@ -2,20 +2,20 @@
 ghost use Rattle.std.specs.Prelude.{◌<◌, ◌^◌, ◌≤◌, ℕ, length, true, List, ◌≡◌};
 ghost use Rattle.std.proofs.Math.ListN.{get_elem?};
 ghost use Rattle.std.proofs.Math.Option.{some};
-ghost use Rattle.belonging.specs.Held.{Held, Told, comparisonHolds, wordsMeet};
+ghost use Rattle.belonging.specs.Held.{Held, Told, comparison_holds, words_meet};
 ghost use Rattle.belonging.specs.Values.{Values};
-ghost use Rattle.condition.specs.Answers.{comparedAt, op_of};
-ghost use Rattle.condition.specs.Comparison.{valuesMeet};
+ghost use Rattle.condition.specs.Answers.{compared_at, op_of};
+ghost use Rattle.condition.specs.Comparison.{values_meet};
 ghost use Rattle.condition.specs.Cond.{comparisons};
-ghost use Rattle.document.specs.Lookup.{attributeOf};
+ghost use Rattle.document.specs.Lookup.{attribute_of};
 ghost use Rattle.document.specs.Policy.{Attribute, CondRole, Policy, User};
 ghost use Rattle.principals.specs.Attributes.{Attributes};
 ghost use Rattle.principals.specs.CondRoles.{CondRoles};
 ghost use Rattle.lists.specs.Lists.{holds_of, there};
-ghost use Rattle.query.specs.HostClock.{clockOf};
-ghost use Rattle.query.specs.Authority.{clockNumber, userValue};
+ghost use Rattle.query.specs.HostClock.{clock_of};
+ghost use Rattle.query.specs.Authority.{clock_number, user_value};
 ghost use Rattle.text.specs.Numbers.{rank_of};
-ghost use Rattle.text.specs.Words.{word_of, writtenAt};
+ghost use Rattle.text.specs.Words.{word_of, written_at};
 ghost use Rattle.belonging.specs.Promises.{ConditionHoldsPromise, FillTruthsPromise, RoleHoldsPromise, StoreHeldPromise, StoreTruthsPromise};
 
 use crate::line::line_of;
@@ -32,7 +32,7 @@ use workspace::layout::{ATTRIBUTE_CELLS, COND_ROLE_CELLS, COND_ROLES};
 
 // The number that the clock gives for its attribute n.
 fn clock_number(clock: Clock, n: usize) -> u64
-    ensures { (m : ℕ) → clockNumber (clockOf clock) n ≡ some m → result ≡ m }
+    ensures { (m : ℕ) → clock_number (clock_of clock) n ≡ some m → result ≡ m }
 {
     if n == 0 {
         return clock.year;
@@ -64,7 +64,7 @@ fn value_meets(
     line: &[u8],
     v: usize,
 ) -> bool
-    ensures { (text : List ℕ) (d : Policy) (u : User) (a : Attribute) → Attributes text attributes.now acount d.attributes → Values user.now u.values values.now → get_elem? d.attributes n ≡ some a → result ≡ holds_of (λ w. valuesMeet a.kind (op_of op) w (writtenAt line.now v)) (userValue u n) }
+    ensures { (text : List ℕ) (d : Policy) (u : User) (a : Attribute) → Attributes text attributes.now acount d.attributes → Values user.now u.values values.now → get_elem? d.attributes n ≡ some a → result ≡ holds_of (λ w. values_meet a.kind (op_of op) w (written_at line.now v)) (user_value u n) }
 {
     if n < VALUES {
         let p = values[n];
@@ -90,7 +90,7 @@ fn words_meet(
     name: usize,
     v: usize,
 ) -> bool
-    ensures { (d : Policy) (u : User) → Told text.now attributes.now acount (clockOf clock) user.now values.now d u → there (attributeOf d (word_of line.now name)) ≡ true → result ≡ wordsMeet d (clockOf clock) u (op_of op) (word_of line.now name) (writtenAt line.now v) }
+    ensures { (d : Policy) (u : User) → Told text.now attributes.now acount (clock_of clock) user.now values.now d u → there (attribute_of d (word_of line.now name)) ≡ true → result ≡ words_meet d (clock_of clock) u (op_of op) (word_of line.now name) (written_at line.now v) }
 {
     let n = attribute_number(text, attributes, acount, line, name);
     if n < 3 {
@@ -111,7 +111,7 @@ fn comparison_holds(
     line: &[u8],
     at: usize,
 ) -> bool
-    ensures { (d : Policy) (u : User) → Told text.now attributes.now acount (clockOf clock) user.now values.now d u → there (attributeOf d (comparedAt line.now at).of) ≡ true → result ≡ comparisonHolds d (clockOf clock) u (comparedAt line.now at) }
+    ensures { (d : Policy) (u : User) → Told text.now attributes.now acount (clock_of clock) user.now values.now d u → there (attribute_of d (compared_at line.now at).of) ≡ true → result ≡ comparison_holds d (clock_of clock) u (compared_at line.now at) }
 {
     let name = next_word(line, at);
     let v = next_word(line, name);
@@ -239,7 +239,7 @@ fn fill_held(
     held: &mut [bool],
 )
     requires { n ≤ length held.old }
-    ensures { (d : Policy) (u : User) (rs : List CondRole) → Told text.now attributes.now acount (clockOf clock) user.now values.now d u → CondRoles d text.now conds.now n rs → ((i : ℕ) (r : CondRole) → get_elem? rs i ≡ some r → length (comparisons r.condition) ≤ 64) → Held (clockOf clock) u rs held.new }
+    ensures { (d : Policy) (u : User) (rs : List CondRole) → Told text.now attributes.now acount (clock_of clock) user.now values.now d u → CondRoles d text.now conds.now n rs → ((i : ℕ) (r : CondRole) → get_elem? rs i ≡ some r → length (comparisons r.condition) ≤ 64) → Held (clock_of clock) u rs held.new }
 {
     let mut i = 0;
     while i < n {

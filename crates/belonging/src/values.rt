@@ -1,10 +1,10 @@
 // The values of a user in a role, by the numbers of the attributes.
 ghost use Rattle.std.specs.Prelude.{◌<◌, length, replicate, map, ◌≡◌};
-ghost use Rattle.belonging.specs.Values.{Values, firstKept};
-ghost use Rattle.document.specs.Lookup.{attributeOf};
+ghost use Rattle.belonging.specs.Values.{Values, first_kept};
+ghost use Rattle.document.specs.Lookup.{attribute_of};
 ghost use Rattle.document.specs.Meaning.{given_of};
 ghost use Rattle.document.specs.Policy.{Policy};
-ghost use Rattle.form.specs.Walks.{givensAt};
+ghost use Rattle.form.specs.Walks.{givens_at};
 ghost use Rattle.principals.specs.Attributes.{Attributes};
 ghost use Rattle.lists.specs.Lists.{or_zero};
 ghost use Rattle.text.specs.Words.{word_of};
@@ -26,7 +26,7 @@ pub(crate) fn attribute_number(
     line: &[u8],
     at: usize,
 ) -> usize
-    ensures { (d : Policy) → Attributes text.now attributes.now k d.attributes → result ≡ or_zero (attributeOf d (word_of line.now at)) }
+    ensures { (d : Policy) → Attributes text.now attributes.now k d.attributes → result ≡ or_zero (attribute_of d (word_of line.now at)) }
 {
     let found = find_attribute(text, attributes, k, line, at);
     match found {
@@ -49,7 +49,7 @@ fn clear_places(places: &mut [usize])
 // Stores where the value for attribute n stands, unless one is stored.
 fn keep_first(places: &mut [usize], n: usize, v: usize)
     requires { v < 18446744073709551615 }
-    ensures { places.new ≡ firstKept places.old n v }
+    ensures { places.new ≡ first_kept places.old n v }
 {
     if n < places.len() {
         if places[n] == 0 {
@@ -67,7 +67,7 @@ fn walk_values(
     place: usize,
     places: &mut [usize],
 )
-    ensures { (d : Policy) → Attributes text.now attributes.now k d.attributes → length places.old ≡ 35 → places.old ≡ replicate (length places.old) 0 → Values line.now (map (given_of d) (givensAt line.now place)) places.new }
+    ensures { (d : Policy) → Attributes text.now attributes.now k d.attributes → length places.old ≡ 35 → places.old ≡ replicate (length places.old) 0 → Values line.now (map (given_of d) (givens_at line.now place)) places.new }
 {
     let mut j = place;
     while byte_at(line, j) == b' ' {
@@ -89,7 +89,7 @@ pub fn store_values(
     place: usize,
     values: &mut [usize; VALUES],
 )
-    ensures { (d : Policy) → Attributes text.now attributes.now k d.attributes → Values line.now (map (given_of d) (givensAt line.now place)) values.new }
+    ensures { (d : Policy) → Attributes text.now attributes.now k d.attributes → Values line.now (map (given_of d) (givens_at line.now place)) values.new }
 {
     clear_places(values);
     walk_values(text, attributes, k, line, place, values);

@@ -7,11 +7,11 @@ use mathlib.Core.Bool.{Bool, false, true}
 use mathlib.Core.Option.{none, some}
 use mathlib.Core.Path.{◌∙◌, ◌≡◌, ap, refl, subst, sym}
 use native.Mathlib.Omega.{arith}
-use Rattle.calendar.proofs.MonthLaws.{date-from-at, days-in-year, full-year, month-span, total-take-le, twelve}
-use Rattle.calendar.specs.Calendar.{Date, dateFrom, dateOfDay, dateRank, dayNumber, dayOfDate, daysIn, exists, leap, monthDays, months, pairRank, total, yearHeld}
-use Rattle.calendar.specs.Found.{foundDate}
-use Rattle.text.specs.CodeEnds.{amountOf}
-use Rattle.calendar.specs.declared.dates.DateFound.TheVariants as dateFound
+use Rattle.calendar.proofs.MonthLaws.{date_from_at, days_in_year, full_year, month_span, total_take_le, twelve}
+use Rattle.calendar.specs.Calendar.{Date, date_from, date_of_day, date_rank, day_number, day_of_date, days_in, exists, leap, month_days, months, pair_rank, total, year_held}
+use Rattle.calendar.specs.Found.{found_date}
+use Rattle.text.specs.CodeEnds.{amount_of}
+use Rattle.calendar.specs.declared.dates.DateFound.TheVariants as date_found
 use Rattle.text.specs.declared.numbers.Amount.TheVariants as amount
 
 -- the date of these numbers
@@ -19,97 +19,97 @@ abbrev pub on : ℕ → ℕ → ℕ → Date
 on y m d = record { year = y; month = m; day = d }
 
 module _ (y : ℕ) where
-  pub year-low : y < 1 → false ≡ yearHeld y
-  unfolding yearHeld
-  year-low a = rw (lt-leb 1 y a)
+  pub year_low : y < 1 → false ≡ year_held y
+  unfolding year_held
+  year_low a = rw (lt-leb 1 y a)
 
-  pub year-high : 1 ≤ y → leb y 9999 ≡ yearHeld y
-  unfolding yearHeld
-  year-high a = rw (le-leb 1 y a)
+  pub year_high : 1 ≤ y → leb y 9999 ≡ year_held y
+  unfolding year_held
+  year_high a = rw (le-leb 1 y a)
 
 -- the days before month m and behind it, as the code has them, differ by the month's
 pub spans :
     (y m : ℕ) (l : Bool) (b a : ℕ) → l ≡ leap y → b ≡ total (take (m - 1) (months l)) → a ≡ total (take m (months l)) → 1 ≤ m → m ≤ 12
-    → a ≡ b + monthDays y m
+    → a ≡ b + month_days y m
 spans y m l b a e f g h k =
-    g ∙ ap (λ (x : Bool). total (take m (months x))) e ∙ month-span y m h k
-    ∙ ap (λ (n : ℕ). n + monthDays y m) (sym (f ∙ ap (λ (x : Bool). total (take (m - 1) (months x))) e))
+    g ∙ ap (λ (x : Bool). total (take m (months x))) e ∙ month_span y m h k
+    ∙ ap (λ (n : ℕ). n + month_days y m) (sym (f ∙ ap (λ (x : Bool). total (take (m - 1) (months x))) e))
 
 module _ (y m d : ℕ) where
-  pub no-year : yearHeld y ≡ false → amount.Nothing ≡ amountOf (dayOfDate (on y m d))
-  unfolding dayOfDate exists
-  no-year h = rw h
+  pub no_year : year_held y ≡ false → amount.Nothing ≡ amount_of (day_of_date (on y m d))
+  unfolding day_of_date exists
+  no_year h = rw h
 
-  module _ (held : yearHeld y ≡ true) where
-    pub month-low : m < 1 → amount.Nothing ≡ amountOf (dayOfDate (on y m d))
-    unfolding dayOfDate exists
-    month-low a = rw (held, lt-leb 1 m a)
+  module _ (held : year_held y ≡ true) where
+    pub month_low : m < 1 → amount.Nothing ≡ amount_of (day_of_date (on y m d))
+    unfolding day_of_date exists
+    month_low a = rw (held, lt-leb 1 m a)
 
     module _ (low : 1 ≤ m) where
-      pub month-high : 12 < m → amount.Nothing ≡ amountOf (dayOfDate (on y m d))
-      unfolding dayOfDate exists
-      month-high a = rw (held, le-leb 1 m low, lt-leb m 12 a)
+      pub month_high : 12 < m → amount.Nothing ≡ amount_of (day_of_date (on y m d))
+      unfolding day_of_date exists
+      month_high a = rw (held, le-leb 1 m low, lt-leb m 12 a)
 
       module _ (high : m ≤ 12) where
-        pub day-low : d < 1 → amount.Nothing ≡ amountOf (dayOfDate (on y m d))
-        unfolding dayOfDate exists
-        day-low a = rw (held, le-leb 1 m low, le-leb m 12 high, lt-leb 1 d a)
+        pub day_low : d < 1 → amount.Nothing ≡ amount_of (day_of_date (on y m d))
+        unfolding day_of_date exists
+        day_low a = rw (held, le-leb 1 m low, le-leb m 12 high, lt-leb 1 d a)
 
         module _ (first : 1 ≤ d) where
-          pub day-high : monthDays y m < d → amount.Nothing ≡ amountOf (dayOfDate (on y m d))
-          unfolding dayOfDate exists
-          day-high a = rw (held, le-leb 1 m low, le-leb m 12 high, le-leb 1 d first, lt-leb d (monthDays y m) a)
+          pub day_high : month_days y m < d → amount.Nothing ≡ amount_of (day_of_date (on y m d))
+          unfolding day_of_date exists
+          day_high a = rw (held, le-leb 1 m low, le-leb m 12 high, le-leb 1 d first, lt-leb d (month_days y m) a)
 
-          pub is-date :
-              d ≤ monthDays y m → (l : Bool) → l ≡ leap y → (b : ℕ) → b ≡ total (take (m - 1) (months l))
-              → amount.Is (b + d) ≡ amountOf (dayOfDate (on y m d))
-          unfolding dayOfDate exists dayNumber
-          is-date a l e b f =
-              rw (held, le-leb 1 m low, le-leb m 12 high, le-leb 1 d first, le-leb d (monthDays y m) a)
+          pub is_date_lem :
+              d ≤ month_days y m → (l : Bool) → l ≡ leap y → (b : ℕ) → b ≡ total (take (m - 1) (months l))
+              → amount.Is (b + d) ≡ amount_of (day_of_date (on y m d))
+          unfolding day_of_date exists day_number
+          is_date_lem a l e b f =
+              rw (held, le-leb 1 m low, le-leb m 12 high, le-leb 1 d first, le-leb d (month_days y m) a)
               (ap (λ (k : ℕ). amount.Is (k + d)) (f ∙ ap (λ (x : Bool). total (take (m - 1) (months x))) e))
 
 module _ (y n : ℕ) where
-  pub no-such-year : yearHeld y ≡ false → dateFound.NoDate ≡ foundDate (dateOfDay y n)
-  unfolding dateOfDay
-  no-such-year h = rw h
+  pub no_such_year : year_held y ≡ false → date_found.NoDate ≡ found_date (date_of_day y n)
+  unfolding date_of_day
+  no_such_year h = rw h
 
-  module _ (held : yearHeld y ≡ true) where
-    pub number-low : n < 1 → dateFound.NoDate ≡ foundDate (dateOfDay y n)
-    unfolding dateOfDay
-    number-low a = rw (held, lt-leb 1 n a)
+  module _ (held : year_held y ≡ true) where
+    pub number_low : n < 1 → date_found.NoDate ≡ found_date (date_of_day y n)
+    unfolding date_of_day
+    number_low a = rw (held, lt-leb 1 n a)
 
     module _ (low : 1 ≤ n) where
-      pub number-high : (l : Bool) → l ≡ leap y → total (months l) < n → dateFound.NoDate ≡ foundDate (dateOfDay y n)
-      unfolding dateOfDay
-      number-high l e a =
+      pub number_high : (l : Bool) → l ≡ leap y → total (months l) < n → date_found.NoDate ≡ found_date (date_of_day y n)
+      unfolding date_of_day
+      number_high l e a =
           let here : total (months (leap y)) < n = subst (λ (x : Bool). total (months x) < n) e a in
-          let behind : daysIn y < n = omega (arith, days-in-year y) in
-          rw (held, le-leb 1 n low, lt-leb n (daysIn y) behind)
+          let behind : days_in y < n = omega (arith, days_in_year y) in
+          rw (held, le-leb 1 n low, lt-leb n (days_in y) behind)
 
       -- month m is the one that begins before day n and does not end before it
       pub landed :
           (m : ℕ) → 1 ≤ m → m ≤ 12 → total (take (m - 1) (months (leap y))) < n → n ≤ total (take m (months (leap y)))
-          → dateOfDay y n ≡ some (on y m (n - total (take (m - 1) (months (leap y)))))
-      unfolding dateOfDay monthDays
+          → date_of_day y n ≡ some (on y m (n - total (take (m - 1) (months (leap y)))))
+      unfolding date_of_day month_days
       landed m a b before after =
           let ks = months (leap y) in
           let t : ℕ = total (take (m - 1) ks) in
-          let inYear : n ≤ daysIn y = omega (arith, total-take-le ks m, days-in-year y) in
-          let inMonth : n - t ≤ get_or ks (m - 1) 0 = omega (arith, month-span y m a b) in
+          let inYear : n ≤ days_in y = omega (arith, total_take_le ks m, days_in_year y) in
+          let in_month : n - t ≤ get_or ks (m - 1) 0 = omega (arith, month_span y m a b) in
           let counted : 1 + (m - 1) ≡ m = omega arith in
           let summed : t + (n - t) ≡ n = omega arith in
-          rw (held, le-leb 1 n low, le-leb n (daysIn y) inYear)
-          (subst (λ (x : ℕ). dateFrom y 1 ks x ≡ some (on y m (n - t))) summed
-          (date-from-at y 1 ks (m - 1) (n - t) (omega (arith, twelve (leap y))) (omega arith) inMonth
+          rw (held, le-leb 1 n low, le-leb n (days_in y) inYear)
+          (subst (λ (x : ℕ). date_from y 1 ks x ≡ some (on y m (n - t))) summed
+          (date_from_at y 1 ks (m - 1) (n - t) (omega (arith, twelve (leap y))) (omega arith) in_month
           ∙ ap (λ (x : ℕ). some (on y x (n - t))) counted))
 
       pub is_found :
           (m : ℕ) → 1 ≤ m → m ≤ 12 → (l : Bool) → l ≡ leap y → (s : ℕ) → s ≡ total (take (m - 1) (months l)) → s < n → n ≤ total (take m (months l))
-          → dateFound.On (record { year = y; month = m; day = n - s }) ≡ foundDate (dateOfDay y n)
+          → date_found.On (record { year = y; month = m; day = n - s }) ≡ found_date (date_of_day y n)
       is_found m a b l e s f before after =
           let here : s ≡ total (take (m - 1) (months (leap y))) = f ∙ ap (λ (x : Bool). total (take (m - 1) (months x))) e in
-          subst (λ (x : ℕ). dateFound.On (record { year = y; month = m; day = n - x }) ≡ foundDate (dateOfDay y n)) (sym here)
-          (sym (ap foundDate
+          subst (λ (x : ℕ). date_found.On (record { year = y; month = m; day = n - x }) ≡ found_date (date_of_day y n)) (sym here)
+          (sym (ap found_date
           (landed m a b (subst (λ (x : ℕ). x < n) here before) (subst (λ (x : Bool). n ≤ total (take m (months x))) e after))))
 
 -- where day n stands behind the end of month m, and still in the year, month m is not the last
@@ -118,13 +118,13 @@ not_last l m n behind inside = go (ltb m 12) refl
   where
     go : (b : Bool) → ltb m 12 ≡ b → m < 12
     go true e = ltb-true m 12 e
-    go false e = absurd (omega (arith, full-year l m (ltb-false m 12 e)))
+    go false e = absurd (omega (arith, full_year l m (ltb-false m 12 e)))
 
 module _ (d : Date) where
-  pub is-rank : (n : ℕ) → dayOfDate d ≡ some n → amount.Is (d.year * 367 + n) ≡ amountOf (dateRank d)
-  unfolding dateRank pairRank
-  is-rank n h = rw h
+  pub is_rank : (n : ℕ) → day_of_date d ≡ some n → amount.Is (d.year * 367 + n) ≡ amount_of (date_rank d)
+  unfolding date_rank pair_rank
+  is_rank n h = rw h
 
-  pub no-rank : dayOfDate d ≡ none → amount.Nothing ≡ amountOf (dateRank d)
-  unfolding dateRank
-  no-rank h = rw h
+  pub no_rank : day_of_date d ≡ none → amount.Nothing ≡ amount_of (date_rank d)
+  unfolding date_rank
+  no_rank h = rw h

@@ -11,21 +11,21 @@ use mathlib.Core.Path.{◌≡◌, ap, refl, subst, sym}
 use mir.Val.{bool_byte}
 use native.Mathlib.Nat.{add-zero, le_of_suc-le-suc, not-suc-le-zero, zero-add}
 use native.Mathlib.Omega.{arith}
-use Rattle.calendar.specs.Calendar.{dateFrom, daysIn, leap, monthDays, months, total}
+use Rattle.calendar.specs.Calendar.{date_from, days_in, leap, month_days, months, total}
 
 -- the days of the first i + 1 months are those of the first i, and the month behind them
-pub total-take-suc : (ks : List ℕ) (i : ℕ) → i < length ks → total (take (suc i) ks) ≡ total (take i ks) + get_or ks i 0
+pub total_take_suc : (ks : List ℕ) (i : ℕ) → i < length ks → total (take (suc i) ks) ≡ total (take i ks) + get_or ks i 0
 unfolding total
-total-take-suc [] i h = absurd (not-suc-le-zero h)
-total-take-suc (k ∷ ks) zero h = omega arith
-total-take-suc (k ∷ ks) (suc i) h = omega (arith, total-take-suc ks i (le_of_suc-le-suc h))
+total_take_suc [] i h = absurd (not-suc-le-zero h)
+total_take_suc (k ∷ ks) zero h = omega arith
+total_take_suc (k ∷ ks) (suc i) h = omega (arith, total_take_suc ks i (le_of_suc-le-suc h))
 
-pub total-take-le : (ks : List ℕ) (i : ℕ) → total (take i ks) ≤ total ks
+pub total_take_le : (ks : List ℕ) (i : ℕ) → total (take i ks) ≤ total ks
 unfolding total
-total-take-le [] zero = omega arith
-total-take-le [] (suc i) = omega arith
-total-take-le (k ∷ ks) zero = omega arith
-total-take-le (k ∷ ks) (suc i) = omega (arith, total-take-le ks i)
+total_take_le [] zero = omega arith
+total_take_le [] (suc i) = omega arith
+total_take_le (k ∷ ks) zero = omega arith
+total_take_le (k ∷ ks) (suc i) = omega (arith, total_take_le ks i)
 
 -- day n of months in a row is day `day` of the month at `place`
 pub record Landing (ks : List ℕ) (n : ℕ) : Type 0 where
@@ -57,23 +57,23 @@ landing (m ∷ ks) n h k = go (leb n m) refl (landing ks (n - m))
         }
 
 -- the date of that day
-pub date-from-at :
+pub date_from_at :
     (y m : ℕ) (ks : List ℕ) (i d : ℕ) → i < length ks → 1 ≤ d → d ≤ get_or ks i 0
-    → dateFrom y m ks (total (take i ks) + d) ≡ some (record { year = y; month = m + i; day = d })
-unfolding dateFrom total
-date-from-at y m [] i d h a b = absurd (not-suc-le-zero h)
-date-from-at y m (k ∷ ks) zero d h a b = rw (zero-add d, le-leb d k b, add-zero m)
-date-from-at y m (k ∷ ks) (suc i) d h a b =
+    → date_from y m ks (total (take i ks) + d) ≡ some (record { year = y; month = m + i; day = d })
+unfolding date_from total
+date_from_at y m [] i d h a b = absurd (not-suc-le-zero h)
+date_from_at y m (k ∷ ks) zero d h a b = rw (zero-add d, le-leb d k b, add-zero m)
+date_from_at y m (k ∷ ks) (suc i) d h a b =
     let t : ℕ = total (take i ks) in
     let later : k < k + t + d = omega arith in
     let behind : k + t + d - k ≡ t + d = omega arith in
     let counted : m + 1 + i ≡ m + suc i = omega arith in
-    rw (lt-leb (k + t + d) k later, behind, ← counted) (date-from-at y (m + 1) ks i d (le_of_suc-le-suc h) a b)
+    rw (lt-leb (k + t + d) k later, behind, ← counted) (date_from_at y (m + 1) ks i d (le_of_suc-le-suc h) a b)
 
 -- a leap year's row is row 1
-pub bit-low : (l : Bool) → bool_byte l ≤ 1
-bit-low true = omega arith
-bit-low false = omega arith
+pub bit_low : (l : Bool) → bool_byte l ≤ 1
+bit_low true = omega arith
+bit_low false = omega arith
 
 -- the months of a year
 module _ (l : Bool) where
@@ -82,46 +82,46 @@ module _ (l : Bool) where
   twelve = refl
 
   -- the twelve together are the year
-  pub full-year : (k : ℕ) → 12 ≤ k → total (months l) ≡ total (take k (months l))
-  full-year k h = sym (ap total (take_all k (months l) (omega (arith, twelve))))
+  pub full_year : (k : ℕ) → 12 ≤ k → total (months l) ≡ total (take k (months l))
+  full_year k h = sym (ap total (take_all k (months l) (omega (arith, twelve))))
 
 -- a leap year has 366 days
-pub leap-days : (l : Bool) → l ≡ true → 366 ≡ total (months l)
+pub leap_days : (l : Bool) → l ≡ true → 366 ≡ total (months l)
 unfolding total months
-leap-days l e = rw e
+leap_days l e = rw e
 
 -- a common year has 365
-pub common-days : (l : Bool) → l ≡ false → 365 ≡ total (months l)
+pub common_days : (l : Bool) → l ≡ false → 365 ≡ total (months l)
 unfolding total months
-common-days l e = rw e
+common_days l e = rw e
 
 -- the months of a given year
 module _ (y : ℕ) where
   -- the days up to the end of month m are those before it and its own
-  pub month-span :
-      (m : ℕ) → 1 ≤ m → m ≤ 12 → total (take m (months (leap y))) ≡ total (take (m - 1) (months (leap y))) + monthDays y m
-  unfolding monthDays
-  month-span m h k =
+  pub month_span :
+      (m : ℕ) → 1 ≤ m → m ≤ 12 → total (take m (months (leap y))) ≡ total (take (m - 1) (months (leap y))) + month_days y m
+  unfolding month_days
+  month_span m h k =
       let counted : suc (m - 1) ≡ m = omega arith in
       subst (λ (j : ℕ). total (take j (months (leap y))) ≡ total (take (m - 1) (months (leap y))) + get_or (months (leap y)) (m - 1) 0) counted
-      (total-take-suc (months (leap y)) (m - 1) (omega (arith, twelve (leap y))))
+      (total_take_suc (months (leap y)) (m - 1) (omega (arith, twelve (leap y))))
 
   -- the days of a year's months together are the days in the year
-  pub days-in-year : total (months (leap y)) ≡ daysIn y
-  unfolding daysIn total months
-  days-in-year = go (leap y)
+  pub days_in_year : total (months (leap y)) ≡ days_in y
+  unfolding days_in total months
+  days_in_year = go (leap y)
     where
       go : (l : Bool) → total (months l) ≡ cond l 366 365
       go true = refl
       go false = refl
 
-  pub days-in-few : daysIn y ≤ 366
-  unfolding daysIn
-  days-in-few = go (leap y)
+  pub days_in_few : days_in y ≤ 366
+  unfolding days_in
+  days_in_few = go (leap y)
     where
       go : (l : Bool) → cond l 366 365 ≤ 366
       go true = omega arith
       go false = omega arith
 
-  pub days-few : (k : ℕ) → total (take k (months (leap y))) ≤ 366
-  days-few k = omega (arith, total-take-le (months (leap y)) k, days-in-year, days-in-few)
+  pub days_few : (k : ℕ) → total (take k (months (leap y))) ≤ 366
+  days_few k = omega (arith, total_take_le (months (leap y)) k, days_in_year, days_in_few)

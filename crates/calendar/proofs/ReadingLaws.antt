@@ -6,140 +6,140 @@ use mathlib.Core.Option.{Option, bind, none, some}
 use mathlib.Core.Path.{◌∙◌, ◌≡◌, ap, refl, sym}
 use native.Mathlib.Omega.{arith}
 use Rattle.calendar.proofs.DayLaws.{on}
-use Rattle.calendar.specs.Calendar.{Date, dateRank}
-use Rattle.calendar.specs.DateText.{dateParts, dateText, natural}
-use Rattle.calendar.specs.Found.{dateReadOf, ranked_at}
+use Rattle.calendar.specs.Calendar.{Date, date_rank}
+use Rattle.calendar.specs.DateText.{date_parts, date_text, natural}
+use Rattle.calendar.specs.Found.{date_read_of, ranked_at}
 use Rattle.lists.specs.Lists.{or_zero}
-use Rattle.text.proofs.AnswerLaws.{answer_of, read_at, read-refused}
-use Rattle.text.proofs.CodeLaws.{numberAnswer}
-use Rattle.text.proofs.Forward.{Forward, forward-bind, forward-give, forward-number}
-use Rattle.text.proofs.Lefts.{before-end}
-use Rattle.text.proofs.ReaderLaws.{byte-at-read, byte-at-refused}
+use Rattle.text.proofs.AnswerLaws.{answer_of, read_at, read_refused}
+use Rattle.text.proofs.CodeLaws.{number_answer}
+use Rattle.text.proofs.Forward.{Forward, forward_bind, forward_give, forward_number}
+use Rattle.text.proofs.Lefts.{before_end}
+use Rattle.text.proofs.ReaderLaws.{byte_at_read, byte_at_refused}
 use Rattle.text.specs.Brackets.{bracketed, next}
-use Rattle.text.specs.CodeEnds.{endOfNumber, wordEnd}
+use Rattle.text.specs.CodeEnds.{end_of_number, word_end}
 use Rattle.text.specs.Reader.{Left, Reader, from, give}
-use Rattle.text.specs.Words.{readNumber}
+use Rattle.text.specs.Words.{read_number}
 use Rattle.text.specs.declared.numbers.Number.{Number}
 use Rattle.text.specs.declared.numbers.Number.TheVariants as number
 use Rattle.text.specs.declared.words.End.TheVariants.{At, Nothing}
 use Rattle.calendar.specs.declared.reading.DateRead.TheVariants as dateRead
 
 -- a byte that the code reads stands before the end
-pub byte-here : (s : List ℕ) (i b k : ℕ) → 1 ≤ k → b ≡ get_or s i 0 → b ≡ k → (get_or s i 0 ≡ k) × (i < length s)
-byte-here s i b k h e q = let z : get_or s i 0 ≡ k = sym e ∙ q in (z, before-end s i (λ y. absurd (omega (arith, z, y))))
+pub byte_here : (s : List ℕ) (i b k : ℕ) → 1 ≤ k → b ≡ get_or s i 0 → b ≡ k → (get_or s i 0 ≡ k) × (i < length s)
+byte_here s i b k h e q = let z : get_or s i 0 ≡ k = sym e ∙ q in (z, before_end s i (λ y. absurd (omega (arith, z, y))))
 
-number-answer : (o : Option (ℕ × Left)) → endOfNumber o ≡ answer_of numberAnswer (λ (k : ℕ). k) o
-number-answer none = refl
-number-answer (some r) = refl
+number_answer_lem : (o : Option (ℕ × Left)) → end_of_number o ≡ answer_of number_answer (λ (k : ℕ). k) o
+number_answer_lem none = refl
+number_answer_lem (some r) = refl
 
 -- what an end and a number tell of a reader that goes forward, and what their absence tells
 module _ (R : Reader ℕ) (p : Forward R) (s : List ℕ) (at : ℕ) where
-  pub goes_to : {r : Number} {e k : ℕ} → r ≡ endOfNumber (R (from s at)) → r ≡ number.At e k → R (from s at) ≡ some (k, from s e)
+  pub goes_to : {r : Number} {e k : ℕ} → r ≡ end_of_number (R (from s at)) → r ≡ number.At e k → R (from s at) ≡ some (k, from s e)
   goes_to {r} {e} {k} h q =
-      let f = read_at numberAnswer R (λ n. n) (λ n. 0) p s at e k (sym (number-answer (R (from s at))) ∙ sym h ∙ q) in
+      let f = read_at number_answer R (λ n. n) (λ n. 0) p s at e k (sym (number_answer_lem (R (from s at))) ∙ sym h ∙ q) in
       f.is ∙ ap (λ (n : ℕ). some (n, from s e)) f.made
 
-  pub goes-nowhere : {r : Number} → r ≡ endOfNumber (R (from s at)) → r ≡ number.Nothing → R (from s at) ≡ none
-  goes-nowhere h q = read-refused numberAnswer R (λ n. n) (λ n. 0) p s at (sym (number-answer (R (from s at))) ∙ sym h ∙ q)
+  pub goes_nowhere : {r : Number} → r ≡ end_of_number (R (from s at)) → r ≡ number.Nothing → R (from s at) ≡ none
+  goes_nowhere h q = read_refused number_answer R (λ n. n) (λ n. 0) p s at (sym (number_answer_lem (R (from s at))) ∙ sym h ∙ q)
 
-pub forward-natural : Forward natural
+pub forward_natural : Forward natural
 unfolding natural
-forward-natural = forward-bind readNumber (λ k. give (k - 2 ^ 63)) forward-number (λ k. forward-give (k - 2 ^ 63))
+forward_natural = forward_bind read_number (λ k. give (k - 2 ^ 63)) forward_number (λ k. forward_give (k - 2 ^ 63))
 
 -- ---- one number
 
 module _ (s : List ℕ) (at : ℕ) where
-  pub natural-read : (e k : ℕ) → readNumber (from s at) ≡ some (k, from s e) → number.At e (k - 2 ^ 63) ≡ endOfNumber (natural (from s at))
+  pub natural_read : (e k : ℕ) → read_number (from s at) ≡ some (k, from s e) → number.At e (k - 2 ^ 63) ≡ end_of_number (natural (from s at))
   unfolding natural
-  natural-read e k h = rw h
+  natural_read e k h = rw h
 
-  pub natural-low : (e k : ℕ) → readNumber (from s at) ≡ some (k, from s e) → k < 2 ^ 63 → number.At e 0 ≡ endOfNumber (natural (from s at))
-  natural-low e k h l = let z : 0 ≡ k - 2 ^ 63 = omega arith in ap (number.At e) z ∙ natural-read e k h
+  pub natural_low : (e k : ℕ) → read_number (from s at) ≡ some (k, from s e) → k < 2 ^ 63 → number.At e 0 ≡ end_of_number (natural (from s at))
+  natural_low e k h l = let z : 0 ≡ k - 2 ^ 63 = omega arith in ap (number.At e) z ∙ natural_read e k h
 
-  pub natural-none : readNumber (from s at) ≡ none → number.Nothing ≡ endOfNumber (natural (from s at))
+  pub natural_none : read_number (from s at) ≡ none → number.Nothing ≡ end_of_number (natural (from s at))
   unfolding natural
-  natural-none h = rw h
+  natural_none h = rw h
 
 -- ---- the date
 
 module _ (s : List ℕ) (at : ℕ) where
-  pub date-shut : (get_or s at 0 ≡ 40 → ⊥) → dateRead.Nothing ≡ dateReadOf (dateText (from s at))
-  unfolding dateText bracketed
-  date-shut h = rw (byte-at-refused s at 40 h)
+  pub date_shut : (get_or s at 0 ≡ 40 → ⊥) → dateRead.Nothing ≡ date_read_of (date_text (from s at))
+  unfolding date_text bracketed
+  date_shut h = rw (byte_at_refused s at 40 h)
 
   module _ (opened : get_or s at 0 ≡ 40) where
-    pub year-wrong : natural (from s (at + 1)) ≡ none → dateRead.Nothing ≡ dateReadOf (dateText (from s at))
-    unfolding dateText bracketed dateParts
-    year-wrong h = rw (byte-at-read s at 40 opened, h)
+    pub year_wrong : natural (from s (at + 1)) ≡ none → dateRead.Nothing ≡ date_read_of (date_text (from s at))
+    unfolding date_text bracketed date_parts
+    year_wrong h = rw (byte_at_read s at 40 opened, h)
 
     module _ (a y : ℕ) (first : natural (from s (at + 1)) ≡ some (y, from s a)) where
-      pub month-wrong : next natural (from s a) ≡ none → dateRead.Nothing ≡ dateReadOf (dateText (from s at))
-      unfolding dateText bracketed dateParts
-      month-wrong h = rw (byte-at-read s at 40 opened, first, h)
+      pub month_wrong : next natural (from s a) ≡ none → dateRead.Nothing ≡ date_read_of (date_text (from s at))
+      unfolding date_text bracketed date_parts
+      month_wrong h = rw (byte_at_read s at 40 opened, first, h)
 
       module _ (b m : ℕ) (second : next natural (from s a) ≡ some (m, from s b)) where
-        pub day-wrong : next natural (from s b) ≡ none → dateRead.Nothing ≡ dateReadOf (dateText (from s at))
-        unfolding dateText bracketed dateParts
-        day-wrong h = rw (byte-at-read s at 40 opened, first, second, h)
+        pub day_wrong : next natural (from s b) ≡ none → dateRead.Nothing ≡ date_read_of (date_text (from s at))
+        unfolding date_text bracketed date_parts
+        day_wrong h = rw (byte_at_read s at 40 opened, first, second, h)
 
         module _ (e d : ℕ) (third : next natural (from s b) ≡ some (d, from s e)) where
-          pub date-open : (get_or s e 0 ≡ 41 → ⊥) → dateRead.Nothing ≡ dateReadOf (dateText (from s at))
-          unfolding dateText bracketed dateParts
-          date-open h = rw (byte-at-read s at 40 opened, first, second, third, byte-at-refused s e 41 h)
+          pub date_open : (get_or s e 0 ≡ 41 → ⊥) → dateRead.Nothing ≡ date_read_of (date_text (from s at))
+          unfolding date_text bracketed date_parts
+          date_open h = rw (byte_at_read s at 40 opened, first, second, third, byte_at_refused s e 41 h)
 
-          pub date-closed : (o : Option ℕ) → get_or s e 0 ≡ 41 → dateRank (on y m d) ≡ o → ranked_at (e + 1) o ≡ dateReadOf (dateText (from s at))
-          unfolding dateText bracketed dateParts
-          date-closed o h q = rw (byte-at-read s at 40 opened, first, second, third, byte-at-read s e 41 h, q)
+          pub date_closed : (o : Option ℕ) → get_or s e 0 ≡ 41 → date_rank (on y m d) ≡ o → ranked_at (e + 1) o ≡ date_read_of (date_text (from s at))
+          unfolding date_text bracketed date_parts
+          date_closed o h q = rw (byte_at_read s at 40 opened, first, second, third, byte_at_read s e 41 h, q)
 
 -- ---- the end alone, and the rank alone
 
-ended_at : (e : ℕ) (o : Option ℕ) (f r : ℕ) → ranked_at e o ≡ dateRead.At f r → f ≡ e
-ended_at e none f r h = absurd (let z : ◌≡◌ {A = ℕ} 0 1 = cc in omega arith)
-ended_at e (some k) f r h = cc
+ended_at_lem : (e : ℕ) (o : Option ℕ) (f r : ℕ) → ranked_at e o ≡ dateRead.At f r → f ≡ e
+ended_at_lem e none f r h = absurd (let z : ◌≡◌ {A = ℕ} 0 1 = cc in omega arith)
+ended_at_lem e (some k) f r h = cc
 
-ended-none : (e : ℕ) (o : Option ℕ) (f : ℕ) → ranked_at e o ≡ dateRead.NoSuchDate f → f ≡ e
-ended-none e none f h = cc
-ended-none e (some k) f h = absurd (let z : ◌≡◌ {A = ℕ} 0 1 = cc in omega arith)
+ended_none : (e : ℕ) (o : Option ℕ) (f : ℕ) → ranked_at e o ≡ dateRead.NoSuchDate f → f ≡ e
+ended_none e none f h = cc
+ended_none e (some k) f h = absurd (let z : ◌≡◌ {A = ℕ} 0 1 = cc in omega arith)
 
-ranked-at : (e : ℕ) (o : Option ℕ) (f r : ℕ) → ranked_at e o ≡ dateRead.At f r → r ≡ or_zero o
+ranked_at_lem : (e : ℕ) (o : Option ℕ) (f r : ℕ) → ranked_at e o ≡ dateRead.At f r → r ≡ or_zero o
 unfolding or_zero
-ranked-at e none f r h = absurd (let z : ◌≡◌ {A = ℕ} 0 1 = cc in omega arith)
-ranked-at e (some k) f r h = cc
+ranked_at_lem e none f r h = absurd (let z : ◌≡◌ {A = ℕ} 0 1 = cc in omega arith)
+ranked_at_lem e (some k) f r h = cc
 
-ranked-none : (e : ℕ) (o : Option ℕ) (f : ℕ) → ranked_at e o ≡ dateRead.NoSuchDate f → 0 ≡ or_zero o
+ranked_none : (e : ℕ) (o : Option ℕ) (f : ℕ) → ranked_at e o ≡ dateRead.NoSuchDate f → 0 ≡ or_zero o
 unfolding or_zero
-ranked-none e none f h = refl
-ranked-none e (some k) f h = absurd (let z : ◌≡◌ {A = ℕ} 0 1 = cc in omega arith)
+ranked_none e none f h = refl
+ranked_none e (some k) f h = absurd (let z : ◌≡◌ {A = ℕ} 0 1 = cc in omega arith)
 
-ranked-some : (e : ℕ) (o : Option ℕ) → ranked_at e o ≡ dateRead.Nothing → ⊥
-ranked-some e none h = let z : ◌≡◌ {A = ℕ} 0 1 = cc in omega arith
-ranked-some e (some k) h = let z : ◌≡◌ {A = ℕ} 0 1 = cc in omega arith
+ranked_some : (e : ℕ) (o : Option ℕ) → ranked_at e o ≡ dateRead.Nothing → ⊥
+ranked_some e none h = let z : ◌≡◌ {A = ℕ} 0 1 = cc in omega arith
+ranked_some e (some k) h = let z : ◌≡◌ {A = ℕ} 0 1 = cc in omega arith
 
 -- the rank of the date that was read, if there is such a date
-abbrev pub rankRead : Option (Date × Left) → ℕ
-rankRead o = or_zero (bind o (λ r. dateRank r.0))
+abbrev pub rank_read : Option (Date × Left) → ℕ
+rank_read o = or_zero (bind o (λ r. date_rank r.0))
 
 module _ (o : Option (Date × Left)) where
-  pub date-at : (e r : ℕ) → dateReadOf o ≡ dateRead.At e r → (At e ≡ wordEnd o) × (r ≡ rankRead o)
+  pub date_at : (e r : ℕ) → date_read_of o ≡ dateRead.At e r → (At e ≡ word_end o) × (r ≡ rank_read o)
   unfolding bind
-  date-at e r h = go o h
+  date_at e r h = go o h
     where
-      go : (o : Option (Date × Left)) → dateReadOf o ≡ dateRead.At e r → (At e ≡ wordEnd o) × (r ≡ rankRead o)
+      go : (o : Option (Date × Left)) → date_read_of o ≡ dateRead.At e r → (At e ≡ word_end o) × (r ≡ rank_read o)
       go none k = absurd (let z : ◌≡◌ {A = ℕ} 0 1 = cc in omega arith)
-      go (some x) k = (ap At (ended_at x.1.at (dateRank x.0) e r k), ranked-at x.1.at (dateRank x.0) e r k)
+      go (some x) k = (ap At (ended_at_lem x.1.at (date_rank x.0) e r k), ranked_at_lem x.1.at (date_rank x.0) e r k)
 
-  pub date-missing : (e : ℕ) → dateReadOf o ≡ dateRead.NoSuchDate e → (At e ≡ wordEnd o) × (0 ≡ rankRead o)
+  pub date_missing : (e : ℕ) → date_read_of o ≡ dateRead.NoSuchDate e → (At e ≡ word_end o) × (0 ≡ rank_read o)
   unfolding bind
-  date-missing e h = go o h
+  date_missing e h = go o h
     where
-      go : (o : Option (Date × Left)) → dateReadOf o ≡ dateRead.NoSuchDate e → (At e ≡ wordEnd o) × (0 ≡ rankRead o)
+      go : (o : Option (Date × Left)) → date_read_of o ≡ dateRead.NoSuchDate e → (At e ≡ word_end o) × (0 ≡ rank_read o)
       go none k = absurd (let z : ◌≡◌ {A = ℕ} 0 1 = cc in omega arith)
-      go (some x) k = (ap At (ended-none x.1.at (dateRank x.0) e k), ranked-none x.1.at (dateRank x.0) e k)
+      go (some x) k = (ap At (ended_none x.1.at (date_rank x.0) e k), ranked_none x.1.at (date_rank x.0) e k)
 
-  pub date-nothing : dateReadOf o ≡ dateRead.Nothing → (Nothing ≡ wordEnd o) × (0 ≡ rankRead o)
+  pub date_nothing : date_read_of o ≡ dateRead.Nothing → (Nothing ≡ word_end o) × (0 ≡ rank_read o)
   unfolding bind or_zero
-  date-nothing h = go o h
+  date_nothing h = go o h
     where
-      go : (o : Option (Date × Left)) → dateReadOf o ≡ dateRead.Nothing → (Nothing ≡ wordEnd o) × (0 ≡ rankRead o)
+      go : (o : Option (Date × Left)) → date_read_of o ≡ dateRead.Nothing → (Nothing ≡ word_end o) × (0 ≡ rank_read o)
       go none k = (refl, refl)
-      go (some x) k = absurd (ranked-some x.1.at (dateRank x.0) k)
+      go (some x) k = absurd (ranked_some x.1.at (date_rank x.0) k)

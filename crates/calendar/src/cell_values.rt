@@ -1,7 +1,7 @@
 // The values of cells: names, numbers, ranges and dates.
 ghost use Rattle.std.specs.Prelude.{◌≡◌};
-ghost use Rattle.calendar.specs.CellValues.{cellValue, enclosedValue};
-ghost use Rattle.text.specs.CodeEnds.{wordEnd};
+ghost use Rattle.calendar.specs.CellValues.{cell_value, enclosed_value};
+ghost use Rattle.text.specs.CodeEnds.{word_end};
 ghost use Rattle.text.specs.Reader.{from};
 
 use crate::reading::date_end;
@@ -11,7 +11,7 @@ use text::words::{End, value_end};
 
 // The end of the range or the date at a position.
 fn enclosed_end(s: &[u8], at: usize) -> End
-    ensures { result ≡ wordEnd (enclosedValue (from s.now at)) }
+    ensures { result ≡ word_end (enclosed_value (from s.now at)) }
 {
     let k = range_end(s, at);
     match k {
@@ -22,7 +22,7 @@ fn enclosed_end(s: &[u8], at: usize) -> End
 
 // The end of the value of a cell: a name, a number, a range or a date.
 pub fn cell_value_end(s: &[u8], at: usize) -> End
-    ensures { result ≡ wordEnd (cellValue (from s.now at)) }
+    ensures { result ≡ word_end (cell_value (from s.now at)) }
 {
     if byte_at(s, at) == b'(' {
         return enclosed_end(s, at);

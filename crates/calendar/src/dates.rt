@@ -1,8 +1,8 @@
 // Dates of the years 1 to 9999, and the days of a year, counted from 1.
 ghost use Rattle.std.specs.Prelude.{◌≡◌, take};
-ghost use Rattle.text.specs.CodeEnds.{amountOf};
-ghost use Rattle.calendar.specs.Calendar.{leap, daysIn, yearHeld, months, total, dayOfDate, dateOfDay, dateRank, dateOfRank};
-ghost use Rattle.calendar.specs.Found.{foundDate};
+ghost use Rattle.text.specs.CodeEnds.{amount_of};
+ghost use Rattle.calendar.specs.Calendar.{leap, days_in, year_held, months, total, day_of_date, date_of_day, date_rank, date_of_rank};
+ghost use Rattle.calendar.specs.Found.{found_date};
 
 use text::numbers::Amount;
 
@@ -51,14 +51,14 @@ fn year_days(leap_year: bool) -> u64
 
 // The number of days in a year.
 pub fn days_in(year: u64) -> u64
-    ensures { result ≡ daysIn year }
+    ensures { result ≡ days_in year }
 {
     year_days(is_leap(year))
 }
 
 // Whether a year is one of those that have dates.
 fn year_held(year: u64) -> bool
-    ensures { result ≡ yearHeld year }
+    ensures { result ≡ year_held year }
 {
     if year < 1 {
         return false;
@@ -87,7 +87,7 @@ fn first_days(leap_year: bool, count: u64) -> u64
 
 // The day number of a date in its year.
 pub fn day_of_date(year: u64, month: u64, day: u64) -> Amount
-    ensures { result ≡ amountOf (dayOfDate (record { year = year; month = month; day = day })) }
+    ensures { result ≡ amount_of (day_of_date (record { year = year; month = month; day = day })) }
 {
     if !year_held(year) {
         return Amount::Nothing;
@@ -112,7 +112,7 @@ pub fn day_of_date(year: u64, month: u64, day: u64) -> Amount
 
 // The date of a day number in a year.
 pub fn date_of_day(year: u64, day: u64) -> DateFound
-    ensures { result ≡ foundDate (dateOfDay year day) }
+    ensures { result ≡ found_date (date_of_day year day) }
 {
     if !year_held(year) {
         return DateFound::NoDate;
@@ -137,7 +137,7 @@ pub fn date_of_day(year: u64, day: u64) -> DateFound
 
 // The rank of a date: dates stand in the order of their ranks.
 pub fn date_rank(year: u64, month: u64, day: u64) -> Amount
-    ensures { result ≡ amountOf (dateRank (record { year = year; month = month; day = day })) }
+    ensures { result ≡ amount_of (date_rank (record { year = year; month = month; day = day })) }
 {
     let found = day_of_date(year, month, day);
     match found {
@@ -148,7 +148,7 @@ pub fn date_rank(year: u64, month: u64, day: u64) -> Amount
 
 // The date of a rank.
 pub fn date_of_rank(rank: u64) -> DateFound
-    ensures { result ≡ foundDate (dateOfRank rank) }
+    ensures { result ≡ found_date (date_of_rank rank) }
 {
     date_of_day(rank / 367, rank % 367)
 }

@@ -1,11 +1,11 @@
 // The text of a date, `(YEAR MONTH DAY)`.
 ghost use Rattle.std.specs.Prelude.{◌≡◌};
 ghost use Rattle.text.specs.Brackets.{next};
-ghost use Rattle.text.specs.CodeEnds.{endOfNumber, wordEnd};
+ghost use Rattle.text.specs.CodeEnds.{end_of_number, word_end};
 ghost use Rattle.text.specs.Reader.{from};
-ghost use Rattle.text.specs.Words.{writtenAt};
-ghost use Rattle.calendar.specs.DateText.{natural, dateText, isDate, dayRankOf};
-ghost use Rattle.calendar.specs.Found.{dateReadOf};
+ghost use Rattle.text.specs.Words.{written_at};
+ghost use Rattle.calendar.specs.DateText.{natural, date_text, is_date, day_rank_of};
+ghost use Rattle.calendar.specs.Found.{date_read_of};
 
 use crate::dates::date_rank;
 use text::bytes::byte_at;
@@ -22,7 +22,7 @@ pub enum DateRead {
 
 // The end of the number at a position, and the number; 0 for a negative one.
 fn read_natural(s: &[u8], at: usize) -> Number
-    ensures { result ≡ endOfNumber (natural (from s.now at)) }
+    ensures { result ≡ end_of_number (natural (from s.now at)) }
 {
     let k = read_number(s, at);
     let Number::At(e, rank) = k else {
@@ -36,7 +36,7 @@ fn read_natural(s: &[u8], at: usize) -> Number
 
 // The same behind a space.
 fn next_natural(s: &[u8], at: usize) -> Number
-    ensures { result ≡ endOfNumber (next natural (from s.now at)) }
+    ensures { result ≡ end_of_number (next natural (from s.now at)) }
 {
     if byte_at(s, at) == b' ' {
         read_natural(s, at + 1)
@@ -47,7 +47,7 @@ fn next_natural(s: &[u8], at: usize) -> Number
 
 // The date at a position.
 pub fn read_date(s: &[u8], at: usize) -> DateRead
-    ensures { result ≡ dateReadOf (dateText (from s.now at)) }
+    ensures { result ≡ date_read_of (date_text (from s.now at)) }
 {
     if byte_at(s, at) != b'(' {
         return DateRead::Nothing;
@@ -76,7 +76,7 @@ pub fn read_date(s: &[u8], at: usize) -> DateRead
 
 // The end of the date at a position, whether there is such a date or not.
 pub fn date_end(s: &[u8], at: usize) -> End
-    ensures { result ≡ wordEnd (dateText (from s.now at)) }
+    ensures { result ≡ word_end (date_text (from s.now at)) }
 {
     let d = read_date(s, at);
     match d {
@@ -88,7 +88,7 @@ pub fn date_end(s: &[u8], at: usize) -> End
 
 // Whether a date is written at a position, whether there is such a date or not.
 pub fn is_date(s: &[u8], at: usize) -> bool
-    ensures { result ≡ isDate (writtenAt s.now at) }
+    ensures { result ≡ is_date (written_at s.now at) }
 {
     let d = date_end(s, at);
     match d {
@@ -99,7 +99,7 @@ pub fn is_date(s: &[u8], at: usize) -> bool
 
 // The rank of the date that is written at a position; 0, which is the rank of none, where there is none.
 pub fn known_date(s: &[u8], at: usize) -> u64
-    ensures { result ≡ dayRankOf (writtenAt s.now at) }
+    ensures { result ≡ day_rank_of (written_at s.now at) }
 {
     let d = read_date(s, at);
     match d {

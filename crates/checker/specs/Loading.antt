@@ -3,7 +3,7 @@ use Rattle.std.specs.Prelude.{◌≤◌, ℕ, length, List, ◌≡◌}
 use Rattle.index.specs.Workspace.{Indexed}
 use Rattle.document.specs.Check.{Accepted, check}
 use Rattle.document.specs.Policy.{Doc}
-use Rattle.text.specs.Reasons.{refusalOf}
+use Rattle.text.specs.Reasons.{refusal_of}
 use Rattle.text.specs.Refusal.{accepted, refused}
 use Rattle.index.specs.declared.counts.Counts.{Counts}
 use Rattle.checker.specs.declared.loading.Loaded.{Loaded}
@@ -19,5 +19,5 @@ pub record HoldsDocument (doc ps rs bs us cs gs ls ms ts ws : List ℕ) (c : Cou
 
 -- THE CHECK INTO ARRAYS: the answer r stands for the outcome of the check of the document, and the arrays hold what was accepted
 pub record Loads (doc ps rs bs us cs gs ls ms ts ws : List ℕ) (r : Loaded) : Type 0 where
-  pub refuses : (x : code.Refusal) → r ≡ loaded.Refused x → check doc ≡ refused (refusalOf x)
+  pub refuses : (x : code.Refusal) → r ≡ loaded.Refused x → check doc ≡ refused (refusal_of x)
   pub accepts : (c : Counts) (n : ℕ) → r ≡ loaded.Accepted c n → HoldsDocument doc ps rs bs us cs gs ls ms ts ws c n

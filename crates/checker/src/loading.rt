@@ -1,8 +1,8 @@
 // The check of a document into lent arrays, line by line.
 ghost use Rattle.std.specs.Prelude.{◌+◌, ◌<◌, ◌^◌, ◌≤◌, length, ◌≡◌};
 ghost use Rattle.checker.specs.Loading.{Loads};
-ghost use Rattle.stepping.specs.Judged.{Reaches, refusalIn};
-ghost use Rattle.text.specs.Reasons.{refusalOf};
+ghost use Rattle.stepping.specs.Judged.{Reaches, refusal_in};
+ghost use Rattle.text.specs.Reasons.{refusal_of};
 ghost use Rattle.text.specs.Refusal.{moved};
 
 use crate::steps::step_line;
@@ -30,7 +30,7 @@ pub enum Loaded {
 // The refusal of a line that stands at a position of the text.
 fn refusal_of(line: &[u8], at: usize, f: Fault) -> Refusal
     requires { (at + length line.now < 2 ^ 64) × Reaches line.now f }
-    ensures { refusalOf result ≡ moved at (refusalIn line.now f) }
+    ensures { refusal_of result ≡ moved at (refusal_in line.now f) }
 {
     match f {
         Fault::Whole(x) => Refusal {

@@ -8,7 +8,7 @@ use Rattle.condition.specs.Comparison.{Comparison}
 use Rattle.condition.specs.Computing.{computing}
 use Rattle.condition.specs.Cond.{Cond, both, either, last, more, negate, test}
 use Rattle.condition.specs.Kinds.{Op, eq, ge, gt, le, lt, ne, numbers}
-use Rattle.condition.specs.Ranges.{passesIn, possible, sure}
+use Rattle.condition.specs.Ranges.{passes_in, possible, sure}
 use Rattle.text.specs.Bytes.{ascii}
 
 abbrev from3to7 : List ℕ
@@ -49,7 +49,7 @@ cases =
 
 unfoldable pub agree : List Case → Bool
 agree [] = true
-agree (c ∷ cs) = beq (passesIn sure (λ i. from3to7) c.condition) c.sure? && beq (passesIn possible (λ i. from3to7) c.condition) c.possible? && agree cs
+agree (c ∷ cs) = beq (passes_in sure (λ i. from3to7) c.condition) c.sure? && beq (passes_in possible (λ i. from3to7) c.condition) c.possible? && agree cs
 
 pub sample : agree cases ≡ true
 unfolding computing case cases agree

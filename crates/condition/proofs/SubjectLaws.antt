@@ -7,65 +7,65 @@ use mathlib.Core.List.{List, [], ◌∷◌}
 use mathlib.Core.Option.{none, some}
 use mathlib.Core.Path.{◌∙◌, ◌≡◌, ap, refl, sym}
 use native.Mathlib.Omega.{arith}
-use Rattle.condition.proofs.ConstantLaws.{forward-written}
-use Rattle.condition.proofs.CutLaws.{ref-kept}
-use Rattle.condition.specs.Answers.{namingBy}
-use Rattle.condition.specs.CondForm.{Naming, ofRef, plainly, refBody, refOf, subject, tabled}
-use Rattle.condition.specs.RefPlaces.{ref_at, refColumn, refEndAt, refTable, refWritten}
-use Rattle.lists.proofs.Tests.{true-not-false}
-use Rattle.text.proofs.CellValues.{written-some}
-use Rattle.text.proofs.CodeLaws.{written-ends}
-use Rattle.text.proofs.EndLaws.{bracket-end, bracket-none, bracket-wrong, pair-off, pair-on}
-use Rattle.text.proofs.Forward.{Forward, forward-bind, forward-bracketed, forward-give, forward-keyword, forward-next, forward-wordThat}
-use Rattle.text.proofs.ReaderLaws.{byte-at-read, byte-at-refused, eats-refuse, not-read, then_some}
-use Rattle.text.proofs.WalkingLaws.{Finds, finds-bind, finds-bracketed, finds-byte, finds-give, finds-next, finds-run, finds-word}
-use Rattle.text.proofs.WordLaws.{word-always}
+use Rattle.condition.proofs.ConstantLaws.{forward_written}
+use Rattle.condition.proofs.CutLaws.{ref_kept}
+use Rattle.condition.specs.Answers.{naming_by}
+use Rattle.condition.specs.CondForm.{Naming, of_ref, plainly, ref_body, ref_of, subject, tabled}
+use Rattle.condition.specs.RefPlaces.{ref_at, ref_column, ref_end_at, ref_table, ref_written}
+use Rattle.lists.proofs.Tests.{true_not_false}
+use Rattle.text.proofs.CellValues.{written_some}
+use Rattle.text.proofs.CodeLaws.{written_ends}
+use Rattle.text.proofs.EndLaws.{bracket_end, bracket_none, bracket_wrong, pair_off, pair_on}
+use Rattle.text.proofs.Forward.{Forward, forward_bind, forward_bracketed, forward_give, forward_keyword, forward_next, forward_word_that}
+use Rattle.text.proofs.ReaderLaws.{byte_at_read, byte_at_refused, eats_refuse, not_read, then_some}
+use Rattle.text.proofs.WalkingLaws.{Finds, finds_bind, finds_bracketed, finds_byte, finds_give, finds_next, finds_run, finds_word}
+use Rattle.text.proofs.WordLaws.{word_always}
 use Rattle.text.specs.Brackets.{among, keyword, next}
 use Rattle.text.specs.Bytes.{ascii}
-use Rattle.text.specs.CodeEnds.{wordEnd}
-use Rattle.text.specs.Names.{isName, sameName}
+use Rattle.text.specs.CodeEnds.{word_end}
+use Rattle.text.specs.Names.{is_name, same_name}
 use Rattle.text.specs.Reader.{Left, Reader, ◌>>=◌, byte, from, give, refuse}
-use Rattle.text.specs.Walking.{nextWord, past, wordEndAt}
-use Rattle.text.specs.Words.{Word, isCalled, name, word_at, word_of, written}
+use Rattle.text.specs.Walking.{next_word, past, word_end_at}
+use Rattle.text.specs.Words.{Word, is_called, name, word_at, word_of, written}
 use Rattle.text.specs.declared.words.End.{End}
 use Rattle.text.specs.declared.words.End.TheVariants.{At, Nothing}
 
 -- ---- how far it is read
 
-pub forward-body : Forward refBody
-unfolding refBody
-forward-body =
-    forward-bind (next name) _ (forward-next name (forward-wordThat isName)) (λ t.
-    forward-bind (next name) _ (forward-next name (forward-wordThat isName)) (λ c. forward-give (record { table = t; column = c })))
+pub forward_body : Forward ref_body
+unfolding ref_body
+forward_body =
+    forward_bind (next name) _ (forward_next name (forward_word_that is_name)) (λ t.
+    forward_bind (next name) _ (forward_next name (forward_word_that is_name)) (λ c. forward_give (record { table = t; column = c })))
 
-pub forward-of : Forward (keyword ((ascii "of", refBody) ∷ []))
-forward-of = forward-keyword ((ascii "of", refBody) ∷ []) (forward-body, tt)
+pub forward_of : Forward (keyword ((ascii "of", ref_body) ∷ []))
+forward_of = forward_keyword ((ascii "of", ref_body) ∷ []) (forward_body, tt)
 
-pub forward-ofRef : Forward ofRef
-unfolding ofRef
-forward-ofRef = forward-bracketed (keyword ((ascii "of", refBody) ∷ [])) forward-of
+pub forward_of_ref : Forward of_ref
+unfolding of_ref
+forward_of_ref = forward_bracketed (keyword ((ascii "of", ref_body) ∷ [])) forward_of
 
-pub forward-subject : (way : Naming) (n : ℕ) → Forward (subject way n)
+pub forward_subject : (way : Naming) (n : ℕ) → Forward (subject way n)
 unfolding subject
-forward-subject plainly n = forward-wordThat isName
-forward-subject tabled zero = eats-refuse (λ w. 0)
-forward-subject tabled (suc n) = forward-written ofRef forward-ofRef
+forward_subject plainly n = forward_word_that is_name
+forward_subject tabled zero = eats_refuse (λ w. 0)
+forward_subject tabled (suc n) = forward_written of_ref forward_of_ref
 
 -- ---- what is read at a position
 
 -- what stands behind a space
-pub next-read : {A : Type 0} (R : Reader A) (s : List ℕ) (at : ℕ) (a : A) (l : Left) → next R (from s at) ≡ some (a, l) → R (from s (past 32 s at)) ≡ some (a, l)
+pub next_read : {A : Type 0} (R : Reader A) (s : List ℕ) (at : ℕ) (a : A) (l : Left) → next R (from s at) ≡ some (a, l) → R (from s (past 32 s at)) ≡ some (a, l)
 unfolding next
-next-read R s at a l h =
+next_read R s at a l h =
     let r = then_some (byte 32 (from s at)) (λ b. R) (a, l) h in
-    ap R (sym ((finds-byte s 32 (λ z. absurd (omega arith))).found at r.0.0 r.0.1 r.1).1) ∙ r.2
+    ap R (sym ((finds_byte s 32 (λ z. absurd (omega arith))).found at r.0.0 r.0.1 r.1).1) ∙ r.2
 
 -- what is found by place is found as it is written, and ends there
-finds-written : {A : Type 0} {s : List ℕ} {R : Reader A} {what : ℕ → A} {to : ℕ → ℕ} → Forward R → Finds s R what to → Finds s (written R) (λ at. record { at = at; bytes = take (to at - at) (drop at s) }) to
+finds_written : {A : Type 0} {s : List ℕ} {R : Reader A} {what : ℕ → A} {to : ℕ → ℕ} → Forward R → Finds s R what to → Finds s (written R) (λ at. record { at = at; bytes = take (to at - at) (drop at s) }) to
 unfolding written
-finds-written {A} {s} {R} {what} {to} goes p = record {
+finds_written {A} {s} {R} {what} {to} goes p = record {
   found = λ at w l h.
-      let a = written-some R (from s at) w l h in
+      let a = written_some R (from s at) w l h in
       let g = p.found at a.0 l a.1 in
       let q = goes (from s at) a.0 l a.1 in
       let place : to at ≡ at + q.n = ap (λ (k : Left). k.at) (sym g.1 ∙ q.skipped) in
@@ -74,131 +74,131 @@ finds-written {A} {s} {R} {what} {to} goes p = record {
       (a.2 ∙ ap (λ (n : ℕ). record { at = at; bytes = take n (drop at s) }) size, g.1);
 }
 
-finds-body : (s : List ℕ) → Finds s refBody (λ at. record { table = word_of s (past 32 s at); column = word_of s (nextWord s (past 32 s at)) }) (λ at. wordEndAt s (nextWord s (past 32 s at)))
-unfolding refBody nextWord
-finds-body s =
-    finds-bind (finds-next (finds-word s isName)) (λ t. next name >>= (λ c. give (record { table = t; column = c }))) (λ t.
-    finds-bind (finds-next (finds-word s isName)) (λ c. give (record { table = t; column = c })) (λ c. finds-give s (record { table = t; column = c })))
+finds_body : (s : List ℕ) → Finds s ref_body (λ at. record { table = word_of s (past 32 s at); column = word_of s (next_word s (past 32 s at)) }) (λ at. word_end_at s (next_word s (past 32 s at)))
+unfolding ref_body next_word
+finds_body s =
+    finds_bind (finds_next (finds_word s is_name)) (λ t. next name >>= (λ c. give (record { table = t; column = c }))) (λ t.
+    finds_bind (finds_next (finds_word s is_name)) (λ c. give (record { table = t; column = c })) (λ c. finds_give s (record { table = t; column = c })))
 
-pub finds-ref : (s : List ℕ) → Finds s ofRef (ref_at s) (refEndAt s)
-unfolding ofRef keyword among ref_at refTable refColumn refEndAt nextWord
-finds-ref s = finds-bracketed (finds-bind (finds-run s) (among ((ascii "of", refBody) ∷ [])) (λ w. of (isCalled w (ascii "of"))))
+pub finds_ref : (s : List ℕ) → Finds s of_ref (ref_at s) (ref_end_at s)
+unfolding of_ref keyword among ref_at ref_table ref_column ref_end_at next_word
+finds_ref s = finds_bracketed (finds_bind (finds_run s) (among ((ascii "of", ref_body) ∷ [])) (λ w. of (is_called w (ascii "of"))))
   where
-    of : (t : Bool) → Finds s (cond t refBody refuse) (λ at. record { table = word_of s (past 32 s at); column = word_of s (nextWord s (past 32 s at)) }) (λ at. wordEndAt s (nextWord s (past 32 s at)))
-    of true = finds-body s
-    of false = record { found = λ at x l h. not-read (x, l) h }
+    of : (t : Bool) → Finds s (cond t ref_body refuse) (λ at. record { table = word_of s (past 32 s at); column = word_of s (next_word s (past 32 s at)) }) (λ at. word_end_at s (next_word s (past 32 s at)))
+    of true = finds_body s
+    of false = record { found = λ at x l h. not_read (x, l) h }
 
 -- a column as it is written
-pub finds-column : (s : List ℕ) → Finds s (written ofRef) (refWritten s) (refEndAt s)
-unfolding refWritten
-finds-column s = finds-written forward-ofRef (finds-ref s)
+pub finds_column : (s : List ℕ) → Finds s (written of_ref) (ref_written s) (ref_end_at s)
+unfolding ref_written
+finds_column s = finds_written forward_of_ref (finds_ref s)
 
 -- what is compared, and where it ends, by how it is named
-abbrev pub subjectAt : Naming → List ℕ → ℕ → Word
-subjectAt plainly = word_of
-subjectAt tabled = refWritten
+abbrev pub subject_at : Naming → List ℕ → ℕ → Word
+subject_at plainly = word_of
+subject_at tabled = ref_written
 
-abbrev pub subjectEndAt : Naming → List ℕ → ℕ → ℕ
-subjectEndAt plainly = wordEndAt
-subjectEndAt tabled = refEndAt
+abbrev pub subject_end_at : Naming → List ℕ → ℕ → ℕ
+subject_end_at plainly = word_end_at
+subject_end_at tabled = ref_end_at
 
-pub finds-subject : (s : List ℕ) (way : Naming) (n : ℕ) → Finds s (subject way n) (subjectAt way s) (subjectEndAt way s)
+pub finds_subject : (s : List ℕ) (way : Naming) (n : ℕ) → Finds s (subject way n) (subject_at way s) (subject_end_at way s)
 unfolding subject
-finds-subject s plainly n = finds-word s isName
-finds-subject s tabled zero = record { found = λ at x l h. not-read (x, l) h }
-finds-subject s tabled (suc n) = finds-column s
+finds_subject s plainly n = finds_word s is_name
+finds_subject s tabled zero = record { found = λ at x l h. not_read (x, l) h }
+finds_subject s tabled (suc n) = finds_column s
 
 -- a column that is read as it is written names what stands there
-pub column-is : (s : List ℕ) (at : ℕ) (w : Word) (l : Left) → written ofRef (from s at) ≡ some (w, l) → refOf w ≡ ref_at s at
+pub column_is : (s : List ℕ) (at : ℕ) (w : Word) (l : Left) → written of_ref (from s at) ≡ some (w, l) → ref_of w ≡ ref_at s at
 unfolding written
-column-is s at w l h =
-    let a = written-some ofRef (from s at) w l h in
-    ref-kept (from s at) l w a.0 (unfold written in h) a.1 ∙ ((finds-ref s).found at a.0 l a.1).0
+column_is s at w l h =
+    let a = written_some of_ref (from s at) w l h in
+    ref_kept (from s at) l w a.0 (unfold written in h) a.1 ∙ ((finds_ref s).found at a.0 l a.1).0
 
 -- ---- its end, as code finds it
 
 module _ (s : List ℕ) (at : ℕ) where
   -- `T COL` behind `of`: the first name is wrong
-  pub body-off : {r : End} → r ≡ wordEnd (next name (from s at)) → r ≡ Nothing → Nothing ≡ wordEnd (refBody (from s at))
-  unfolding refBody
-  body-off h k = pair-off (next name) (next name) (λ t c. record { table = t; column = c }) s at h k
+  pub body_off : {r : End} → r ≡ word_end (next name (from s at)) → r ≡ Nothing → Nothing ≡ word_end (ref_body (from s at))
+  unfolding ref_body
+  body_off h k = pair_off (next name) (next name) (λ t c. record { table = t; column = c }) s at h k
 
   -- or the second tells
-  pub body-on : {r x : End} {e : ℕ} → r ≡ wordEnd (next name (from s at)) → r ≡ At e → x ≡ wordEnd (next name (from s e)) → x ≡ wordEnd (refBody (from s at))
-  unfolding refBody
-  body-on h k q = pair-on (next name) (next name) (λ t c. record { table = t; column = c }) s at h (forward-next name (forward-wordThat isName)) k q refl
+  pub body_on : {r x : End} {e : ℕ} → r ≡ word_end (next name (from s at)) → r ≡ At e → x ≡ word_end (next name (from s e)) → x ≡ word_end (ref_body (from s at))
+  unfolding ref_body
+  body_on h k q = pair_on (next name) (next name) (λ t c. record { table = t; column = c }) s at h (forward_next name (forward_word_that is_name)) k q refl
 
   -- the keyword and what stands behind it
-  of-here : sameName (word_at s at) (ascii "of") ≡ true → keyword ((ascii "of", refBody) ∷ []) (from s at) ≡ refBody (from s (at + length (word_at s at)))
-  unfolding keyword among isCalled
-  of-here h = rw (word-always s at, h)
+  of_here : same_name (word_at s at) (ascii "of") ≡ true → keyword ((ascii "of", ref_body) ∷ []) (from s at) ≡ ref_body (from s (at + length (word_at s at)))
+  unfolding keyword among is_called
+  of_here h = rw (word_always s at, h)
 
-  pub of-not : sameName (word_at s at) (ascii "of") ≡ false → keyword ((ascii "of", refBody) ∷ []) (from s at) ≡ none
-  unfolding keyword among isCalled
-  of-not h = rw (word-always s at, h)
+  pub of_not : same_name (word_at s at) (ascii "of") ≡ false → keyword ((ascii "of", ref_body) ∷ []) (from s at) ≡ none
+  unfolding keyword among is_called
+  of_not h = rw (word_always s at, h)
 
-module _ (s : List ℕ) (at : ℕ) {o : End} (opening : o ≡ wordEnd (byte 40 (from s at))) where
+module _ (s : List ℕ) (at : ℕ) {o : End} (opening : o ≡ word_end (byte 40 (from s at))) where
   -- no bracket
-  pub ref-shut : o ≡ Nothing → Nothing ≡ wordEnd (ofRef (from s at))
-  unfolding ofRef
-  ref-shut k = bracket-none (keyword ((ascii "of", refBody) ∷ [])) s at opening k
+  pub ref_shut : o ≡ Nothing → Nothing ≡ word_end (of_ref (from s at))
+  unfolding of_ref
+  ref_shut k = bracket_none (keyword ((ascii "of", ref_body) ∷ [])) s at opening k
 
   module _ {a : ℕ} (opened : o ≡ At a) where
     -- another word than `of`
-    pub ref-other : sameName (word_at s a) (ascii "of") ≡ false → Nothing ≡ wordEnd (ofRef (from s at))
-    unfolding ofRef
-    ref-other h = bracket-wrong (keyword ((ascii "of", refBody) ∷ [])) s at opening opened (sym (ap wordEnd (of-not s a h)))
+    pub ref_other : same_name (word_at s a) (ascii "of") ≡ false → Nothing ≡ word_end (of_ref (from s at))
+    unfolding of_ref
+    ref_other h = bracket_wrong (keyword ((ascii "of", ref_body) ∷ [])) s at opening opened (sym (ap word_end (of_not s a h)))
 
-    module _ (h : sameName (word_at s a) (ascii "of") ≡ true) {f : ℕ} (behind : f ≡ a + length (word_at s a)) {r : End} (call : r ≡ wordEnd (refBody (from s f))) where
-      body_is : r ≡ wordEnd (keyword ((ascii "of", refBody) ∷ []) (from s a))
-      body_is = call ∙ ap (λ k. wordEnd (refBody (from s k))) behind ∙ sym (ap wordEnd (of-here s a h))
+    module _ (h : same_name (word_at s a) (ascii "of") ≡ true) {f : ℕ} (behind : f ≡ a + length (word_at s a)) {r : End} (call : r ≡ word_end (ref_body (from s f))) where
+      body_is : r ≡ word_end (keyword ((ascii "of", ref_body) ∷ []) (from s a))
+      body_is = call ∙ ap (λ k. word_end (ref_body (from s k))) behind ∙ sym (ap word_end (of_here s a h))
 
       -- what stands behind it is wrong
-      pub ref-wrong : r ≡ Nothing → Nothing ≡ wordEnd (ofRef (from s at))
-      unfolding ofRef
-      ref-wrong k = bracket-wrong (keyword ((ascii "of", refBody) ∷ [])) s at opening opened (sym k ∙ body_is)
+      pub ref_wrong : r ≡ Nothing → Nothing ≡ word_end (of_ref (from s at))
+      unfolding of_ref
+      ref_wrong k = bracket_wrong (keyword ((ascii "of", ref_body) ∷ [])) s at opening opened (sym k ∙ body_is)
 
       -- the bracket closes behind it, or it does not
-      pub ref-end : {e : ℕ} {x : End} → r ≡ At e → x ≡ wordEnd (byte 41 (from s e)) → x ≡ wordEnd (ofRef (from s at))
-      unfolding ofRef
-      ref-end k q = bracket-end (keyword ((ascii "of", refBody) ∷ [])) s at opening forward-of opened (sym k ∙ body_is) q
+      pub ref_end : {e : ℕ} {x : End} → r ≡ At e → x ≡ word_end (byte 41 (from s e)) → x ≡ word_end (of_ref (from s at))
+      unfolding of_ref
+      ref_end k q = bracket_end (keyword ((ascii "of", ref_body) ∷ [])) s at opening forward_of opened (sym k ∙ body_is) q
 
 -- the same by the bytes that stand there
 module _ (s : List ℕ) (at : ℕ) where
-  pub ref-unopened : (get_or s at 0 ≡ 40 → ⊥) → Nothing ≡ wordEnd (ofRef (from s at))
-  ref-unopened h = ref-shut s at (sym (ap wordEnd (byte-at-refused s at 40 h))) refl
+  pub ref_unopened : (get_or s at 0 ≡ 40 → ⊥) → Nothing ≡ word_end (of_ref (from s at))
+  ref_unopened h = ref_shut s at (sym (ap word_end (byte_at_refused s at 40 h))) refl
 
   module _ (b : get_or s at 0 ≡ 40) where
-    opening : At (at + 1) ≡ wordEnd (byte 40 (from s at))
-    opening = sym (ap wordEnd (byte-at-read s at 40 b))
+    opening : At (at + 1) ≡ word_end (byte 40 (from s at))
+    opening = sym (ap word_end (byte_at_read s at 40 b))
 
-    pub ref-unkeyed : sameName (word_at s (at + 1)) (ascii "of") ≡ false → Nothing ≡ wordEnd (ofRef (from s at))
-    ref-unkeyed h = ref-other s at opening refl h
+    pub ref_unkeyed : same_name (word_at s (at + 1)) (ascii "of") ≡ false → Nothing ≡ word_end (of_ref (from s at))
+    ref_unkeyed h = ref_other s at opening refl h
 
-    module _ (h : sameName (word_at s (at + 1)) (ascii "of") ≡ true) {f : ℕ} (behind : f ≡ at + 1 + length (word_at s (at + 1))) {r : End} (call : r ≡ wordEnd (refBody (from s f))) where
-      pub ref-unnamed : r ≡ Nothing → Nothing ≡ wordEnd (ofRef (from s at))
-      ref-unnamed k = ref-wrong s at opening refl h behind call k
+    module _ (h : same_name (word_at s (at + 1)) (ascii "of") ≡ true) {f : ℕ} (behind : f ≡ at + 1 + length (word_at s (at + 1))) {r : End} (call : r ≡ word_end (ref_body (from s f))) where
+      pub ref_unnamed : r ≡ Nothing → Nothing ≡ word_end (of_ref (from s at))
+      ref_unnamed k = ref_wrong s at opening refl h behind call k
 
-      pub ref-unclosed : {e : ℕ} → r ≡ At e → (get_or s e 0 ≡ 41 → ⊥) → Nothing ≡ wordEnd (ofRef (from s at))
-      ref-unclosed {e} k z = ref-end s at opening refl h behind call k (sym (ap wordEnd (byte-at-refused s e 41 z)))
+      pub ref_unclosed : {e : ℕ} → r ≡ At e → (get_or s e 0 ≡ 41 → ⊥) → Nothing ≡ word_end (of_ref (from s at))
+      ref_unclosed {e} k z = ref_end s at opening refl h behind call k (sym (ap word_end (byte_at_refused s e 41 z)))
 
-      pub ref-closed : {e : ℕ} → r ≡ At e → get_or s e 0 ≡ 41 → At (e + 1) ≡ wordEnd (ofRef (from s at))
-      ref-closed {e} k z = ref-end s at opening refl h behind call k (sym (ap wordEnd (byte-at-read s e 41 z)))
+      pub ref_closed : {e : ℕ} → r ≡ At e → get_or s e 0 ≡ 41 → At (e + 1) ≡ word_end (of_ref (from s at))
+      ref_closed {e} k z = ref_end s at opening refl h behind call k (sym (ap word_end (byte_at_read s e 41 z)))
 
 -- what is compared, by the flag
 module _ (s : List ℕ) (at : ℕ) where
-  pub subject-name : (j : Bool) (n : ℕ) → not j ≡ true → wordEnd (name (from s at)) ≡ wordEnd (subject (namingBy j) n (from s at))
+  pub subject_name : (j : Bool) (n : ℕ) → not j ≡ true → word_end (name (from s at)) ≡ word_end (subject (naming_by j) n (from s at))
   unfolding subject
-  subject-name false n h = refl
-  subject-name true n h = true-not-false h refl
+  subject_name false n h = refl
+  subject_name true n h = true_not_false h refl
 
-  pub subject-flat : (j : Bool) (n : ℕ) → not j ≡ false → n ≡ 0 → Nothing ≡ wordEnd (subject (namingBy j) n (from s at))
+  pub subject_flat : (j : Bool) (n : ℕ) → not j ≡ false → n ≡ 0 → Nothing ≡ word_end (subject (naming_by j) n (from s at))
   unfolding subject
-  subject-flat true n h e = rw e
-  subject-flat false n h e = true-not-false refl h
+  subject_flat true n h e = rw e
+  subject_flat false n h e = true_not_false refl h
 
-  pub subject-ref : (j : Bool) (n : ℕ) → not j ≡ false → (n ≡ 0 → ⊥) → wordEnd (ofRef (from s at)) ≡ wordEnd (subject (namingBy j) n (from s at))
+  pub subject_ref : (j : Bool) (n : ℕ) → not j ≡ false → (n ≡ 0 → ⊥) → word_end (of_ref (from s at)) ≡ word_end (subject (naming_by j) n (from s at))
   unfolding subject
-  subject-ref false n h nz = true-not-false refl h
-  subject-ref true zero h nz = absurd (nz refl)
-  subject-ref true (suc n) h nz = written-ends ofRef s at
+  subject_ref false n h nz = true_not_false refl h
+  subject_ref true zero h nz = absurd (nz refl)
+  subject_ref true (suc n) h nz = written_ends of_ref s at

@@ -1,10 +1,10 @@
 // Columns with their tables, as a join writes them: `(of T COL)`; and where the value stands behind what is compared.
 ghost use Rattle.std.specs.Prelude.{◌≡◌};
-ghost use Rattle.text.specs.CodeEnds.{wordEnd};
+ghost use Rattle.text.specs.CodeEnds.{word_end};
 ghost use Rattle.text.specs.Reader.{from};
-ghost use Rattle.condition.specs.Answers.{namingBy, value_at};
-ghost use Rattle.condition.specs.CondForm.{ofRef, refBody};
-ghost use Rattle.condition.specs.RefPlaces.{refEndAt, refTable};
+ghost use Rattle.condition.specs.Answers.{naming_by, value_at};
+ghost use Rattle.condition.specs.CondForm.{of_ref, ref_body};
+ghost use Rattle.condition.specs.RefPlaces.{ref_end_at, ref_table};
 
 use text::brackets::spaced_name_end;
 use text::bytes::byte_at;
@@ -13,7 +13,7 @@ use text::words::{End, is_word, word_end};
 
 // The end of `T COL`, each behind a space.
 fn ref_body_end(s: &[u8], at: usize) -> End
-    ensures { result ≡ wordEnd (refBody (from s.now at)) }
+    ensures { result ≡ word_end (ref_body (from s.now at)) }
 {
     let t = spaced_name_end(s, at);
     let End::At(e) = t else {
@@ -24,7 +24,7 @@ fn ref_body_end(s: &[u8], at: usize) -> End
 
 // The end of `(of T COL)`.
 pub fn ref_end(s: &[u8], at: usize) -> End
-    ensures { result ≡ wordEnd (ofRef (from s.now at)) }
+    ensures { result ≡ word_end (of_ref (from s.now at)) }
 {
     if byte_at(s, at) != b'(' {
         return End::Nothing;
@@ -45,14 +45,14 @@ pub fn ref_end(s: &[u8], at: usize) -> End
 
 // Where T stands in the `(of T COL)` at a position, which was read before; COL is the next word.
 pub fn ref_table(s: &[u8], at: usize) -> usize
-    ensures { result ≡ refTable s.now at }
+    ensures { result ≡ ref_table s.now at }
 {
     next_word(s, skip_byte(s, at, b'('))
 }
 
 // Where it ends.
 pub fn ref_close(s: &[u8], at: usize) -> usize
-    ensures { result ≡ refEndAt s.now at }
+    ensures { result ≡ ref_end_at s.now at }
 {
     let column = next_word(s, ref_table(s, at));
     skip_byte(s, word_end(s, column), b')')
@@ -60,7 +60,7 @@ pub fn ref_close(s: &[u8], at: usize) -> usize
 
 // Where the value stands of the comparison whose operator stands at a position, that of a join's condition or not.
 pub fn value_place(s: &[u8], op: usize, joined: bool) -> usize
-    ensures { result ≡ value_at (namingBy joined) s.now op }
+    ensures { result ≡ value_at (naming_by joined) s.now op }
 {
     let name = next_word(s, op);
     if joined {

@@ -1,9 +1,9 @@
 // Numbers known to a range, by the ranks of its ends: whether a comparison is sure, and whether it is possible.
 ghost use Rattle.std.specs.Prelude.{eqb, leb, get_or, ◌&&◌, ◌≡◌};
-ghost use Rattle.text.specs.Amounts.{isRange};
-ghost use Rattle.text.specs.Words.{writtenAt};
-ghost use Rattle.condition.specs.Answers.{modeBy, op_of, rangeBy};
-ghost use Rattle.condition.specs.Ranges.{endsOf, possible, rangeMeets, sure};
+ghost use Rattle.text.specs.Amounts.{is_range};
+ghost use Rattle.text.specs.Words.{written_at};
+ghost use Rattle.condition.specs.Answers.{mode_by, op_of, range_by};
+ghost use Rattle.condition.specs.Ranges.{ends_of, possible, range_meets, sure};
 
 use crate::comparisons::known_rank;
 use crate::kinds::Op;
@@ -19,7 +19,7 @@ pub struct Ends {
 
 // The ends of the range at a position, where a bracket opens; where there is no range, two zeros.
 fn range_ends(s: &[u8], at: usize) -> Ends
-    ensures { get_or s.now at 0 ≡ 40 → rangeBy result ≡ endsOf (writtenAt s.now at) }
+    ensures { get_or s.now at 0 ≡ 40 → range_by result ≡ ends_of (written_at s.now at) }
 {
     let k = read_range(s, at);
     match k {
@@ -30,7 +30,7 @@ fn range_ends(s: &[u8], at: usize) -> Ends
 
 // The ends of the number or range at a position; where there is neither, two zeros.
 pub fn ends_at(s: &[u8], at: usize) -> Ends
-    ensures { rangeBy result ≡ endsOf (writtenAt s.now at) }
+    ensures { range_by result ≡ ends_of (written_at s.now at) }
 {
     if byte_at(s, at) == b'(' {
         return range_ends(s, at);
@@ -41,7 +41,7 @@ pub fn ends_at(s: &[u8], at: usize) -> Ends
 
 // Whether the value at a position is a range.
 pub fn is_range(s: &[u8], at: usize) -> bool
-    ensures { result ≡ isRange (writtenAt s.now at) }
+    ensures { result ≡ is_range (written_at s.now at) }
 {
     let k = read_range(s, at);
     match k {
@@ -66,7 +66,7 @@ fn is_inside(low: u64, high: u64, n: u64) -> bool
 
 // Whether every number from low to high stands to n as the operator says.
 fn sure_meets(op: Op, low: u64, high: u64, n: u64) -> bool
-    ensures { result ≡ rangeMeets sure (op_of op) low high n }
+    ensures { result ≡ range_meets sure (op_of op) low high n }
 {
     match op {
         Op::Eq => ends_are(low, high, n),
@@ -80,7 +80,7 @@ fn sure_meets(op: Op, low: u64, high: u64, n: u64) -> bool
 
 // Whether some number from low to high does.
 fn possibly_meets(op: Op, low: u64, high: u64, n: u64) -> bool
-    ensures { result ≡ rangeMeets possible (op_of op) low high n }
+    ensures { result ≡ range_meets possible (op_of op) low high n }
 {
     match op {
         Op::Eq => is_inside(low, high, n),
@@ -94,7 +94,7 @@ fn possibly_meets(op: Op, low: u64, high: u64, n: u64) -> bool
 
 // The one or the other.
 pub fn range_meets(op: Op, low: u64, high: u64, n: u64, certain: bool) -> bool
-    ensures { result ≡ rangeMeets (modeBy certain) (op_of op) low high n }
+    ensures { result ≡ range_meets (mode_by certain) (op_of op) low high n }
 {
     if certain {
         return sure_meets(op, low, high, n);

@@ -1,7 +1,7 @@
 -- Meaning: fields of a comma-separated file (02, Q-1; RFC 4180). Readers are those of bracket texts.
 use Rattle.std.specs.Prelude.{suc, ℕ, eqb, length, Bool, ◌||◌, cond, false, not, true, List, [], ◌++◌, ◌∷◌}
 use Rattle.std.proofs.Math.Option.{Option, none, some}
-use Rattle.text.specs.Reader.{Left, Reader, ◌>>=◌, ◌>>◌, byte, ifNext, skip}
+use Rattle.text.specs.Reader.{Left, Reader, ◌>>=◌, ◌>>◌, byte, if_next, skip}
 
 -- what a field says, as its bytes: without its quotes, and with doubled quotes made one
 abbrev pub Field : Type 0
@@ -12,13 +12,13 @@ unfoldable pub is_plain : ℕ → Bool
 is_plain b = not (eqb b 34 || (eqb b 44 || (eqb b 10 || eqb b 13)))
 
 -- the plain bytes at the front, as many as there are
-unfoldable pub plainBytes : List ℕ → List ℕ
-plainBytes [] = []
-plainBytes (b ∷ bs) = cond (is_plain b) (b ∷ plainBytes bs) []
+unfoldable pub plain_bytes : List ℕ → List ℕ
+plain_bytes [] = []
+plain_bytes (b ∷ bs) = cond (is_plain b) (b ∷ plain_bytes bs) []
 
 -- read a field without quotes, perhaps an empty one
 unfoldable pub bare : Reader Field
-bare l = some (plainBytes l.bytes, skip (length (plainBytes l.bytes)) l)
+bare l = some (plain_bytes l.bytes, skip (length (plain_bytes l.bytes)) l)
 
 -- a field in quotes with these bytes in front of it, after one byte more of the file
 unfoldable pub wrap : List ℕ → Option (Field × ℕ) → Option (Field × ℕ)
@@ -34,14 +34,14 @@ quoted false (b ∷ bs) = wrap (cond (eqb b 34) [] (b ∷ [])) (quoted (eqb b 34
 quoted true (b ∷ bs) = cond (eqb b 34) (wrap (b ∷ []) (quoted false bs)) (some ([], 0))
 
 -- what was found, and what is left behind it
-unfoldable pub withLeft : Left → Option (Field × ℕ) → Option (Field × Left)
-withLeft l none = none
-withLeft l (some q) = some (q.0, skip q.1 l)
+unfoldable pub with_left : Left → Option (Field × ℕ) → Option (Field × Left)
+with_left l none = none
+with_left l (some q) = some (q.0, skip q.1 l)
 
 -- read a field behind its opening quote
-unfoldable pub inQuotes : Reader Field
-inQuotes l = withLeft l (quoted false l.bytes)
+unfoldable pub in_quotes : Reader Field
+in_quotes l = with_left l (quoted false l.bytes)
 
 -- read a field
 unfoldable pub field : Reader Field
-field = ifNext 34 (do byte 34; inQuotes) bare
+field = if_next 34 (do byte 34; in_quotes) bare

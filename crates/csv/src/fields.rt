@@ -1,9 +1,9 @@
 // Fields of a comma-separated file: where they end, and what they come to.
 ghost use Rattle.std.specs.Prelude.{◌+◌, ◌≤◌, ℕ, drop, length, false, true, ◌≡◌};
-ghost use Rattle.csv.specs.Fields.{field, is_plain, plainBytes, quoted};
-ghost use Rattle.csv.specs.Scanned.{digitBytes, field_of, quotedEnd};
-ghost use Rattle.text.specs.Bytes.{isNameByte};
-ghost use Rattle.text.specs.CodeEnds.{wordEnd};
+ghost use Rattle.csv.specs.Fields.{field, is_plain, plain_bytes, quoted};
+ghost use Rattle.csv.specs.Scanned.{digit_bytes, field_of, quoted_end};
+ghost use Rattle.text.specs.Bytes.{is_name_byte};
+ghost use Rattle.text.specs.CodeEnds.{word_end};
 ghost use Rattle.text.specs.Reader.{from};
 ghost use Rattle.text.specs.Walking.{past};
 ghost use Rattle.text.specs.Words.{value, word_at};
@@ -22,7 +22,7 @@ pub enum FieldRead {
 
 // Whether b may stand in a name. What most bytes of a list are, small letters, is tested first.
 fn is_word_byte(b: u8) -> bool
-    ensures { result ≡ isNameByte b }
+    ensures { result ≡ is_name_byte b }
 {
     if b < b'a' {
         return is_name_byte(b);
@@ -46,7 +46,7 @@ fn word_end(s: &[u8], at: usize) -> usize
 
 // The end of the digits at a position.
 fn digits_end(s: &[u8], at: usize) -> usize
-    ensures { result ≡ at + length (digitBytes (drop at s.now)) }
+    ensures { result ≡ at + length (digit_bytes (drop at s.now)) }
 {
     let mut i = at;
     while i < s.len() {
@@ -61,7 +61,7 @@ fn digits_end(s: &[u8], at: usize) -> usize
 // Whether the digits at a position, which end there, are a number by a glance: at most 18 of them, or 19 of which the first is
 // no 9. Where it says no, they may be one all the same.
 fn is_short_number(s: &[u8], at: usize, end: usize) -> bool
-    ensures { end ≡ at + length (digitBytes (drop at s.now)) → result ≡ true → wordEnd (value (from s.now at)) ≡ At end }
+    ensures { end ≡ at + length (digit_bytes (drop at s.now)) → result ≡ true → word_end (value (from s.now at)) ≡ At end }
 {
     if end <= at {
         return false;
@@ -80,7 +80,7 @@ fn is_short_number(s: &[u8], at: usize, end: usize) -> bool
 
 // The end of the name or number at a position, as value_end finds it: short ones are told without arithmetic.
 fn short_value_end(s: &[u8], at: usize) -> End
-    ensures { result ≡ wordEnd (value (from s.now at)) }
+    ensures { result ≡ word_end (value (from s.now at)) }
 {
     if is_letter(byte_at(s, at)) {
         let e = word_end(s, at + 1);
@@ -114,7 +114,7 @@ pub fn is_plain(b: u8) -> bool
 
 // The end of the plain bytes at a position.
 fn plain_end(s: &[u8], at: usize) -> usize
-    ensures { result ≡ at + length (plainBytes (drop at s.now)) }
+    ensures { result ≡ at + length (plain_bytes (drop at s.now)) }
 {
     let mut i = at;
     while i < s.len() {
@@ -128,7 +128,7 @@ fn plain_end(s: &[u8], at: usize) -> usize
 
 // The end of a field in quotes, from behind its opening quote.
 fn quoted_end(s: &[u8], at: usize) -> End
-    ensures { result ≡ quotedEnd at (quoted false (drop at s.now)) }
+    ensures { result ≡ quoted_end at (quoted false (drop at s.now)) }
 {
     let mut i = at;
     while i < s.len() {
@@ -147,7 +147,7 @@ fn quoted_end(s: &[u8], at: usize) -> End
 // The end of the field at a position. It is looked for from i on: name bytes behind the quote, or at the field's start, end no
 // field, so that a word that was walked is not walked again.
 fn field_end(s: &[u8], at: usize, i: usize) -> End
-    ensures { (k : ℕ) → i ≡ past 34 s.now at + k → k ≤ length (word_at s.now (past 34 s.now at)) → result ≡ wordEnd (field (from s.now at)) }
+    ensures { (k : ℕ) → i ≡ past 34 s.now at + k → k ≤ length (word_at s.now (past 34 s.now at)) → result ≡ word_end (field (from s.now at)) }
 {
     if byte_at(s, at) == b'"' {
         return quoted_end(s, i);

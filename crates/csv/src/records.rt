@@ -1,8 +1,8 @@
 // Records of a comma-separated file: where they end, and what the file comes to.
 ghost use Rattle.std.specs.Prelude.{◌≡◌};
-ghost use Rattle.csv.specs.Records.{fields, recordEnd, records};
-ghost use Rattle.csv.specs.Scanned.{first_of, recordReadOf, scanOf, widthAfter};
-ghost use Rattle.text.specs.CodeEnds.{wordEnd};
+ghost use Rattle.csv.specs.Records.{fields, record_end, records};
+ghost use Rattle.csv.specs.Scanned.{first_of, record_read_of, scan_of, width_after};
+ghost use Rattle.text.specs.CodeEnds.{word_end};
 ghost use Rattle.text.specs.Reader.{from};
 
 use crate::fields::{FieldRead, read_field};
@@ -26,7 +26,7 @@ pub enum Scan {
 
 // The end of a record behind its last field.
 fn record_end(s: &[u8], at: usize) -> End
-    ensures { result ≡ wordEnd (recordEnd (from s.now at)) }
+    ensures { result ≡ word_end (record_end (from s.now at)) }
 {
     if s.len() <= at {
         return End::At(at);
@@ -45,7 +45,7 @@ fn record_end(s: &[u8], at: usize) -> End
 
 // A record: its end, and what its fields come to.
 fn read_record(s: &[u8], at: usize) -> RecordRead
-    ensures { result ≡ recordReadOf (fields (from s.now at)) }
+    ensures { result ≡ record_read_of (fields (from s.now at)) }
 {
     let mut i = at;
     let mut count = 0;
@@ -87,7 +87,7 @@ fn first_of(found: End, unfit: usize, at: usize) -> End
 
 // The number of fields that a record must have: that of the first, which has none before it, is its own.
 fn expected_width(count: usize, w: usize, n: usize) -> usize
-    ensures { result ≡ widthAfter count w n }
+    ensures { result ≡ width_after count w n }
 {
     if count == 0 {
         return n;
@@ -97,7 +97,7 @@ fn expected_width(count: usize, w: usize, n: usize) -> usize
 
 // A whole file.
 pub fn scan_file(s: &[u8]) -> Scan
-    ensures { result ≡ scanOf (records s.now) }
+    ensures { result ≡ scan_of (records s.now) }
 {
     let mut w = 0;
     let mut i = 0;

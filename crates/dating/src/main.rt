@@ -2,7 +2,7 @@
 // dates there were so far, and a checksum over all that the calendar answered so far, of the years 0 to 10000.
 ghost use Rattle.std.specs.Prelude.{◌≤◌, ◌≡◌, ◌&&◌};
 ghost use Rattle.text.specs.Bytes.{within};
-ghost use Rattle.calendar.specs.Calendar.{Date, daysIn, yearHeld, exists};
+ghost use Rattle.calendar.specs.Calendar.{Date, days_in, year_held, exists};
 ghost use Rattle.calendar.specs.Order.{earlier};
 
 use calendar::dates::{DateFound, date_of_day, date_rank, day_of_date};
@@ -11,7 +11,7 @@ use text::numbers::Amount;
 
 // Whether a day of a year has a date whose day it is: so do all the days of the year.
 fn goes_round(year: u64, day: u64) -> bool
-    ensures { result ≡ (yearHeld year && within 1 (daysIn year) day) }
+    ensures { result ≡ (year_held year && within 1 (days_in year) day) }
 {
     let found = date_of_day(year, day);
     match found {

@@ -8,8 +8,8 @@ use mathlib.Core.Option.{Option, none, some}
 use mathlib.Core.Path.{◌≡◌, refl}
 use Rattle.document.specs.Check.{Accepted, check}
 use Rattle.document.specs.Computing.{computing}
-use Rattle.document.specs.Lookup.{labellingAt}
-use Rattle.document.specs.Open.{cellOpen, openTo}
+use Rattle.document.specs.Lookup.{labelling_at}
+use Rattle.document.specs.Open.{cell_open, open_to}
 use Rattle.text.specs.Bytes.{ascii}
 use Rattle.text.specs.Refusal.{Refusal, Result, accepted, document, refused}
 
@@ -37,14 +37,14 @@ strongly = nest ++ ascii "(strong t strict)\n(weak t most)\n" ++ people
 -- ---- open cells
 
 -- of each row of the table of number 0, whether its two cells are open to the purpose
-unfoldable pub openCells : ℕ → Result Accepted → List (List Bool)
-openCells p (refused r) = []
-openCells p (accepted a) = map (λ r. map (cellOpen (openTo a.doc.policy p) (labellingAt a.doc.policy 0) r.labels) (0 ∷ 1 ∷ [])) a.doc.rows
+unfoldable pub open_cells : ℕ → Result Accepted → List (List Bool)
+open_cells p (refused r) = []
+open_cells p (accepted a) = map (λ r. map (cell_open (open_to a.doc.policy p) (labelling_at a.doc.policy 0) r.labels) (0 ∷ 1 ∷ [])) a.doc.rows
 
 -- for all, bill, ads and post: the table's weak label denies ads, and with it post and all; the second row allows post again, and the
 -- third's first cell denies it again; with a strong label, that alone counts where it says anything
-pub cell-samples :
-    map (λ p. openCells p (check weakly)) (0 ∷ 1 ∷ 2 ∷ 3 ∷ []) ++ map (λ p. openCells p (check strongly)) (0 ∷ 1 ∷ 2 ∷ 3 ∷ []) ++ map (λ p. openCells p (check (nest ++ people))) (1 ∷ 3 ∷ [])
+pub cell_samples :
+    map (λ p. open_cells p (check weakly)) (0 ∷ 1 ∷ 2 ∷ 3 ∷ []) ++ map (λ p. open_cells p (check strongly)) (0 ∷ 1 ∷ 2 ∷ 3 ∷ []) ++ map (λ p. open_cells p (check (nest ++ people))) (1 ∷ 3 ∷ [])
     ≡ ((false ∷ false ∷ []) ∷ (false ∷ false ∷ []) ∷ (false ∷ false ∷ []) ∷ [])
     ∷ ((true ∷ true ∷ []) ∷ (true ∷ true ∷ []) ∷ (true ∷ true ∷ []) ∷ [])
     ∷ ((false ∷ false ∷ []) ∷ (false ∷ false ∷ []) ∷ (false ∷ false ∷ []) ∷ [])
@@ -56,8 +56,8 @@ pub cell-samples :
     ∷ ((false ∷ false ∷ []) ∷ (false ∷ false ∷ []) ∷ (false ∷ false ∷ []) ∷ [])
     ∷ ((false ∷ false ∷ []) ∷ (true ∷ true ∷ []) ∷ (false ∷ true ∷ []) ∷ [])
     ∷ []
-unfolding computing labels nest people weakly strongly openCells
-cell-samples = refl
+unfolding computing labels nest people weakly strongly open_cells
+cell_samples = refl
 
 -- ---- refused documents
 
@@ -67,12 +67,12 @@ refusal (refused r) = some r
 refusal (accepted a) = none
 
 -- the refusal with this number of the line that stands behind these
-unfoldable pub refusedLine : ℕ → List ℕ → String → Option Refusal
-refusedLine n before line = some (record { number = n; source = document; start = length before; len = length (ascii line) })
+unfoldable pub refused_line : ℕ → List ℕ → String → Option Refusal
+refused_line n before line = some (record { number = n; source = document; start = length before; len = length (ascii line) })
 
 -- the same, of the word that stands at a place of it
-unfoldable pub refusedWord : ℕ → List ℕ → ℕ → ℕ → Option Refusal
-refusedWord n before at len = some (record { number = n; source = document; start = length before + at; len = len })
+unfoldable pub refused_word : ℕ → List ℕ → ℕ → ℕ → Option Refusal
+refused_word n before at len = some (record { number = n; source = document; start = length before + at; len = len })
 
 -- the document of these lines and one behind them
 unfoldable pub behind : List ℕ → String → Option Refusal
@@ -81,7 +81,7 @@ behind before line = refusal (check (before ++ ascii line ++ ascii "\n"))
 unfoldable pub other : List ℕ
 other = labels ++ ascii "(table t row (who name) (due num))\n"
 
-pub note-samples :
+pub note_samples :
     -- given twice, though with another label
     behind (nest ++ ascii "(weak t most)\n") "(weak t silent)"
     -- after a row
@@ -111,26 +111,26 @@ pub note-samples :
     ∷ behind visits "(row v silent (1 silent) ((2028 2 29) silent))"
     ∷ behind visits "(row v silent (1 silent) ((2027 2 29) silent))"
     ∷ []
-    ≡ refusedLine 25 (nest ++ ascii "(weak t most)\n") "(weak t silent)"
-    ∷ refusedLine 25 (nest ++ people) "(weak t most)"
-    ∷ refusedLine 25 (nest ++ people) "(strong t most)"
+    ≡ refused_line 25 (nest ++ ascii "(weak t most)\n") "(weak t silent)"
+    ∷ refused_line 25 (nest ++ people) "(weak t most)"
+    ∷ refused_line 25 (nest ++ people) "(strong t most)"
     ∷ none
-    ∷ refusedLine 25 other "(weak t most)"
-    ∷ refusedLine 25 other "(strong t most)"
-    ∷ refusedWord 5 other 6 1
-    ∷ refusedWord 5 other 8 2
+    ∷ refused_line 25 other "(weak t most)"
+    ∷ refused_line 25 other "(strong t most)"
+    ∷ refused_word 5 other 6 1
+    ∷ refused_word 5 other 8 2
     ∷ none
-    ∷ refusedWord 4 (nest ++ ascii "(public t)\n") 8 1
-    ∷ refusedWord 5 nest 7 2
-    ∷ refusedWord 5 nest 30 2
-    ∷ refusedLine 7 nest "(row t (Ida silent) (5 silent))"
-    ∷ refusedLine 7 nest "(row t silent Ida 5)"
-    ∷ refusedLine 7 nest "(row t silent (Ida silent))"
-    ∷ refusedWord 8 nest 28 1
+    ∷ refused_word 4 (nest ++ ascii "(public t)\n") 8 1
+    ∷ refused_word 5 nest 7 2
+    ∷ refused_word 5 nest 30 2
+    ∷ refused_line 7 nest "(row t (Ida silent) (5 silent))"
+    ∷ refused_line 7 nest "(row t silent Ida 5)"
+    ∷ refused_line 7 nest "(row t silent (Ida silent))"
+    ∷ refused_word 8 nest 28 1
     ∷ none
-    ∷ refusedWord 28 nest 28 5
+    ∷ refused_word 28 nest 28 5
     ∷ none
-    ∷ refusedWord 31 visits 26 11
+    ∷ refused_word 31 visits 26 11
     ∷ []
-unfolding computing labels nest people visits other refusal refusedLine refusedWord behind
-note-samples = refl
+unfolding computing labels nest people visits other refusal refused_line refused_word behind
+note_samples = refl

@@ -6,44 +6,44 @@ use mathlib.Core.Option.{Option, map, none, some}
 use mathlib.Core.Path.{◌≡◌}
 use native.Mathlib.Omega.{arith}
 use Rattle.form.specs.Form.{Form}
-use Rattle.form.specs.FormReader.{form, form_of, lineForms}
-use Rattle.text.proofs.Lefts.{before-end, drop_here}
-use Rattle.text.proofs.ReaderLaws.{byte-at-read, byte-at-refused}
+use Rattle.form.specs.FormReader.{form, form_of, line_forms}
+use Rattle.text.proofs.Lefts.{before_end, drop_here}
+use Rattle.text.proofs.ReaderLaws.{byte_at_read, byte_at_refused}
 use Rattle.text.specs.Brackets.{bracketed, keyword}
 use Rattle.text.specs.Reader.{ended, from, whole}
 
 -- no bracket opens the line
-pub line-shut : (s : List ℕ) → (get_or s 0 0 ≡ 40 → ⊥) → form_of s ≡ none
+pub line_shut : (s : List ℕ) → (get_or s 0 0 ≡ 40 → ⊥) → form_of s ≡ none
 unfolding form_of form whole ended bracketed
-line-shut s h = rw (byte-at-refused s 0 40 h)
+line_shut s h = rw (byte_at_refused s 0 40 h)
 
 module _ (s : List ℕ) (opens : get_or s 0 0 ≡ 40) where
   -- what stands in the bracket is wrong
-  pub line-wrong : keyword lineForms (from s 1) ≡ none → form_of s ≡ none
+  pub line_wrong : keyword line_forms (from s 1) ≡ none → form_of s ≡ none
   unfolding form_of form whole ended bracketed
-  line-wrong h = rw (byte-at-read s 0 40 opens, h)
+  line_wrong h = rw (byte_at_read s 0 40 opens, h)
 
   module _ (e : ℕ) where
     -- the bracket does not close where its content ends
-    pub line-open : (o : Option Form) → keyword lineForms (from s 1) ≡ map (λ f. (f, from s e)) o → (get_or s e 0 ≡ 41 → ⊥) → form_of s ≡ none
+    pub line_open : (o : Option Form) → keyword line_forms (from s 1) ≡ map (λ f. (f, from s e)) o → (get_or s e 0 ≡ 41 → ⊥) → form_of s ≡ none
     unfolding form_of form whole ended bracketed
-    line-open none h k = line-wrong h
-    line-open (some f) h k = rw (byte-at-read s 0 40 opens, h, byte-at-refused s e 41 k)
+    line_open none h k = line_wrong h
+    line_open (some f) h k = rw (byte_at_read s 0 40 opens, h, byte_at_refused s e 41 k)
 
     before : get_or s e 0 ≡ 41 → e < length s
-    before h = before-end s e (λ z. absurd (omega (arith, h, z)))
+    before h = before_end s e (λ z. absurd (omega (arith, h, z)))
 
     -- something stands behind it
-    pub line-long : (o : Option Form) → keyword lineForms (from s 1) ≡ map (λ f. (f, from s e)) o → get_or s e 0 ≡ 41 → (e + 1 ≡ length s → ⊥) → form_of s ≡ none
+    pub line_long : (o : Option Form) → keyword line_forms (from s 1) ≡ map (λ f. (f, from s e)) o → get_or s e 0 ≡ 41 → (e + 1 ≡ length s → ⊥) → form_of s ≡ none
     unfolding form_of form whole ended bracketed
-    line-long none h k z = line-wrong h
-    line-long (some f) h k z =
+    line_long none h k z = line_wrong h
+    line_long (some f) h k z =
         let b : e < length s = before k in
         let m : e + 1 < length s = omega arith in
-        rw (byte-at-read s 0 40 opens, h, byte-at-read s e 41 k, drop_here s (e + 1) m)
+        rw (byte_at_read s 0 40 opens, h, byte_at_read s e 41 k, drop_here s (e + 1) m)
 
     -- nothing does: the line is the form
-    pub line_read : (o : Option Form) → keyword lineForms (from s 1) ≡ map (λ f. (f, from s e)) o → get_or s e 0 ≡ 41 → e + 1 ≡ length s → form_of s ≡ o
+    pub line_read : (o : Option Form) → keyword line_forms (from s 1) ≡ map (λ f. (f, from s e)) o → get_or s e 0 ≡ 41 → e + 1 ≡ length s → form_of s ≡ o
     unfolding form_of form whole ended bracketed
-    line_read none h k z = line-wrong h
-    line_read (some f) h k z = rw (byte-at-read s 0 40 opens, h, byte-at-read s e 41 k, drop_of_length-le s {i = e + 1} (omega arith))
+    line_read none h k z = line_wrong h
+    line_read (some f) h k z = rw (byte_at_read s 0 40 opens, h, byte_at_read s e 41 k, drop_of_length-le s {i = e + 1} (omega arith))

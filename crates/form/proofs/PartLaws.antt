@@ -9,62 +9,62 @@ use mathlib.Core.List.{List}
 use mathlib.Core.Option.{Option, none, some}
 use mathlib.Core.Path.{◌∙◌, ◌≡◌, ap, refl, sym}
 use native.Mathlib.Omega.{arith}
-use Rattle.form.proofs.FormForward.{forward-given, forward-item, forward-kinds}
-use Rattle.form.proofs.WalkLaws.{finds-kind, givens-walk, item-labelled, item-value, items-walk, names-walk}
+use Rattle.form.proofs.FormForward.{forward_given, forward_item, forward_kinds}
+use Rattle.form.proofs.WalkLaws.{finds_kind, givens_walk, item_labelled, item_value, items_walk, names_walk}
 use Rattle.form.specs.Form.{plain}
-use Rattle.form.specs.FormReader.{givenForm, item, kinds, labelledItem, plainItem}
-use Rattle.form.specs.Walks.{givensAt, itemsAt, kind_at, names_at}
+use Rattle.form.specs.FormReader.{given_form, item, kinds, labelled_item, plain_item}
+use Rattle.form.specs.Walks.{givens_at, items_at, kind_at, names_at}
 use Rattle.lists.specs.Lists.{there}
-use Rattle.text.proofs.CodeLaws.{word_none, word-to}
-use Rattle.text.proofs.EndLaws.{end_none, end_read, then-give}
-use Rattle.text.proofs.Forward.{Forward, forward-many, forward-wordThat}
-use Rattle.text.proofs.Lefts.{before-end}
-use Rattle.text.proofs.Spaces.{next_here, next-not, optional-here, optional-not}
-use Rattle.text.proofs.WalkingLaws.{Finds, finds-word, word-within}
-use Rattle.calendar.specs.CellValues.{cellValue}
+use Rattle.text.proofs.CodeLaws.{word_none, word_to}
+use Rattle.text.proofs.EndLaws.{end_none, end_read, then_give}
+use Rattle.text.proofs.Forward.{Forward, forward_many, forward_word_that}
+use Rattle.text.proofs.Lefts.{before_end}
+use Rattle.text.proofs.Spaces.{next_here, next_not, optional_here, optional_not}
+use Rattle.text.proofs.WalkingLaws.{Finds, finds_word, word_within}
+use Rattle.calendar.specs.CellValues.{cell_value}
 use Rattle.text.specs.Brackets.{keyword, many, next, optional}
-use Rattle.text.specs.CodeEnds.{optionalOf, wordEnd}
-use Rattle.text.specs.Names.{isName}
+use Rattle.text.specs.CodeEnds.{optional_of, word_end}
+use Rattle.text.specs.Names.{is_name}
 use Rattle.text.specs.Reader.{Left, Reader, from}
-use Rattle.text.specs.Walking.{wordEndAt}
+use Rattle.text.specs.Walking.{word_end_at}
 use Rattle.text.specs.Words.{Word, name, word_at, word_of}
 use Rattle.text.specs.declared.brackets.Optional.{Optional}
-use Rattle.text.specs.declared.brackets.Optional.TheVariants as optionalName
+use Rattle.text.specs.declared.brackets.Optional.TheVariants as optional_name
 use Rattle.text.specs.declared.words.End.{End}
 use Rattle.text.specs.declared.words.End.TheVariants.{At, Nothing}
 
 -- a space stands before the end
-pub space-before : (s : List ℕ) (at : ℕ) → get_or s at 0 ≡ 32 → at < length s
-space-before s at h = before-end s at (λ z. absurd (omega (arith, h, z)))
+pub space_before : (s : List ℕ) (at : ℕ) → get_or s at 0 ≡ 32 → at < length s
+space_before s at h = before_end s at (λ z. absurd (omega (arith, h, z)))
 
 -- the word at a position in the text ends in the text
-pub word-ends : (s : List ℕ) (at : ℕ) {e : ℕ} → e ≡ at + length (word_at s at) → at ≤ length s → e ≤ length s
-unfolding wordEndAt
-word-ends s at h k = omega (arith, word-within s at k)
+pub word_ends : (s : List ℕ) (at : ℕ) {e : ℕ} → e ≡ at + length (word_at s at) → at ≤ length s → e ≤ length s
+unfolding word_end_at
+word_ends s at h k = omega (arith, word_within s at k)
 
 -- ---- an item of a row
 
 module _ (s : List ℕ) (at : ℕ) where
   -- a value ends there, or none is read
-  pub value_there : (e : ℕ) → wordEnd (cellValue (from s at)) ≡ At e → there (cellValue (from s at)) ≡ true
-  value_there e h = go (cellValue (from s at)) h
+  pub value_there : (e : ℕ) → word_end (cell_value (from s at)) ≡ At e → there (cell_value (from s at)) ≡ true
+  value_there e h = go (cell_value (from s at)) h
     where
-      go : (o : Option (Word × Left)) → wordEnd o ≡ At e → there o ≡ true
+      go : (o : Option (Word × Left)) → word_end o ≡ At e → there o ≡ true
       go none k = let z : ◌≡◌ {A = ℕ} 0 1 = cc in absurd (omega arith)
       go (some r) k = unfold there in refl
 
-  pub value-absent : wordEnd (cellValue (from s at)) ≡ Nothing → there (cellValue (from s at)) ≡ false
+  pub value_absent : word_end (cell_value (from s at)) ≡ Nothing → there (cell_value (from s at)) ≡ false
   unfolding there
-  value-absent h = ap there (end_none cellValue s at h)
+  value_absent h = ap there (end_none cell_value s at h)
 
   -- a value stands there: the item ends where it ends
-  pub item-ends : (e : ℕ) → wordEnd (cellValue (from s at)) ≡ At e → At e ≡ wordEnd (item (from s at))
-  unfolding plainItem
-  item-ends e h = sym h ∙ then-give cellValue s at plain refl ∙ sym (ap wordEnd (item-value (from s at) (value_there e h)))
+  pub item_ends : (e : ℕ) → word_end (cell_value (from s at)) ≡ At e → At e ≡ word_end (item (from s at))
+  unfolding plain_item
+  item_ends e h = sym h ∙ then_give cell_value s at plain refl ∙ sym (ap word_end (item_value (from s at) (value_there e h)))
 
   -- none does: it is `(v L)`, if it is one
-  pub item-unread : wordEnd (cellValue (from s at)) ≡ Nothing → wordEnd (item (from s at)) ≡ wordEnd (labelledItem (from s at))
-  item-unread h = ap wordEnd (item-labelled (from s at) (value-absent h))
+  pub item_unread : word_end (cell_value (from s at)) ≡ Nothing → word_end (item (from s at)) ≡ word_end (labelled_item (from s at))
+  item_unread h = ap word_end (item_labelled (from s at) (value_absent h))
 
 -- ---- words behind a space
 
@@ -76,34 +76,34 @@ pub record Behind {A : Type 0} (R : Reader A) (x : A) (s : List ℕ) (at e : ℕ
 
 module _ (s : List ℕ) (at : ℕ) {r : End} where
   -- a reader of words, whatever it makes of the word
-  behind : {A : Type 0} (R : Reader A) (what : ℕ → A) → Forward R → Finds s R what (wordEndAt s)
-      → (e : ℕ) → r ≡ wordEnd (next R (from s at)) → r ≡ At e → Behind R (what (at + 1)) s at e
+  behind : {A : Type 0} (R : Reader A) (what : ℕ → A) → Forward R → Finds s R what (word_end_at s)
+      → (e : ℕ) → r ≡ word_end (next R (from s at)) → r ≡ At e → Behind R (what (at + 1)) s at e
   behind {A} R what p f e h k = go (eqb (get_or s at 0) 32) refl
     where
       go : (t : Bool) → eqb (get_or s at 0) 32 ≡ t → Behind R (what (at + 1)) s at e
       go true z =
           let b : get_or s at 0 ≡ 32 = eqb-true _ _ z in
-          let l : at < length s = space-before s at b in
-          let x = end_read R s (at + 1) p e (sym (ap wordEnd (next_here R s at b)) ∙ sym h ∙ k) in
+          let l : at < length s = space_before s at b in
+          let x = end_read R s (at + 1) p e (sym (ap word_end (next_here R s at b)) ∙ sym h ∙ k) in
           let g = f.found (at + 1) x.0 (from s e) x.1 in
-          let q : e ≡ wordEndAt s (at + 1) = ap (λ (m : Left). m.at) g.1 in
+          let q : e ≡ word_end_at s (at + 1) = ap (λ (m : Left). m.at) g.1 in
           record {
             is = next_here R s at b ∙ x.1 ∙ ap (λ (y : A). some (y, from s e)) g.0;
             begins = l;
-            ends = omega (arith, word-within s (at + 1) (omega arith));
+            ends = omega (arith, word_within s (at + 1) (omega arith));
           }
       go false z =
-          let q : Nothing ≡ At e = sym (ap wordEnd (next-not R s at (eqb-false _ _ z))) ∙ sym h ∙ k in
+          let q : Nothing ≡ At e = sym (ap word_end (next_not R s at (eqb-false _ _ z))) ∙ sym h ∙ k in
           let n : ◌≡◌ {A = ℕ} 0 1 = cc in
           absurd (omega arith)
 
   -- a name
-  pub name-to : (e : ℕ) → r ≡ wordEnd (next name (from s at)) → r ≡ At e → Behind name (word_of s (at + 1)) s at e
-  name-to = behind name (word_of s) (forward-wordThat isName) (finds-word s isName)
+  pub name_to : (e : ℕ) → r ≡ word_end (next name (from s at)) → r ≡ At e → Behind name (word_of s (at + 1)) s at e
+  name_to = behind name (word_of s) (forward_word_that is_name) (finds_word s is_name)
 
   -- a type
-  pub kind-to : (e : ℕ) → r ≡ wordEnd (next (keyword kinds) (from s at)) → r ≡ At e → Behind (keyword kinds) (kind_at s (at + 1)) s at e
-  kind-to = behind (keyword kinds) (kind_at s) forward-kinds (finds-kind s)
+  pub kind_to : (e : ℕ) → r ≡ word_end (next (keyword kinds) (from s at)) → r ≡ At e → Behind (keyword kinds) (kind_at s (at + 1)) s at e
+  kind_to = behind (keyword kinds) (kind_at s) forward_kinds (finds_kind s)
 
 -- ---- a name that may be absent
 
@@ -121,18 +121,18 @@ module _ (s : List ℕ) (at : ℕ) where
       → P (optional name (from s at))
   shapes P absent present wrong = go (eqb (get_or s at 0) 32) refl
     where
-      after-space : get_or s at 0 ≡ 32 → (x : End) → wordEnd (name (from s (at + 1))) ≡ x → P (optional name (from s at))
-      after-space b (At e) k = rw (optional-here name s at b, word-to s (at + 1) isName e k) (present e (space-before s at b))
-      after-space b Nothing k = rw (optional-here name s at b, word_none s (at + 1) isName k) wrong
+      after_space : get_or s at 0 ≡ 32 → (x : End) → word_end (name (from s (at + 1))) ≡ x → P (optional name (from s at))
+      after_space b (At e) k = rw (optional_here name s at b, word_to s (at + 1) is_name e k) (present e (space_before s at b))
+      after_space b Nothing k = rw (optional_here name s at b, word_none s (at + 1) is_name k) wrong
 
       go : (t : Bool) → eqb (get_or s at 0) 32 ≡ t → P (optional name (from s at))
-      go true z = after-space (eqb-true _ _ z) (wordEnd (name (from s (at + 1)))) refl
-      go false z = rw (optional-not name s at (eqb-false _ _ z)) absent
+      go true z = after_space (eqb-true _ _ z) (word_end (name (from s (at + 1)))) refl
+      go false z = rw (optional_not name s at (eqb-false _ _ z)) absent
 
-module _ (s : List ℕ) (at : ℕ) {r : Optional} (h : r ≡ optionalOf (optional name (from s at))) where
-  pub optional-to : (q e : ℕ) → r ≡ optionalName.Name q e → OptionalTo s at q e
-  optional-to q e k =
-      let t = shapes s at (λ (o : Option (Option Word × Left)). optionalOf o ≡ optionalName.Name q e → (o ≡ some (some (word_of s q), from s e)) × (q ≤ length s))
+module _ (s : List ℕ) (at : ℕ) {r : Optional} (h : r ≡ optional_of (optional name (from s at))) where
+  pub optional_to : (q e : ℕ) → r ≡ optional_name.Name q e → OptionalTo s at q e
+  optional_to q e k =
+      let t = shapes s at (λ (o : Option (Option Word × Left)). optional_of o ≡ optional_name.Name q e → (o ≡ some (some (word_of s q), from s e)) × (q ≤ length s))
       (λ z. let n : ◌≡◌ {A = ℕ} 0 1 = cc in absurd (omega arith))
       (λ f l z. let a : at + 1 ≡ q = cc in let b : f ≡ e = cc in (rw (a, b), omega arith))
       (λ z. let n : ◌≡◌ {A = ℕ} 0 1 = cc in absurd (omega arith))
@@ -140,18 +140,18 @@ module _ (s : List ℕ) (at : ℕ) {r : Optional} (h : r ≡ optionalOf (optiona
       record { is = t.0; begins = t.1 }
 
   -- it is absent
-  pub optional-absent : (e : ℕ) → r ≡ optionalName.Absent e → optional name (from s at) ≡ some (none, from s e)
-  optional-absent e k =
-      shapes s at (λ (o : Option (Option Word × Left)). optionalOf o ≡ optionalName.Absent e → o ≡ some (none, from s e))
+  pub optional_absent : (e : ℕ) → r ≡ optional_name.Absent e → optional name (from s at) ≡ some (none, from s e)
+  optional_absent e k =
+      shapes s at (λ (o : Option (Option Word × Left)). optional_of o ≡ optional_name.Absent e → o ≡ some (none, from s e))
       (λ z. let a : at ≡ e = cc in rw a)
       (λ f l z. let n : ◌≡◌ {A = ℕ} 0 1 = cc in absurd (omega arith))
       (λ z. let n : ◌≡◌ {A = ℕ} 0 1 = cc in absurd (omega arith))
       (sym h ∙ k)
 
   -- something else stands behind the space
-  pub optional-wrong : r ≡ optionalName.Nothing → optional name (from s at) ≡ none
-  optional-wrong k =
-      shapes s at (λ (o : Option (Option Word × Left)). optionalOf o ≡ optionalName.Nothing → o ≡ none)
+  pub optional_wrong : r ≡ optional_name.Nothing → optional name (from s at) ≡ none
+  optional_wrong k =
+      shapes s at (λ (o : Option (Option Word × Left)). optional_of o ≡ optional_name.Nothing → o ≡ none)
       (λ z. let n : ◌≡◌ {A = ℕ} 0 1 = cc in absurd (omega arith))
       (λ f l z. let n : ◌≡◌ {A = ℕ} 0 1 = cc in absurd (omega arith))
       (λ z. refl)
@@ -160,17 +160,17 @@ module _ (s : List ℕ) (at : ℕ) {r : Optional} (h : r ≡ optionalOf (optiona
 -- ---- lists: what stands from a position on, by the walks of Walks
 
 module _ (s : List ℕ) (at : ℕ) {r : End} (e : ℕ) where
-  list-to : {A : Type 0} (R : Reader A) (xs : List A) → Forward R → ((ys : List A) (l : Left) → many R (from s at) ≡ some (ys, l) → ys ≡ xs)
-      → r ≡ wordEnd (many R (from s at)) → r ≡ At e → many R (from s at) ≡ some (xs, from s e)
-  list-to {A} R xs p walk h k =
-      let t = end_read (many R) s at (forward-many R p) e (sym h ∙ k) in
+  list_to : {A : Type 0} (R : Reader A) (xs : List A) → Forward R → ((ys : List A) (l : Left) → many R (from s at) ≡ some (ys, l) → ys ≡ xs)
+      → r ≡ word_end (many R (from s at)) → r ≡ At e → many R (from s at) ≡ some (xs, from s e)
+  list_to {A} R xs p walk h k =
+      let t = end_read (many R) s at (forward_many R p) e (sym h ∙ k) in
       t.1 ∙ ap (λ (ys : List A). some (ys, from s e)) (walk t.0 (from s e) t.1)
 
-  pub names-to : r ≡ wordEnd (many name (from s at)) → r ≡ At e → many name (from s at) ≡ some (names_at s at, from s e)
-  names-to = list-to name (names_at s at) (forward-wordThat isName) (names-walk s at)
+  pub names_to : r ≡ word_end (many name (from s at)) → r ≡ At e → many name (from s at) ≡ some (names_at s at, from s e)
+  names_to = list_to name (names_at s at) (forward_word_that is_name) (names_walk s at)
 
-  pub givens-to : r ≡ wordEnd (many givenForm (from s at)) → r ≡ At e → many givenForm (from s at) ≡ some (givensAt s at, from s e)
-  givens-to = list-to givenForm (givensAt s at) forward-given (givens-walk s at)
+  pub givens_to : r ≡ word_end (many given_form (from s at)) → r ≡ At e → many given_form (from s at) ≡ some (givens_at s at, from s e)
+  givens_to = list_to given_form (givens_at s at) forward_given (givens_walk s at)
 
-  pub items-to : r ≡ wordEnd (many item (from s at)) → r ≡ At e → many item (from s at) ≡ some (itemsAt s at, from s e)
-  items-to = list-to item (itemsAt s at) forward-item (items-walk s at)
+  pub items_to : r ≡ word_end (many item (from s at)) → r ≡ At e → many item (from s at) ≡ some (items_at s at, from s e)
+  items_to = list_to item (items_at s at) forward_item (items_walk s at)

@@ -9,22 +9,22 @@ use mathlib.Core.List.{List, ◌∷◌, map}
 use mathlib.Core.Option.{Option, none, some}
 use mathlib.Core.Path.{◌∙◌, ◌≡◌, ap, refl, sym}
 use native.Mathlib.Omega.{arith}
-use Rattle.form.proofs.FormForward.{forward-column, forward-labelledColumn}
-use Rattle.form.proofs.PartLaws.{space-before}
-use Rattle.form.proofs.WalkLaws.{columns-walk, labelled-columns-walk}
-use Rattle.form.specs.BodyPlaces.{ColumnsWithin, ReadsColumns, columnsTo, tableTo, underScheme}
-use Rattle.form.specs.Form.{ColumnForm, Form, byColumn, table}
-use Rattle.form.specs.FormReader.{column, labelledColumn, labelledColumns, plainColumns, schemes}
-use Rattle.form.specs.TableWords.{columnWords, schemeWords}
-use Rattle.form.specs.Walks.{columnFormsAt}
+use Rattle.form.proofs.FormForward.{forward_column, forward_labelled_column}
+use Rattle.form.proofs.PartLaws.{space_before}
+use Rattle.form.proofs.WalkLaws.{columns_walk, labelled_columns_walk}
+use Rattle.form.specs.BodyPlaces.{ColumnsWithin, ReadsColumns, columns_to, table_to, under_scheme}
+use Rattle.form.specs.Form.{ColumnForm, Form, by_column, table}
+use Rattle.form.specs.FormReader.{column, labelled_column, labelled_columns, plain_columns, schemes}
+use Rattle.form.specs.TableWords.{column_words, scheme_words}
+use Rattle.form.specs.Walks.{column_forms_at}
 use Rattle.text.proofs.EndLaws.{end_none, end_read}
-use Rattle.text.proofs.Forward.{Forward, forward-many}
-use Rattle.text.proofs.Lefts.{first-drop}
-use Rattle.text.proofs.ManyLaws.{many-step}
-use Rattle.text.proofs.Spaces.{next-not}
+use Rattle.text.proofs.Forward.{Forward, forward_many}
+use Rattle.text.proofs.Lefts.{first_drop}
+use Rattle.text.proofs.ManyLaws.{many_step}
+use Rattle.text.proofs.Spaces.{next_not}
 use Rattle.text.specs.Brackets.{keyword, many, next}
-use Rattle.text.specs.CodeEnds.{wordEnd}
-use Rattle.text.specs.Reader.{Left, Reader, ◌>>=◌, and_then, from, give, ifNext}
+use Rattle.text.specs.CodeEnds.{word_end}
+use Rattle.text.specs.Reader.{Left, Reader, ◌>>=◌, and_then, from, give, if_next}
 use Rattle.text.specs.Words.{Word}
 use Rattle.form.specs.declared.lines.Columns.{Columns}
 use Rattle.form.specs.declared.lines.Columns.TheVariants as columns
@@ -37,13 +37,13 @@ use Rattle.text.specs.declared.words.End.TheVariants.{At, Nothing}
 
 module _ {A B : Type 0} (R : Reader A) (f : List A → B) (s : List ℕ) (at : ℕ) where
   -- one item and then a list, as what is made of a list that is not empty
-  abbrev oneOrMore : Option (B × Left)
-  oneOrMore = and_then (next R (from s at)) (λ x. many R >>= (λ xs. give (f (x ∷ xs))))
+  abbrev one_or_more : Option (B × Left)
+  one_or_more = and_then (next R (from s at)) (λ x. many R >>= (λ xs. give (f (x ∷ xs))))
 
   -- where a space stands they are what a list is
-  one-or-more : Forward R → get_or s at 0 ≡ 32 → oneOrMore ≡ and_then (many R (from s at)) (λ xs. give (f xs))
-  unfolding ifNext
-  one-or-more p h = rw (many-step (λ a. 0) R p (from s at), first-drop s at, eq-eqb _ _ h) (first (next R (from s at)))
+  one_or_more_lem : Forward R → get_or s at 0 ≡ 32 → one_or_more ≡ and_then (many R (from s at)) (λ xs. give (f xs))
+  unfolding if_next
+  one_or_more_lem p h = rw (many_step (λ a. 0) R p (from s at), first_drop s at, eq-eqb _ _ h) (first (next R (from s at)))
     where
       rest : (x : A) (o : Option (List A × Left)) → and_then o (λ xs. give (f (x ∷ xs))) ≡ and_then (and_then o (λ xs. give (x ∷ xs))) (λ xs. give (f xs))
       rest x none = refl
@@ -54,51 +54,51 @@ module _ {A B : Type 0} (R : Reader A) (f : List A → B) (s : List ℕ) (at : �
       first (some r) = rest r.0 (many R r.1)
 
   -- elsewhere there is none
-  one-not : (get_or s at 0 ≡ 32 → ⊥) → oneOrMore ≡ none
-  one-not h = rw (next-not R s at h)
+  one_not : (get_or s at 0 ≡ 32 → ⊥) → one_or_more ≡ none
+  one_not h = rw (next_not R s at h)
 
 -- ---- columns, one at least
 
 module _ (s : List ℕ) (at e : ℕ) (k : coded.Scheme) (l : ℕ) {A : Type 0} (R : Reader A) (p : Forward R) (make : Word → List A → Form) where
   -- the code's answer for a table of columns that R reads: the keyword is followed by one column or more, and what is made of
   -- the columns that stand there is the table
-  columns-read : (r : End) {q : Columns} → q ≡ underScheme s k l e r → r ≡ wordEnd (many R (from s e))
-      → ((t : Word) (xs : List A) (g : ℕ) → many R (from s e) ≡ some (xs, from s g) → make t xs ≡ table t (schemeWords s k l e) (columnWords s k e))
+  columns_read : (r : End) {q : Columns} → q ≡ under_scheme s k l e r → r ≡ word_end (many R (from s e))
+      → ((t : Word) (xs : List A) (g : ℕ) → many R (from s e) ≡ some (xs, from s g) → make t xs ≡ table t (scheme_words s k l e) (column_words s k e))
       → l ≤ length s
-      → ((t : Word) → keyword (schemes t) (from s at) ≡ oneOrMore R (make t) s e)
+      → ((t : Word) → keyword (schemes t) (from s at) ≡ one_or_more R (make t) s e)
       → ReadsColumns s at q
-  unfolding underScheme columnsTo tableTo ColumnsWithin
-  columns-read r {q} h c made w called = go (eqb (get_or s e 0) 32) refl r refl
+  unfolding under_scheme columns_to table_to ColumnsWithin
+  columns_read r {q} h c made w called = go (eqb (get_or s e 0) 32) refl r refl
     where
       go : (b : Bool) → eqb (get_or s e 0) 32 ≡ b → (x : End) → r ≡ x → ReadsColumns s at q
       go true z (At g) y =
           let b : get_or s e 0 ≡ 32 = eqb-true _ _ z in
-          let x = end_read (many R) s e (forward-many R p) g (sym c ∙ y) in
+          let x = end_read (many R) s e (forward_many R p) g (sym c ∙ y) in
           let answered : q ≡ columns.At k l e g = h ∙ rw (z, y) in
-          rw answered (record { is = λ t. called t ∙ one-or-more R (make t) s e p b ∙ rw (x.1, made t x.0 g x.1); within = (w, omega (arith, space-before s e b)) })
+          rw answered (record { is = λ t. called t ∙ one_or_more_lem R (make t) s e p b ∙ rw (x.1, made t x.0 g x.1); within = (w, omega (arith, space_before s e b)) })
       go true z Nothing y =
           let wrong : q ≡ columns.Refused = h ∙ rw (z, y) in
-          rw wrong (record { is = λ t. called t ∙ one-or-more R (make t) s e p (eqb-true _ _ z) ∙ rw (end_none (many R) s e (sym c ∙ y)); within = tt })
+          rw wrong (record { is = λ t. called t ∙ one_or_more_lem R (make t) s e p (eqb-true _ _ z) ∙ rw (end_none (many R) s e (sym c ∙ y)); within = tt })
       go false z x y =
           let wrong : q ≡ columns.Refused = h ∙ rw z in
-          rw wrong (record { is = λ t. called t ∙ one-not R (make t) s e (eqb-false _ _ z); within = tt })
+          rw wrong (record { is = λ t. called t ∙ one_not R (make t) s e (eqb-false _ _ z); within = tt })
 
 module _ (s : List ℕ) (at e : ℕ) where
   -- plain columns, for every scheme but by column
-  pub plain-table : (k : coded.Scheme) (l : ℕ) (r : End) {q : Columns} → q ≡ underScheme s k l e r → r ≡ wordEnd (many column (from s e))
-      → columnWords s k e ≡ columnFormsAt s e → l ≤ length s
-      → ((t : Word) → keyword (schemes t) (from s at) ≡ plainColumns t (schemeWords s k l e) (from s e))
+  pub plain_table : (k : coded.Scheme) (l : ℕ) (r : End) {q : Columns} → q ≡ under_scheme s k l e r → r ≡ word_end (many column (from s e))
+      → column_words s k e ≡ column_forms_at s e → l ≤ length s
+      → ((t : Word) → keyword (schemes t) (from s at) ≡ plain_columns t (scheme_words s k l e) (from s e))
       → ReadsColumns s at q
-  unfolding plainColumns
-  plain-table k l r h c cs w called =
-      columns-read s at e k l column forward-column (λ t xs. table t (schemeWords s k l e) xs) r h c
-      (λ t xs g is. ap (λ (ys : List ColumnForm). table t (schemeWords s k l e) ys) (columns-walk s e xs (from s g) is ∙ sym cs)) w called
+  unfolding plain_columns
+  plain_table k l r h c cs w called =
+      columns_read s at e k l column forward_column (λ t xs. table t (scheme_words s k l e) xs) r h c
+      (λ t xs g is. ap (λ (ys : List ColumnForm). table t (scheme_words s k l e) ys) (columns_walk s e xs (from s g) is ∙ sym cs)) w called
 
   -- columns with a label at each
-  pub labelled-table : (r : End) {q : Columns} → q ≡ underScheme s scheme.ByColumn 0 e r → r ≡ wordEnd (many labelledColumn (from s e))
-      → ((t : Word) → keyword (schemes t) (from s at) ≡ labelledColumns t (from s e))
+  pub labelled_table : (r : End) {q : Columns} → q ≡ under_scheme s scheme.ByColumn 0 e r → r ≡ word_end (many labelled_column (from s e))
+      → ((t : Word) → keyword (schemes t) (from s at) ≡ labelled_columns t (from s e))
       → ReadsColumns s at q
-  unfolding labelledColumns schemeWords columnWords
-  labelled-table r h c called =
-      columns-read s at e scheme.ByColumn 0 labelledColumn forward-labelledColumn (λ t xs. table t (byColumn (map (λ x. x.1) xs)) (map (λ x. x.0) xs)) r h c
-      (λ t xs g is. let w = labelled-columns-walk s e xs (from s g) is in rw (w.0, w.1)) (omega arith) called
+  unfolding labelled_columns scheme_words column_words
+  labelled_table r h c called =
+      columns_read s at e scheme.ByColumn 0 labelled_column forward_labelled_column (λ t xs. table t (by_column (map (λ x. x.1) xs)) (map (λ x. x.0) xs)) r h c
+      (λ t xs g is. let w = labelled_columns_walk s e xs (from s g) is in rw (w.0, w.1)) (omega arith) called

@@ -6,137 +6,137 @@ use mathlib.Core.Bool.{false, true}
 use mathlib.Core.List.{List, [], ◌∷◌}
 use mathlib.Core.Path.{◌≡◌}
 use native.Mathlib.Omega.{arith}
-use Rattle.form.proofs.WalkLaws.{cell-onward, item-onward, item-within, pair-onward, pair-within, triple-onward, triple-within, walk_more, walk-stop}
+use Rattle.form.proofs.WalkLaws.{cell_onward, item_onward, item_within, pair_onward, pair_within, triple_onward, triple_within, walk_more, walk_stop}
 use Rattle.form.specs.Form.{labelled, plain}
-use Rattle.form.specs.Walks.{cell_at, cellEndAt, cellLabelIn, cellsAt, columnAt, columnFormsAt, columnLabelAt, columnLabelsAt, firstIn, givenAt, givensAt, isLabelledAt, item_at, itemEndAt, itemsAt, labelledColumnsAt, names_at, pairEndAt, plainAt, tripleEndAt, valuePlace}
-use Rattle.text.proofs.Closings.{value-onward}
-use Rattle.text.proofs.WalkingLaws.{word-forward, word-within}
-use Rattle.text.specs.Walking.{wordEndAt, writtenEndAt}
+use Rattle.form.specs.Walks.{cell_at, cell_end_at, cell_label_in, cells_at, column_at, column_forms_at, column_label_at, column_labels_at, first_in, given_at, givens_at, is_labelled_at, item_at, item_end_at, items_at, labelled_columns_at, names_at, pair_end_at, plain_at, triple_end_at, value_place}
+use Rattle.text.proofs.Closings.{value_onward}
+use Rattle.text.proofs.WalkingLaws.{word_forward, word_within}
+use Rattle.text.specs.Walking.{word_end_at, written_end_at}
 use Rattle.text.specs.Words.{word_of, written_of}
 
 -- ---- a turn goes on, and stays within the text: for each kind of end
 
 module _ (s : List ℕ) (at : ℕ) where
-  pub word_after : at < wordEndAt s (at + 1)
-  word_after = omega (arith, word-forward s (at + 1))
+  pub word_after : at < word_end_at s (at + 1)
+  word_after = omega (arith, word_forward s (at + 1))
 
-  pub word-inside : at < length s → wordEndAt s (at + 1) ≤ length s
-  word-inside h = word-within s (at + 1) (omega arith)
+  pub word_inside : at < length s → word_end_at s (at + 1) ≤ length s
+  word_inside h = word_within s (at + 1) (omega arith)
 
-  pub pair-after : at < pairEndAt s (at + 1)
-  pair-after = omega (arith, pair-onward s (at + 1))
+  pub pair_after : at < pair_end_at s (at + 1)
+  pair_after = omega (arith, pair_onward s (at + 1))
 
-  pub pair_inside : at < length s → pairEndAt s (at + 1) ≤ length s
-  pair_inside h = pair-within s (at + 1) (omega arith)
+  pub pair_inside : at < length s → pair_end_at s (at + 1) ≤ length s
+  pair_inside h = pair_within s (at + 1) (omega arith)
 
-  pub triple-after : at < tripleEndAt s (at + 1)
-  triple-after = omega (arith, triple-onward s (at + 1))
+  pub triple_after : at < triple_end_at s (at + 1)
+  triple_after = omega (arith, triple_onward s (at + 1))
 
-  pub triple-inside : at < length s → tripleEndAt s (at + 1) ≤ length s
-  triple-inside h = triple-within s (at + 1) (omega arith)
+  pub triple_inside : at < length s → triple_end_at s (at + 1) ≤ length s
+  triple_inside h = triple_within s (at + 1) (omega arith)
 
-  pub value_after : at < writtenEndAt s (at + 1)
-  value_after = omega (arith, value-onward s (at + 1))
+  pub value_after : at < written_end_at s (at + 1)
+  value_after = omega (arith, value_onward s (at + 1))
 
-  pub cell-after : at < cellEndAt s (at + 1)
-  cell-after = omega (arith, cell-onward s (at + 1))
+  pub cell_after : at < cell_end_at s (at + 1)
+  cell_after = omega (arith, cell_onward s (at + 1))
 
-  pub item-after : at < itemEndAt s (at + 1)
-  item-after = omega (arith, item-onward s (at + 1))
+  pub item_after : at < item_end_at s (at + 1)
+  item_after = omega (arith, item_onward s (at + 1))
 
-  pub item-inside : at < length s → itemEndAt s (at + 1) ≤ length s
-  item-inside h = item-within s (at + 1) (omega arith)
+  pub item_inside : at < length s → item_end_at s (at + 1) ≤ length s
+  item_inside h = item_within s (at + 1) (omega arith)
 
 -- ---- an item of a row
 
 module _ (s : List ℕ) (at : ℕ) where
-  pub item-bracket : isLabelledAt s at ≡ true → item_at s at ≡ labelled (written_of s (firstIn s at)) (word_of s (cellLabelIn s at))
+  pub item_bracket : is_labelled_at s at ≡ true → item_at s at ≡ labelled (written_of s (first_in s at)) (word_of s (cell_label_in s at))
   unfolding item_at
-  item-bracket e = rw e
+  item_bracket e = rw e
 
-  pub item-plain : isLabelledAt s at ≡ false → item_at s at ≡ plain (written_of s at)
+  pub item_plain : is_labelled_at s at ≡ false → item_at s at ≡ plain (written_of s at)
   unfolding item_at
-  item-plain e = rw e
+  item_plain e = rw e
 
-  pub place-bracket : isLabelledAt s at ≡ true → valuePlace s at ≡ firstIn s at
-  unfolding valuePlace
-  place-bracket e = rw e
+  pub place_bracket : is_labelled_at s at ≡ true → value_place s at ≡ first_in s at
+  unfolding value_place
+  place_bracket e = rw e
 
-  pub place-plain : isLabelledAt s at ≡ false → valuePlace s at ≡ at
-  unfolding valuePlace
-  place-plain e = rw e
+  pub place_plain : is_labelled_at s at ≡ false → value_place s at ≡ at
+  unfolding value_place
+  place_plain e = rw e
 
-  pub item-bracket-end : isLabelledAt s at ≡ true → itemEndAt s at ≡ cellEndAt s at
-  unfolding itemEndAt
-  item-bracket-end e = rw e
+  pub item_bracket_end : is_labelled_at s at ≡ true → item_end_at s at ≡ cell_end_at s at
+  unfolding item_end_at
+  item_bracket_end e = rw e
 
-  pub item-plain-end : isLabelledAt s at ≡ false → itemEndAt s at ≡ writtenEndAt s at
-  unfolding itemEndAt
-  item-plain-end e = rw e
+  pub item_plain_end : is_labelled_at s at ≡ false → item_end_at s at ≡ written_end_at s at
+  unfolding item_end_at
+  item_plain_end e = rw e
 
 -- ---- the lists
 
 module _ (s : List ℕ) (at : ℕ) where
-  pub names_more : get_or s at 0 ≡ 32 → names_at s at ≡ word_of s (at + 1) ∷ names_at s (wordEndAt s (at + 1))
+  pub names_more : get_or s at 0 ≡ 32 → names_at s at ≡ word_of s (at + 1) ∷ names_at s (word_end_at s (at + 1))
   unfolding names_at
-  names_more h = walk_more word_of wordEndAt s (word-forward s) at h
+  names_more h = walk_more word_of word_end_at s (word_forward s) at h
 
-  pub names-stop : (get_or s at 0 ≡ 32 → ⊥) → names_at s at ≡ []
+  pub names_stop : (get_or s at 0 ≡ 32 → ⊥) → names_at s at ≡ []
   unfolding names_at
-  names-stop h = walk-stop word_of wordEndAt s (word-forward s) at h
+  names_stop h = walk_stop word_of word_end_at s (word_forward s) at h
 
-  pub givens-more : get_or s at 0 ≡ 32 → givensAt s at ≡ givenAt s (at + 1) ∷ givensAt s (pairEndAt s (at + 1))
-  unfolding givensAt
-  givens-more h = walk_more givenAt pairEndAt s (pair-onward s) at h
+  pub givens_more : get_or s at 0 ≡ 32 → givens_at s at ≡ given_at s (at + 1) ∷ givens_at s (pair_end_at s (at + 1))
+  unfolding givens_at
+  givens_more h = walk_more given_at pair_end_at s (pair_onward s) at h
 
-  pub givens-stop : (get_or s at 0 ≡ 32 → ⊥) → givensAt s at ≡ []
-  unfolding givensAt
-  givens-stop h = walk-stop givenAt pairEndAt s (pair-onward s) at h
+  pub givens_stop : (get_or s at 0 ≡ 32 → ⊥) → givens_at s at ≡ []
+  unfolding givens_at
+  givens_stop h = walk_stop given_at pair_end_at s (pair_onward s) at h
 
-  pub columns-more : get_or s at 0 ≡ 32 → columnFormsAt s at ≡ columnAt s (at + 1) ∷ columnFormsAt s (pairEndAt s (at + 1))
-  unfolding columnFormsAt
-  columns-more h = walk_more columnAt pairEndAt s (pair-onward s) at h
+  pub columns_more : get_or s at 0 ≡ 32 → column_forms_at s at ≡ column_at s (at + 1) ∷ column_forms_at s (pair_end_at s (at + 1))
+  unfolding column_forms_at
+  columns_more h = walk_more column_at pair_end_at s (pair_onward s) at h
 
-  pub columns-stop : (get_or s at 0 ≡ 32 → ⊥) → columnFormsAt s at ≡ []
-  unfolding columnFormsAt
-  columns-stop h = walk-stop columnAt pairEndAt s (pair-onward s) at h
+  pub columns_stop : (get_or s at 0 ≡ 32 → ⊥) → column_forms_at s at ≡ []
+  unfolding column_forms_at
+  columns_stop h = walk_stop column_at pair_end_at s (pair_onward s) at h
 
-  pub labelled-columns-more : get_or s at 0 ≡ 32 → labelledColumnsAt s at ≡ columnAt s (at + 1) ∷ labelledColumnsAt s (tripleEndAt s (at + 1))
-  unfolding labelledColumnsAt
-  labelled-columns-more h = walk_more columnAt tripleEndAt s (triple-onward s) at h
+  pub labelled_columns_more : get_or s at 0 ≡ 32 → labelled_columns_at s at ≡ column_at s (at + 1) ∷ labelled_columns_at s (triple_end_at s (at + 1))
+  unfolding labelled_columns_at
+  labelled_columns_more h = walk_more column_at triple_end_at s (triple_onward s) at h
 
-  pub labelled-columns-stop : (get_or s at 0 ≡ 32 → ⊥) → labelledColumnsAt s at ≡ []
-  unfolding labelledColumnsAt
-  labelled-columns-stop h = walk-stop columnAt tripleEndAt s (triple-onward s) at h
+  pub labelled_columns_stop : (get_or s at 0 ≡ 32 → ⊥) → labelled_columns_at s at ≡ []
+  unfolding labelled_columns_at
+  labelled_columns_stop h = walk_stop column_at triple_end_at s (triple_onward s) at h
 
-  pub column-labels-more : get_or s at 0 ≡ 32 → columnLabelsAt s at ≡ columnLabelAt s (at + 1) ∷ columnLabelsAt s (tripleEndAt s (at + 1))
-  unfolding columnLabelsAt
-  column-labels-more h = walk_more columnLabelAt tripleEndAt s (triple-onward s) at h
+  pub column_labels_more : get_or s at 0 ≡ 32 → column_labels_at s at ≡ column_label_at s (at + 1) ∷ column_labels_at s (triple_end_at s (at + 1))
+  unfolding column_labels_at
+  column_labels_more h = walk_more column_label_at triple_end_at s (triple_onward s) at h
 
-  pub column-labels-stop : (get_or s at 0 ≡ 32 → ⊥) → columnLabelsAt s at ≡ []
-  unfolding columnLabelsAt
-  column-labels-stop h = walk-stop columnLabelAt tripleEndAt s (triple-onward s) at h
+  pub column_labels_stop : (get_or s at 0 ≡ 32 → ⊥) → column_labels_at s at ≡ []
+  unfolding column_labels_at
+  column_labels_stop h = walk_stop column_label_at triple_end_at s (triple_onward s) at h
 
-  pub items_more : get_or s at 0 ≡ 32 → itemsAt s at ≡ item_at s (at + 1) ∷ itemsAt s (itemEndAt s (at + 1))
-  unfolding itemsAt
-  items_more h = walk_more item_at itemEndAt s (item-onward s) at h
+  pub items_more : get_or s at 0 ≡ 32 → items_at s at ≡ item_at s (at + 1) ∷ items_at s (item_end_at s (at + 1))
+  unfolding items_at
+  items_more h = walk_more item_at item_end_at s (item_onward s) at h
 
-  pub items-stop : (get_or s at 0 ≡ 32 → ⊥) → itemsAt s at ≡ []
-  unfolding itemsAt
-  items-stop h = walk-stop item_at itemEndAt s (item-onward s) at h
+  pub items_stop : (get_or s at 0 ≡ 32 → ⊥) → items_at s at ≡ []
+  unfolding items_at
+  items_stop h = walk_stop item_at item_end_at s (item_onward s) at h
 
-  pub plain_more : get_or s at 0 ≡ 32 → plainAt s at ≡ written_of s (at + 1) ∷ plainAt s (writtenEndAt s (at + 1))
-  unfolding plainAt
-  plain_more h = walk_more written_of writtenEndAt s (value-onward s) at h
+  pub plain_more : get_or s at 0 ≡ 32 → plain_at s at ≡ written_of s (at + 1) ∷ plain_at s (written_end_at s (at + 1))
+  unfolding plain_at
+  plain_more h = walk_more written_of written_end_at s (value_onward s) at h
 
-  pub plain-stop : (get_or s at 0 ≡ 32 → ⊥) → plainAt s at ≡ []
-  unfolding plainAt
-  plain-stop h = walk-stop written_of writtenEndAt s (value-onward s) at h
+  pub plain_stop : (get_or s at 0 ≡ 32 → ⊥) → plain_at s at ≡ []
+  unfolding plain_at
+  plain_stop h = walk_stop written_of written_end_at s (value_onward s) at h
 
-  pub cells-more : get_or s at 0 ≡ 32 → cellsAt s at ≡ cell_at s (at + 1) ∷ cellsAt s (cellEndAt s (at + 1))
-  unfolding cellsAt
-  cells-more h = walk_more cell_at cellEndAt s (cell-onward s) at h
+  pub cells_more : get_or s at 0 ≡ 32 → cells_at s at ≡ cell_at s (at + 1) ∷ cells_at s (cell_end_at s (at + 1))
+  unfolding cells_at
+  cells_more h = walk_more cell_at cell_end_at s (cell_onward s) at h
 
-  pub cells-stop : (get_or s at 0 ≡ 32 → ⊥) → cellsAt s at ≡ []
-  unfolding cellsAt
-  cells-stop h = walk-stop cell_at cellEndAt s (cell-onward s) at h
+  pub cells_stop : (get_or s at 0 ≡ 32 → ⊥) → cells_at s at ≡ []
+  unfolding cells_at
+  cells_stop h = walk_stop cell_at cell_end_at s (cell_onward s) at h

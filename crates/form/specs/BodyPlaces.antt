@@ -5,7 +5,7 @@ use Rattle.std.proofs.Math.Option.{Option, map, none, some}
 use Rattle.form.specs.Form.{Form, table}
 use Rattle.form.specs.FormReader.{schemes}
 use Rattle.form.specs.Places.{Within, line_at}
-use Rattle.form.specs.TableWords.{columnWords, schemeWords}
+use Rattle.form.specs.TableWords.{column_words, scheme_words}
 use Rattle.form.specs.Walks.{names_at}
 use Rattle.text.specs.Brackets.{keyword}
 use Rattle.text.specs.Reader.{Left, from}
@@ -51,18 +51,18 @@ pub record ReadsSet (s : List ℕ) (o : Option (List Word × Left)) (r : Set) : 
   pub within : SetWithin s r
 
 -- columns of a scheme, the table's label at l, from a position to an end
-unfoldable pub columnsTo : coded.Scheme → ℕ → ℕ → End → Columns
-columnsTo k l at Nothing = columns.Refused
-columnsTo k l at (At e) = columns.At k l at e
+unfoldable pub columns_to : coded.Scheme → ℕ → ℕ → End → Columns
+columns_to k l at Nothing = columns.Refused
+columns_to k l at (At e) = columns.At k l at e
 
 -- the same, one column at least: a space stands before the first
-unfoldable pub underScheme : List ℕ → coded.Scheme → ℕ → ℕ → End → Columns
-underScheme s k l at r = cond (eqb (get_or s at 0) 32) (columnsTo k l at r) columns.Refused
+unfoldable pub under_scheme : List ℕ → coded.Scheme → ℕ → ℕ → End → Columns
+under_scheme s k l at r = cond (eqb (get_or s at 0) 32) (columns_to k l at r) columns.Refused
 
 -- a table with the name t, by the code's answer for its scheme and columns
-unfoldable pub tableTo : List ℕ → Word → Columns → Option (Form × Left)
-tableTo s t columns.Refused = none
-tableTo s t (columns.At k l cs e) = some (table t (schemeWords s k l cs) (columnWords s k cs), from s e)
+unfoldable pub table_to : List ℕ → Word → Columns → Option (Form × Left)
+table_to s t columns.Refused = none
+table_to s t (columns.At k l cs e) = some (table t (scheme_words s k l cs) (column_words s k cs), from s e)
 
 -- the places of a table's label and columns lie in the line
 unfoldable pub ColumnsWithin : List ℕ → Columns → Type 0
@@ -71,5 +71,5 @@ ColumnsWithin s (columns.At k l cs e) = (l ≤ length s) × (cs ≤ length s)
 
 -- the code's answer r stands for what the reader of a scheme and columns gives, whatever the table's name
 pub record ReadsColumns (s : List ℕ) (at : ℕ) (r : Columns) : Type 0 where
-  pub is : (t : Word) → keyword (schemes t) (from s at) ≡ tableTo s t r
+  pub is : (t : Word) → keyword (schemes t) (from s at) ≡ table_to s t r
   pub within : ColumnsWithin s r

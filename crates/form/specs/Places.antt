@@ -3,11 +3,11 @@
 use Rattle.std.specs.Prelude.{◌≤◌, ℕ, length, List, ◌≡◌}
 use Rattle.std.proofs.Math.Option.{Option, map, none, some}
 use Rattle.condition.specs.Answers.{kind_of}
-use Rattle.condition.specs.CondForm.{conditionInForm}
-use Rattle.form.specs.Form.{Form, attr, condRole, grant, label, note, public, purpose, role, row, strong, user, weak}
+use Rattle.condition.specs.CondForm.{condition_in_form}
+use Rattle.form.specs.Form.{Form, attr, cond_role, grant, label, note, public, purpose, role, row, strong, user, weak}
 use Rattle.form.specs.FormReader.{form_of}
-use Rattle.form.specs.TableWords.{tableLine}
-use Rattle.form.specs.Walks.{denyPlace, givensAt, itemsAt, names_at}
+use Rattle.form.specs.TableWords.{table_line}
+use Rattle.form.specs.Walks.{deny_place, givens_at, items_at, names_at}
 use Rattle.text.specs.Reader.{from}
 use Rattle.text.specs.Words.{word_of}
 use Rattle.form.specs.declared.lines.Line.{Line}
@@ -21,12 +21,12 @@ line_at s (line.PurposeBelow n p) = some (purpose (word_of s n) (some (word_of s
 line_at s (line.Role n) = some (role (word_of s n) none)
 line_at s (line.RoleBelow n p) = some (role (word_of s n) (some (word_of s p)))
 line_at s (line.Attr r a k) = some (attr (word_of s r) (word_of s a) (kind_of k))
-line_at s (line.User u r gs) = some (user (word_of s u) (word_of s r) (givensAt s gs))
-line_at s (line.CondRole c r t) = map (λ x. condRole (word_of s c) (word_of s r) x.0) (conditionInForm (from s t))
+line_at s (line.User u r gs) = some (user (word_of s u) (word_of s r) (givens_at s gs))
+line_at s (line.CondRole c r t) = map (λ x. cond_role (word_of s c) (word_of s r) x.0) (condition_in_form (from s t))
 line_at s (line.Grant p c) = some (grant (word_of s p) (word_of s c))
 line_at s (line.Label l ps qs) = some (label (word_of s l) (names_at s ps) (names_at s qs))
-line_at s (line.Table t k l cs) = some (tableLine s t k l cs)
-line_at s (line.Row t is) = some (row (word_of s t) (itemsAt s is))
+line_at s (line.Table t k l cs) = some (table_line s t k l cs)
+line_at s (line.Row t is) = some (row (word_of s t) (items_at s is))
 line_at s (line.Public t) = some (note (word_of s t) public)
 line_at s (line.Weak t l) = some (note (word_of s t) (weak (word_of s l)))
 line_at s (line.Strong t l) = some (note (word_of s t) (strong (word_of s l)))
@@ -42,7 +42,7 @@ Within s (line.Attr r a k) = (r ≤ length s) × (a ≤ length s)
 Within s (line.User u r gs) = (u ≤ length s) × (r ≤ length s) × (gs ≤ length s)
 Within s (line.CondRole c r t) = (c ≤ length s) × (r ≤ length s) × (t ≤ length s)
 Within s (line.Grant p c) = (p ≤ length s) × (c ≤ length s)
-Within s (line.Label l ps qs) = (l ≤ length s) × (ps ≤ length s) × (qs ≤ length s) × (names_at s qs ≡ names_at s (denyPlace s l))
+Within s (line.Label l ps qs) = (l ≤ length s) × (ps ≤ length s) × (qs ≤ length s) × (names_at s qs ≡ names_at s (deny_place s l))
 Within s (line.Table t k l cs) = (t ≤ length s) × (l ≤ length s) × (cs ≤ length s)
 Within s (line.Row t is) = (t ≤ length s) × (is ≤ length s)
 Within s (line.Public t) = t ≤ length s

@@ -3,10 +3,10 @@ ghost use Rattle.std.specs.Prelude.{◌≡◌};
 ghost use Rattle.text.specs.Brackets.{keyword, next};
 ghost use Rattle.text.specs.Reader.{from};
 ghost use Rattle.form.specs.Form.{purpose, role, strong, weak};
-ghost use Rattle.form.specs.FormReader.{attrForm, condRoleForm, grantForm, labelForm, labelNote, lineForms, node, publicForm, purposeSet, rowForm, tableForm, userForm};
-ghost use Rattle.form.specs.BodyPlaces.{ReadsBody, ReadsColumns, ReadsSet, underScheme};
+ghost use Rattle.form.specs.FormReader.{attr_form, cond_role_form, grant_form, label_form, label_note, line_forms, node, public_form, purpose_set, row_form, table_form, user_form};
+ghost use Rattle.form.specs.BodyPlaces.{ReadsBody, ReadsColumns, ReadsSet, under_scheme};
 ghost use Rattle.form.specs.Places.{Reads};
-ghost use Rattle.form.specs.TableWords.{labelsColumns};
+ghost use Rattle.form.specs.TableWords.{labels_columns};
 
 use crate::parts::{columns_end, givens_end, items_end, kind_end, labelled_columns_end};
 use condition::conditions::{Read, read_condition};
@@ -28,7 +28,7 @@ pub enum Scheme {
 
 // Whether the labels of a table of this scheme stand at its columns.
 pub fn labels_columns(s: Scheme) -> bool
-    ensures { result ≡ labelsColumns s }
+    ensures { result ≡ labels_columns s }
 {
     match s {
         Scheme::Unlabelled => false,
@@ -117,7 +117,7 @@ fn role_body(s: &[u8], at: usize) -> Body
 
 // `ROLE A num`.
 fn attr_body(s: &[u8], at: usize) -> Body
-    ensures { ReadsBody s.now (attrForm (from s.now at)) result }
+    ensures { ReadsBody s.now (attr_form (from s.now at)) result }
 {
     let n = spaced_name_end(s, at);
     let End::At(e) = n else {
@@ -139,7 +139,7 @@ fn attr_body(s: &[u8], at: usize) -> Body
 
 // `U ROLE (A v) ..`.
 fn user_body(s: &[u8], at: usize) -> Body
-    ensures { ReadsBody s.now (userForm (from s.now at)) result }
+    ensures { ReadsBody s.now (user_form (from s.now at)) result }
 {
     let n = spaced_name_end(s, at);
     let End::At(e) = n else {
@@ -158,7 +158,7 @@ fn user_body(s: &[u8], at: usize) -> Body
 
 // `C ROLE cond`.
 fn cond_role_body(s: &[u8], at: usize) -> Body
-    ensures { ReadsBody s.now (condRoleForm (from s.now at)) result }
+    ensures { ReadsBody s.now (cond_role_form (from s.now at)) result }
 {
     let n = spaced_name_end(s, at);
     let End::At(e) = n else {
@@ -181,7 +181,7 @@ fn cond_role_body(s: &[u8], at: usize) -> Body
 
 // `PURPOSE C`.
 fn grant_body(s: &[u8], at: usize) -> Body
-    ensures { ReadsBody s.now (grantForm (from s.now at)) result }
+    ensures { ReadsBody s.now (grant_form (from s.now at)) result }
 {
     let n = spaced_name_end(s, at);
     let End::At(e) = n else {
@@ -196,7 +196,7 @@ fn grant_body(s: &[u8], at: usize) -> Body
 
 // `(allow P ..)` or `(deny P ..)`, the keyword being k, behind a space.
 fn read_set(s: &[u8], at: usize, k: &[u8]) -> Set
-    ensures { ReadsSet s.now (next (purposeSet k.now) (from s.now at)) result }
+    ensures { ReadsSet s.now (next (purpose_set k.now) (from s.now at)) result }
 {
     if byte_at(s, at) != b' ' {
         return Set::Refused;
@@ -222,7 +222,7 @@ fn read_set(s: &[u8], at: usize, k: &[u8]) -> Set
 
 // `L (allow P ..) (deny P ..)`.
 fn label_body(s: &[u8], at: usize) -> Body
-    ensures { ReadsBody s.now (labelForm (from s.now at)) result }
+    ensures { ReadsBody s.now (label_form (from s.now at)) result }
 {
     let n = spaced_name_end(s, at);
     let End::At(e) = n else {
@@ -241,7 +241,7 @@ fn label_body(s: &[u8], at: usize) -> Body
 
 // Columns of this scheme, the table's label at l, from a position to an end, one at least: a space stands before the first.
 fn under_scheme(s: &[u8], k: Scheme, l: usize, at: usize, end: End) -> Columns
-    ensures { result ≡ underScheme s.now k l at end }
+    ensures { result ≡ under_scheme s.now k l at end }
 {
     let first = byte_at(s, at);
     if first != b' ' {
@@ -285,7 +285,7 @@ fn table_columns(s: &[u8], at: usize) -> Columns
 
 // `T`, the scheme and the columns.
 fn table_body(s: &[u8], at: usize) -> Body
-    ensures { ReadsBody s.now (tableForm (from s.now at)) result }
+    ensures { ReadsBody s.now (table_form (from s.now at)) result }
 {
     let n = spaced_name_end(s, at);
     let End::At(e) = n else {
@@ -303,7 +303,7 @@ fn table_body(s: &[u8], at: usize) -> Body
 
 // `T` behind `public`.
 fn public_body(s: &[u8], at: usize) -> Body
-    ensures { ReadsBody s.now (publicForm (from s.now at)) result }
+    ensures { ReadsBody s.now (public_form (from s.now at)) result }
 {
     let n = spaced_name_end(s, at);
     let End::At(e) = n else {
@@ -314,7 +314,7 @@ fn public_body(s: &[u8], at: usize) -> Body
 
 // `T L` behind `weak`.
 fn weak_body(s: &[u8], at: usize) -> Body
-    ensures { ReadsBody s.now (labelNote weak (from s.now at)) result }
+    ensures { ReadsBody s.now (label_note weak (from s.now at)) result }
 {
     let n = spaced_name_end(s, at);
     let End::At(e) = n else {
@@ -329,7 +329,7 @@ fn weak_body(s: &[u8], at: usize) -> Body
 
 // `T L` behind `strong`.
 fn strong_body(s: &[u8], at: usize) -> Body
-    ensures { ReadsBody s.now (labelNote strong (from s.now at)) result }
+    ensures { ReadsBody s.now (label_note strong (from s.now at)) result }
 {
     let n = spaced_name_end(s, at);
     let End::At(e) = n else {
@@ -344,7 +344,7 @@ fn strong_body(s: &[u8], at: usize) -> Body
 
 // `T` and its items.
 fn row_body(s: &[u8], at: usize) -> Body
-    ensures { ReadsBody s.now (rowForm (from s.now at)) result }
+    ensures { ReadsBody s.now (row_form (from s.now at)) result }
 {
     let n = spaced_name_end(s, at);
     let End::At(e) = n else {
@@ -359,7 +359,7 @@ fn row_body(s: &[u8], at: usize) -> Body
 
 // The keyword at a position and what stands behind it.
 fn read_body(s: &[u8], at: usize) -> Body
-    ensures { ReadsBody s.now (keyword lineForms (from s.now at)) result }
+    ensures { ReadsBody s.now (keyword line_forms (from s.now at)) result }
 {
     let e = word_end(s, at);
     if is_word(s, at, b"purpose") {

@@ -1,9 +1,9 @@
 // The brackets that lists of a line are made of, and the lists: where they end.
 ghost use Rattle.std.specs.Prelude.{◌≡◌};
 ghost use Rattle.text.specs.Brackets.{keyword, many, next};
-ghost use Rattle.text.specs.CodeEnds.{wordEnd};
+ghost use Rattle.text.specs.CodeEnds.{word_end};
 ghost use Rattle.text.specs.Reader.{from};
-ghost use Rattle.form.specs.FormReader.{column, columnBody, columnKinds, givenForm, item, kinds, labelledColumn, labelledItem};
+ghost use Rattle.form.specs.FormReader.{column, column_body, column_kinds, given_form, item, kinds, labelled_column, labelled_item};
 
 use calendar::cell_values::cell_value_end;
 use text::brackets::{byte_end, spaced_name_end, spaced_value_end};
@@ -12,7 +12,7 @@ use text::words::{End, is_word, name_end, word_end};
 
 // The end of the type of an attribute, `num` or `name`, behind a space.
 pub fn kind_end(s: &[u8], at: usize) -> End
-    ensures { result ≡ wordEnd (next (keyword kinds) (from s.now at)) }
+    ensures { result ≡ word_end (next (keyword kinds) (from s.now at)) }
 {
     let o = byte_end(s, at, b' ');
     let End::At(a) = o else {
@@ -29,7 +29,7 @@ pub fn kind_end(s: &[u8], at: usize) -> End
 
 // The end of the type of a column behind a space: `date`, or one of an attribute.
 pub fn column_kind_end(s: &[u8], at: usize) -> End
-    ensures { result ≡ wordEnd (next (keyword columnKinds) (from s.now at)) }
+    ensures { result ≡ word_end (next (keyword column_kinds) (from s.now at)) }
 {
     if byte_at(s, at) != b' ' {
         return End::Nothing;
@@ -42,7 +42,7 @@ pub fn column_kind_end(s: &[u8], at: usize) -> End
 
 // The end of `(A v)`.
 pub fn given_end(s: &[u8], at: usize) -> End
-    ensures { result ≡ wordEnd (givenForm (from s.now at)) }
+    ensures { result ≡ word_end (given_form (from s.now at)) }
 {
     let o = byte_end(s, at, b'(');
     let End::At(a) = o else {
@@ -61,7 +61,7 @@ pub fn given_end(s: &[u8], at: usize) -> End
 
 // The end of `(A v) ..`, each behind a space.
 pub fn givens_end(s: &[u8], at: usize) -> End
-    ensures { result ≡ wordEnd (many givenForm (from s.now at)) }
+    ensures { result ≡ word_end (many given_form (from s.now at)) }
 {
     let mut i = at;
     while byte_at(s, i) == b' ' {
@@ -76,7 +76,7 @@ pub fn givens_end(s: &[u8], at: usize) -> End
 
 // The end of `COL num`.
 pub fn column_body_end(s: &[u8], at: usize) -> End
-    ensures { result ≡ wordEnd (columnBody (from s.now at)) }
+    ensures { result ≡ word_end (column_body (from s.now at)) }
 {
     let n = name_end(s, at);
     let End::At(e) = n else {
@@ -87,7 +87,7 @@ pub fn column_body_end(s: &[u8], at: usize) -> End
 
 // The end of `(COL num)`.
 pub fn column_end(s: &[u8], at: usize) -> End
-    ensures { result ≡ wordEnd (column (from s.now at)) }
+    ensures { result ≡ word_end (column (from s.now at)) }
 {
     let o = byte_end(s, at, b'(');
     let End::At(a) = o else {
@@ -102,7 +102,7 @@ pub fn column_end(s: &[u8], at: usize) -> End
 
 // The end of `(COL num) ..`, each behind a space.
 pub fn columns_end(s: &[u8], at: usize) -> End
-    ensures { result ≡ wordEnd (many column (from s.now at)) }
+    ensures { result ≡ word_end (many column (from s.now at)) }
 {
     let mut i = at;
     while byte_at(s, i) == b' ' {
@@ -117,7 +117,7 @@ pub fn columns_end(s: &[u8], at: usize) -> End
 
 // The end of `(COL num L)`.
 pub fn labelled_column_end(s: &[u8], at: usize) -> End
-    ensures { result ≡ wordEnd (labelledColumn (from s.now at)) }
+    ensures { result ≡ word_end (labelled_column (from s.now at)) }
 {
     let o = byte_end(s, at, b'(');
     let End::At(a) = o else {
@@ -136,7 +136,7 @@ pub fn labelled_column_end(s: &[u8], at: usize) -> End
 
 // The end of `(COL num L) ..`, each behind a space.
 pub fn labelled_columns_end(s: &[u8], at: usize) -> End
-    ensures { result ≡ wordEnd (many labelledColumn (from s.now at)) }
+    ensures { result ≡ word_end (many labelled_column (from s.now at)) }
 {
     let mut i = at;
     while byte_at(s, i) == b' ' {
@@ -151,7 +151,7 @@ pub fn labelled_columns_end(s: &[u8], at: usize) -> End
 
 // The end of `(v L)`.
 pub fn labelled_item_end(s: &[u8], at: usize) -> End
-    ensures { result ≡ wordEnd (labelledItem (from s.now at)) }
+    ensures { result ≡ word_end (labelled_item (from s.now at)) }
 {
     let o = byte_end(s, at, b'(');
     let End::At(a) = o else {
@@ -170,7 +170,7 @@ pub fn labelled_item_end(s: &[u8], at: usize) -> End
 
 // The end of an item of a row: `v` or `(v L)`.
 pub fn item_end(s: &[u8], at: usize) -> End
-    ensures { result ≡ wordEnd (item (from s.now at)) }
+    ensures { result ≡ word_end (item (from s.now at)) }
 {
     let v = cell_value_end(s, at);
     match v {
@@ -181,7 +181,7 @@ pub fn item_end(s: &[u8], at: usize) -> End
 
 // The end of a row's items, each behind a space.
 pub fn items_end(s: &[u8], at: usize) -> End
-    ensures { result ≡ wordEnd (many item (from s.now at)) }
+    ensures { result ≡ word_end (many item (from s.now at)) }
 {
     let mut i = at;
     while byte_at(s, i) == b' ' {

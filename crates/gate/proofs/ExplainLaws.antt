@@ -13,21 +13,21 @@ use Rattle.gate.specs.Explaining.{ExportsWhy, ExportsWhyArrays}
 use Rattle.gate.specs.Exports.{StoresLength}
 use Rattle.loaded.specs.Cells.{version}
 use Rattle.telling.specs.Holds.{HoldsLabels}
-use Rattle.telling.specs.Telling.{Tells, toldAs}
+use Rattle.telling.specs.Telling.{Tells, told_as}
 use Rattle.telling.specs.declared.texts.Told.{Told}
 
 -- the export of a told line
-pub exports-why : {doc line before after figures : List ℕ} {n : ℕ} {x : Told} → Tells (why doc line) before after x → StoresLength (toldAs x) figures n → ExportsWhy doc line before after figures n
-exports-why {figures} {n} t s = record { stores = subst (λ o. StoresLength o figures n) t.gives s; buffer = t.buffer }
+pub exports_why : {doc line before after figures : List ℕ} {n : ℕ} {x : Told} → Tells (why doc line) before after x → StoresLength (told_as x) figures n → ExportsWhy doc line before after figures n
+exports_why {figures} {n} t s = record { stores = subst (λ o. StoresLength o figures n) t.gives s; buffer = t.buffer }
 
 module _ {doc ps ls ms ts ws cells line : List ℕ} {b : Bool} (test : b ≡ eqb (get_or cells 0 0) version) where
-  pub why-other : {buffer figures : List ℕ} {n : ℕ} → b ≡ false → NotLoaded figures n → ExportsWhyArrays doc ps ls ms ts ws cells line buffer buffer figures n
-  why-other e s = record { loaded = λ h. absurd (eqb-false (get_or cells 0 0) version (sym test ∙ e) h.filled); other = λ _. s; kept = λ _. refl }
+  pub why_other : {buffer figures : List ℕ} {n : ℕ} → b ≡ false → NotLoaded figures n → ExportsWhyArrays doc ps ls ms ts ws cells line buffer buffer figures n
+  why_other e s = record { loaded = λ h. absurd (eqb-false (get_or cells 0 0) version (sym test ∙ e) h.filled); other = λ _. s; kept = λ _. refl }
 
-  pub why-held : {before after figures : List ℕ} {n : ℕ} {x : Told} → b ≡ true → (HoldsLabels doc ps ls ms ts ws cells → Tells (why doc line) before after x) → StoresLength (toldAs x) figures n
+  pub why_held : {before after figures : List ℕ} {n : ℕ} {x : Told} → b ≡ true → (HoldsLabels doc ps ls ms ts ws cells → Tells (why doc line) before after x) → StoresLength (told_as x) figures n
       → ExportsWhyArrays doc ps ls ms ts ws cells line before after figures n
-  why-held e f s = record {
-    loaded = λ h. exports-why (f h) s;
+  why_held e f s = record {
+    loaded = λ h. exports_why (f h) s;
     other = λ z. absurd (z (same_version cells test e));
     kept = λ z. absurd (z (same_version cells test e));
   }

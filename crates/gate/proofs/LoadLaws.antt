@@ -8,29 +8,29 @@ use Rattle.checker.specs.Loading.{HoldsDocument}
 use Rattle.document.proofs.Formed.{formed}
 use Rattle.document.specs.Check.{check}
 use Rattle.document.specs.Invariants.{Formed}
-use Rattle.gate.proofs.DocumentLaws.{checked-accepted, checked_refused, checks-document, code-checked, refused-checked}
+use Rattle.gate.proofs.DocumentLaws.{checked_accepted, checked_refused, checks_document, code_checked, refused_checked}
 use Rattle.gate.specs.Arrays.{ExportsLoad}
 use Rattle.gate.specs.Exports.{ExportsCheck, code_of}
 use Rattle.gate.specs.Loads.{Held, HeldOrNone, HoldsArrays, LoadsDocument}
-use Rattle.gate.specs.Outcome.{checkedAs}
+use Rattle.gate.specs.Outcome.{checked_as}
 use Rattle.gate.specs.Reserved.{ChecksDocument}
-use Rattle.loaded.proofs.CellLaws.{counts-stored, none-stored, version-stored}
-use Rattle.loaded.proofs.Chain.{ask-refused, gives-asks, measures-refused, room-refused}
-use Rattle.loaded.specs.Cells.{cells_of, countsIn, noCells}
+use Rattle.loaded.proofs.CellLaws.{counts_stored, none_stored, version_stored}
+use Rattle.loaded.proofs.Chain.{ask_refused, gives_asks, measures_refused, room_refused}
+use Rattle.loaded.specs.Cells.{cells_of, counts_in, no_cells}
 use Rattle.loaded.specs.Holds.{Holds}
 use Rattle.loaded.specs.Outside.{Asks, Measures}
 use Rattle.query.specs.Authority.{Clock}
-use Rattle.stages.proofs.Chain.{gives-refused}
-use Rattle.stages.specs.Figures.{answeredAs}
+use Rattle.stages.proofs.Chain.{gives_refused}
+use Rattle.stages.specs.Figures.{answered_as}
 use Rattle.stages.specs.Stages.{Standing}
 use Rattle.stages.specs.Tails.{Gives}
 use Rattle.reserve.specs.Sums.{HoldsRows}
-use Rattle.telling.proofs.HeldLaws.{holds-labels}
-use Rattle.workspace.proofs.TabulatedLaws.{length-tabulated}
-use Rattle.answer.specs.Ask.{askUnbounded}
-use Rattle.answer.specs.Reserve.{reserveOf}
-use Rattle.text.proofs.RefusalLaws.{not-refused}
-use Rattle.text.specs.Reasons.{refusalOf}
+use Rattle.telling.proofs.HeldLaws.{holds_labels}
+use Rattle.workspace.proofs.TabulatedLaws.{length_tabulated}
+use Rattle.answer.specs.Ask.{ask_unbounded}
+use Rattle.answer.specs.Reserve.{reserve_of}
+use Rattle.text.proofs.RefusalLaws.{not_refused}
+use Rattle.text.specs.Reasons.{refusal_of}
 use Rattle.text.specs.Refusal.{accepted, refused}
 use Rattle.gate.specs.declared.documents.Checked.{Checked}
 use Rattle.gate.specs.declared.documents.Checked.TheVariants as checked
@@ -55,8 +55,8 @@ module _ {doc ps rs bs us cs gs ls ms ts ws : List ℕ} where
   holds {c} {n} h e = record {
     what = record { lines = n; doc = h.what };
     is = h.is;
-    filled = ap (λ l. get_or l 0 0) e ∙ version-stored c;
-    standing = subst (λ k. Standing doc ps rs bs us cs gs ms ts ws k h.what) (sym (ap countsIn e ∙ counts-stored c)) (standing h (formed _ _ h.is));
+    filled = ap (λ l. get_or l 0 0) e ∙ version_stored c;
+    standing = subst (λ k. Standing doc ps rs bs us cs gs ms ts ws k h.what) (sym (ap counts_in e ∙ counts_stored c)) (standing h (formed _ _ h.is));
   }
 
   -- the rows, by which the reserve is found
@@ -64,41 +64,41 @@ module _ {doc ps rs bs us cs gs ls ms ts ws : List ℕ} where
   holds_rows h = record {
     small = h.small;
     few = h.held.tables.few;
-    tables = ap length (sym h.held.tables.are) ∙ length-tabulated _ _;
+    tables = ap length (sym h.held.tables.are) ∙ length_tabulated _ _;
     rows = h.held.rows;
   }
 
-  pub held-accepted : {cells : List ℕ} {c : Counts} {n : ℕ} → HoldsDocument doc ps rs bs us cs gs ls ms ts ws c n → cells ≡ cells_of c → HoldsArrays doc ps rs bs us cs gs ls ms ts ws cells (loaded.Accepted c n)
+  pub held_accepted : {cells : List ℕ} {c : Counts} {n : ℕ} → HoldsDocument doc ps rs bs us cs gs ls ms ts ws c n → cells ≡ cells_of c → HoldsArrays doc ps rs bs us cs gs ls ms ts ws cells (loaded.Accepted c n)
   unfolding HeldOrNone
-  held-accepted h e = record { is = record { what = h.what; is = h.is; rows = holds_rows h; holds = holds h e; labelled = holds-labels h e } }
+  held_accepted h e = record { is = record { what = h.what; is = h.is; rows = holds_rows h; holds = holds h e; labelled = holds_labels h e } }
 
 module _ {doc ps rs bs us cs gs ls ms ts ws cells : List ℕ} where
-  pub held-refused : {x : Refusal} → check doc ≡ refused (refusalOf x) → cells ≡ noCells → HoldsArrays doc ps rs bs us cs gs ls ms ts ws cells (loaded.Refused x)
+  pub held_refused : {x : Refusal} → check doc ≡ refused (refusal_of x) → cells ≡ no_cells → HoldsArrays doc ps rs bs us cs gs ls ms ts ws cells (loaded.Refused x)
   unfolding HeldOrNone
-  held-refused h e = record { is = (h, ap (λ l. get_or l 0 0) e ∙ none-stored) }
+  held_refused h e = record { is = (h, ap (λ l. get_or l 0 0) e ∙ none_stored) }
 
   -- what the arrays are said to hold, by the answer
-  pub told-accepted : {r : Loaded} {c : Counts} {n : ℕ} → HoldsArrays doc ps rs bs us cs gs ls ms ts ws cells r → r ≡ loaded.Accepted c n → Held doc ps rs bs us cs gs ls ms ts ws cells c n
+  pub told_accepted : {r : Loaded} {c : Counts} {n : ℕ} → HoldsArrays doc ps rs bs us cs gs ls ms ts ws cells r → r ≡ loaded.Accepted c n → Held doc ps rs bs us cs gs ls ms ts ws cells c n
   unfolding HeldOrNone
-  told-accepted h told = subst (HeldOrNone doc ps rs bs us cs gs ls ms ts ws cells) told h.is
+  told_accepted h told = subst (HeldOrNone doc ps rs bs us cs gs ls ms ts ws cells) told h.is
 
-  pub told-refused : {r : Loaded} {x : Refusal} → HoldsArrays doc ps rs bs us cs gs ls ms ts ws cells r → r ≡ loaded.Refused x → (check doc ≡ refused (refusalOf x)) × (get_or cells 0 0 ≡ 0)
+  pub told_refused : {r : Loaded} {x : Refusal} → HoldsArrays doc ps rs bs us cs gs ls ms ts ws cells r → r ≡ loaded.Refused x → (check doc ≡ refused (refusal_of x)) × (get_or cells 0 0 ≡ 0)
   unfolding HeldOrNone
-  told-refused h told = subst (HeldOrNone doc ps rs bs us cs gs ls ms ts ws cells) told h.is
+  told_refused h told = subst (HeldOrNone doc ps rs bs us cs gs ls ms ts ws cells) told h.is
 
-  pub loads-accepted : {c : Counts} {n m : ℕ} (h : Held doc ps rs bs us cs gs ls ms ts ws cells c n) → m ≡ reserveOf h.what → LoadsDocument doc ps rs bs us cs gs ls ms ts ws cells (checked.Accepted n m)
-  unfolding checkedAs
-  loads-accepted {n} {m} h e = record {
-    checks = checks-document _ _ (record { is = ap (λ k. accepted (record { lines = n; reserve = k })) e ∙ checked-accepted doc (record { lines = n; doc = h.what }) h.is });
+  pub loads_accepted : {c : Counts} {n m : ℕ} (h : Held doc ps rs bs us cs gs ls ms ts ws cells c n) → m ≡ reserve_of h.what → LoadsDocument doc ps rs bs us cs gs ls ms ts ws cells (checked.Accepted n m)
+  unfolding checked_as
+  loads_accepted {n} {m} h e = record {
+    checks = checks_document _ _ (record { is = ap (λ k. accepted (record { lines = n; reserve = k })) e ∙ checked_accepted doc (record { lines = n; doc = h.what }) h.is });
     accepts = λ _ _ _. h.holds;
     explains = λ _ _ _. h.labelled;
     refuses = λ x z. absurd (apart n m x z);
   }
 
-  pub loads-refused : {x : Refusal} → (check doc ≡ refused (refusalOf x)) × (get_or cells 0 0 ≡ 0) → LoadsDocument doc ps rs bs us cs gs ls ms ts ws cells (checked.Refused x)
-  unfolding checkedAs
-  loads-refused {x} h = record {
-    checks = checks-document _ _ (record { is = checked_refused doc (refusalOf x) h.0 });
+  pub loads_refused : {x : Refusal} → (check doc ≡ refused (refusal_of x)) × (get_or cells 0 0 ≡ 0) → LoadsDocument doc ps rs bs us cs gs ls ms ts ws cells (checked.Refused x)
+  unfolding checked_as
+  loads_refused {x} h = record {
+    checks = checks_document _ _ (record { is = checked_refused doc (refusal_of x) h.0 });
     accepts = λ n m z. absurd (apart n m x (sym z));
     explains = λ n m z. absurd (apart n m x (sym z));
     refuses = λ _ _. h.1;
@@ -106,35 +106,35 @@ module _ {doc ps rs bs us cs gs ls ms ts ws cells : List ℕ} where
 
 -- ---- a refused document
 
-check-refused : {doc : List ℕ} {r : Checked} (x : Refusal) → ChecksDocument doc r → r ≡ checked.Refused x → check doc ≡ refused (refusalOf x)
-unfolding checkedAs
-check-refused {doc} x h e = refused-checked doc (refusalOf x) (sym (ap checkedAs e) ∙ h.is.is)
+check_refused : {doc : List ℕ} {r : Checked} (x : Refusal) → ChecksDocument doc r → r ≡ checked.Refused x → check doc ≡ refused (refusal_of x)
+unfolding checked_as
+check_refused {doc} x h e = refused_checked doc (refusal_of x) (sym (ap checked_as e) ∙ h.is.is)
 
-module _ (doc text : List ℕ) (c : Clock) (x : Refusal) (h : check doc ≡ refused (refusalOf x)) where
-  gives : (buffer : List ℕ) → Gives (askUnbounded doc text c) buffer buffer (answered.Refused x)
-  unfolding answeredAs
-  gives buffer = gives-refused (ask-refused doc text c h) refl
+module _ (doc text : List ℕ) (c : Clock) (x : Refusal) (h : check doc ≡ refused (refusal_of x)) where
+  gives : (buffer : List ℕ) → Gives (ask_unbounded doc text c) buffer buffer (answered.Refused x)
+  unfolding answered_as
+  gives buffer = gives_refused (ask_refused doc text c h) refl
 
-  pub asks-refused : (buffer : List ℕ) → Asks doc text c buffer buffer (answered.Refused x)
-  asks-refused buffer = gives-asks (gives buffer) (room-refused (length buffer) refl)
+  pub asks_refused : (buffer : List ℕ) → Asks doc text c buffer buffer (answered.Refused x)
+  asks_refused buffer = gives_asks (gives buffer) (room_refused (length buffer) refl)
 
-  pub measured-refused : Measures doc text c (measured.Refused x)
-  measured-refused = measures-refused doc text c (gives []) refl
+  pub measured_refused : Measures doc text c (measured.Refused x)
+  measured_refused = measures_refused doc text c (gives []) refl
 
 -- ---- the export
 
 module _ {doc ps rs bs us cs gs ls ms ts ws cells figures : List ℕ} {n : ℕ} where
-  pub exports-load : (x : Checked) → LoadsDocument doc ps rs bs us cs gs ls ms ts ws cells x → ExportsCheck doc figures n → ExportsLoad doc ps rs bs us cs gs ls ms ts ws cells figures n
-  unfolding checkedAs code_of
-  exports-load (checked.Accepted k m) h e = record {
+  pub exports_load : (x : Checked) → LoadsDocument doc ps rs bs us cs gs ls ms ts ws cells x → ExportsCheck doc figures n → ExportsLoad doc ps rs bs us cs gs ls ms ts ws cells figures n
+  unfolding checked_as code_of
+  exports_load (checked.Accepted k m) h e = record {
     checks = e;
     accepts = λ _. h.accepts k m refl;
     explains = λ _. h.explains k m refl;
-    refuses = λ z. absurd (z (e.code ∙ sym (code-checked doc) ∙ sym (ap code_of h.checks.is.is)));
+    refuses = λ z. absurd (z (e.code ∙ sym (code_checked doc) ∙ sym (ap code_of h.checks.is.is)));
   }
-  exports-load (checked.Refused x) h e = record {
+  exports_load (checked.Refused x) h e = record {
     checks = e;
-    accepts = λ z. not-refused (sym (check-refused x h.checks refl) ∙ (e.accepts z).1);
-    explains = λ z. not-refused (sym (check-refused x h.checks refl) ∙ (e.accepts z).1);
+    accepts = λ z. not_refused (sym (check_refused x h.checks refl) ∙ (e.accepts z).1);
+    explains = λ z. not_refused (sym (check_refused x h.checks refl) ∙ (e.accepts z).1);
     refuses = λ _. h.refuses x refl;
   }

@@ -1,15 +1,15 @@
 -- Meaning: what the exported functions over a loaded document hand to a host: what those over its text do, or that it is not loaded.
 use Rattle.std.specs.Prelude.{ℕ, get_or, List, [], ◌∷◌, ◌≡◌}
-use Rattle.gate.specs.Exports.{ExportsAsk, ExportsCheck, ExportsMeasure, clockAt}
+use Rattle.gate.specs.Exports.{ExportsAsk, ExportsCheck, ExportsMeasure, clock_at}
 use Rattle.loaded.specs.Cells.{version}
 use Rattle.loaded.specs.Holds.{Holds}
 use Rattle.query.specs.Authority.{Clock}
 use Rattle.telling.specs.Holds.{HoldsLabels}
 
 -- the clock of three numbers: year, day and hour
-unfoldable pub clockIn : List ℕ → Clock
-unfolding clockAt
-clockIn l = clockAt (get_or l 0 0) (get_or l 1 0) (get_or l 2 0)
+unfoldable pub clock_in : List ℕ → Clock
+unfolding clock_at
+clock_in l = clock_at (get_or l 0 0) (get_or l 1 0) (get_or l 2 0)
 
 -- the code n and the figures of a call over arrays that this version did not fill: no refusal has this number
 pub record NotLoaded (figures : List ℕ) (n : ℕ) : Type 0 where

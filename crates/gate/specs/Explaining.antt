@@ -5,12 +5,12 @@ use Rattle.gate.specs.Arrays.{NotLoaded}
 use Rattle.gate.specs.Exports.{StoresLength}
 use Rattle.loaded.specs.Cells.{version}
 use Rattle.telling.specs.Holds.{HoldsLabels}
-use Rattle.telling.specs.Telling.{afterLine, lineLength}
+use Rattle.telling.specs.Telling.{after_line, line_length}
 
 -- the code n and the figures are those of the line's length, or of a refusal, and the lent buffer afterwards is what the reason says
 pub record ExportsWhy (doc line before after figures : List ℕ) (n : ℕ) : Type 0 where
-  pub stores : StoresLength (lineLength (why doc line)) figures n
-  pub buffer : after ≡ afterLine (why doc line) before
+  pub stores : StoresLength (line_length (why doc line)) figures n
+  pub buffer : after ≡ after_line (why doc line) before
 
 -- over arrays that hold this very text the call is that of explaining the text; over arrays of no or another version it says so, and
 -- leaves the buffer

@@ -11,7 +11,7 @@ use Rattle.checker.specs.declared.loading.Loaded.TheVariants as loaded
 use Rattle.index.specs.declared.counts.Counts.{Counts}
 use Rattle.reserve.specs.Sums.{HoldsRows}
 use Rattle.telling.specs.Holds.{HoldsLabels}
-use Rattle.text.specs.Reasons.{refusalOf}
+use Rattle.text.specs.Reasons.{refusal_of}
 use Rattle.text.specs.Refusal.{accepted, refused}
 use Rattle.text.specs.declared.refusals.Refusal as code
 
@@ -26,7 +26,7 @@ pub record Held (doc ps rs bs us cs gs ls ms ts ws cells : List ℕ) (c : Counts
 -- the arrays hold the accepted document; or the answer is its refusal, and they are of no version
 unfoldable pub HeldOrNone : (doc ps rs bs us cs gs ls ms ts ws cells : List ℕ) → Loaded → Type 0
 HeldOrNone doc ps rs bs us cs gs ls ms ts ws cells (loaded.Accepted c n) = Held doc ps rs bs us cs gs ls ms ts ws cells c n
-HeldOrNone doc ps rs bs us cs gs ls ms ts ws cells (loaded.Refused x) = (check doc ≡ refused (refusalOf x)) × (get_or cells 0 0 ≡ 0)
+HeldOrNone doc ps rs bs us cs gs ls ms ts ws cells (loaded.Refused x) = (check doc ≡ refused (refusal_of x)) × (get_or cells 0 0 ≡ 0)
 
 -- the answer r is that of the check, the reserve aside, and so are the arrays
 pub record HoldsArrays (doc ps rs bs us cs gs ls ms ts ws cells : List ℕ) (r : Loaded) : Type 0 where

@@ -3,19 +3,19 @@
 use Rattle.std.specs.Prelude.{ℕ, List, ◌≡◌}
 use Rattle.answer.specs.Reserve.{Taken}
 use Rattle.answer.specs.Reserve as reserve
-use Rattle.text.specs.Reasons.{refusalOf}
+use Rattle.text.specs.Reasons.{refusal_of}
 use Rattle.text.specs.Refusal.{Result, accepted, refused}
 use Rattle.gate.specs.declared.documents.Checked.{Checked}
 use Rattle.gate.specs.declared.documents.Checked.TheVariants as checked
 
 -- the outcome that the answer stands for: a refusal, or the number of lines and the reserve
-unfoldable pub checkedAs : Checked → Result Taken
-checkedAs (checked.Accepted n r) = accepted (record { lines = n; reserve = r })
-checkedAs (checked.Refused x) = refused (refusalOf x)
+unfoldable pub checked_as : Checked → Result Taken
+checked_as (checked.Accepted n r) = accepted (record { lines = n; reserve = r })
+checked_as (checked.Refused x) = refused (refusal_of x)
 
 -- the answer r stands for this outcome
 pub record Answers (o : Result Taken) (r : Checked) : Type 0 where
-  pub is : checkedAs r ≡ o
+  pub is : checked_as r ≡ o
 
 -- THE CHECK: the answer r stands for the outcome of the check of the document, its reserve to the byte
 abbrev pub Checks : List ℕ → Checked → Type 0

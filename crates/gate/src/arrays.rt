@@ -1,7 +1,7 @@
 // The gate for hosts that load once: the arrays of gate.h's struct gate_document, a code and five figures.
-ghost use Rattle.gate.specs.Arrays.{ExportsAskArrays, ExportsLoad, ExportsMeasureArrays, NotLoaded, clockIn};
+ghost use Rattle.gate.specs.Arrays.{ExportsAskArrays, ExportsLoad, ExportsMeasureArrays, NotLoaded, clock_in};
 ghost use Rattle.loaded.specs.Cells.{version};
-ghost use Rattle.query.specs.HostClock.{clockOf};
+ghost use Rattle.query.specs.HostClock.{clock_of};
 ghost use Rattle.std.specs.Prelude.{◌≡◌};
 
 use crate::documents::load;
@@ -28,7 +28,7 @@ pub(crate) fn store_not_loaded(figures: &mut [u64; 5]) -> u64
 
 // The clock of three numbers: year, day, hour.
 fn clock_of(clock: &[u64; 3]) -> Clock
-    ensures { clockOf result ≡ clockIn clock.now }
+    ensures { clock_of result ≡ clock_in clock.now }
 {
     Clock {
         year: clock[0],
@@ -92,7 +92,7 @@ pub extern "C" fn gate_ask_arrays(
     out: &mut [u8],
     figures: &mut [u64; 5],
 ) -> u64
-    ensures { ExportsAskArrays doc.now purposes.now roles.now attributes.now users.now conds.now grants.now sets.now tables.now rows.now cells.now query.now (clockIn clock.now) out.old out.new figures.new result }
+    ensures { ExportsAskArrays doc.now purposes.now roles.now attributes.now users.now conds.now grants.now sets.now tables.now rows.now cells.now query.now (clock_in clock.now) out.old out.new figures.new result }
 {
     if !is_loaded(cells) {
         return store_not_loaded(figures);
@@ -124,7 +124,7 @@ pub extern "C" fn gate_measure_arrays(
     clock: &[u64; 3],
     figures: &mut [u64; 5],
 ) -> u64
-    ensures { ExportsMeasureArrays doc.now purposes.now roles.now attributes.now users.now conds.now grants.now sets.now tables.now rows.now cells.now query.now (clockIn clock.now) figures.new result }
+    ensures { ExportsMeasureArrays doc.now purposes.now roles.now attributes.now users.now conds.now grants.now sets.now tables.now rows.now cells.now query.now (clock_in clock.now) figures.new result }
 {
     if !is_loaded(cells) {
         return store_not_loaded(figures);

@@ -1,6 +1,6 @@
 // Asking: a query over a document, its answer in a lent buffer.
 ghost use Rattle.loaded.specs.Outside.{Asks};
-ghost use Rattle.query.specs.HostClock.{clockOf};
+ghost use Rattle.query.specs.HostClock.{clock_of};
 
 use crate::documents::hold;
 use checker::loading::Loaded;
@@ -16,7 +16,7 @@ use workspace::layout::{
 // Asks the document with the query at the clock's time: loads it, then asks it. An answer fills the first bytes of the lent buffer, a
 // refusal leaves it.
 pub fn ask(doc: &[u8], query: &[u8], clock: Clock, out: &mut [u8]) -> Answered
-    ensures { Asks doc.now query.now (clockOf clock) out.old out.new result }
+    ensures { Asks doc.now query.now (clock_of clock) out.old out.new result }
 {
     let mut purposes = [0usize; PURPOSE_CELLS];
     let mut roles = [0usize; ROLE_CELLS];

@@ -1,7 +1,7 @@
 // Closed by what (02, Q-7), for hosts: a why line over a document, or over one that was loaded before, its line in a lent buffer.
 ghost use Rattle.gate.specs.Explaining.{ExportsWhy, ExportsWhyArrays};
 ghost use Rattle.gate.specs.Exports.{StoresLength};
-ghost use Rattle.telling.specs.Telling.{toldAs};
+ghost use Rattle.telling.specs.Telling.{told_as};
 
 use crate::arrays::store_not_loaded;
 use crate::exports::{store_five, store_refusal};
@@ -12,7 +12,7 @@ use workspace::layout::{LABELS, PURPOSE_CELLS, ROW_CELLS, SET_WORDS, TABLE_CELLS
 
 // Stores the figures of a told line. Gives its code.
 fn store_told(figures: &mut [u64; 5], x: Told) -> u64
-    ensures { StoresLength (toldAs x) figures.new result }
+    ensures { StoresLength (told_as x) figures.new result }
 {
     match x {
         Told::Refused(r) => store_refusal(figures, r),

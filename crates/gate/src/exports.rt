@@ -1,11 +1,11 @@
 // The gate for hosts in C or Rust: a code, which is 0 or a refusal's number, and five figures.
 ghost use Rattle.std.specs.Prelude.{ℕ, List, [], ◌∷◌, ◌≡◌};
-ghost use Rattle.gate.specs.Exports.{ExportsAsk, ExportsCheck, ExportsImport, ExportsMeasure, ExportsMeasureImport, ExportsRefusal, StoresAnswer, StoresLength, clockAt, sourceCode};
+ghost use Rattle.gate.specs.Exports.{ExportsAsk, ExportsCheck, ExportsImport, ExportsMeasure, ExportsMeasureImport, ExportsRefusal, StoresAnswer, StoresLength, clock_at, source_code};
 ghost use Rattle.gate.specs.Reserved.{ChecksDocument};
-ghost use Rattle.import.specs.Outside.{importedAs};
-ghost use Rattle.loaded.specs.Outside.{measuredAs};
-ghost use Rattle.stages.specs.Figures.{answeredAs};
-ghost use Rattle.text.specs.Reasons.{refusalOf, source_of};
+ghost use Rattle.import.specs.Outside.{imported_as};
+ghost use Rattle.loaded.specs.Outside.{measured_as};
+ghost use Rattle.stages.specs.Figures.{answered_as};
+ghost use Rattle.text.specs.Reasons.{refusal_of, source_of};
 
 use crate::asking::ask;
 use crate::documents::{Checked, check};
@@ -25,7 +25,7 @@ pub(crate) fn store_five(figures: &mut [u64; 5], a: u64, b: u64, c: u64, d: u64,
 
 // The number of the text that a refusal points into.
 fn source_code(s: Source) -> u64
-    ensures { result ≡ sourceCode (source_of s) }
+    ensures { result ≡ source_code (source_of s) }
 {
     match s {
         Source::Document => 1,
@@ -36,7 +36,7 @@ fn source_code(s: Source) -> u64
 
 // Stores the figures of a refusal. Gives its number.
 pub(crate) fn store_refusal(figures: &mut [u64; 5], r: Refusal) -> u64
-    ensures { ExportsRefusal (refusalOf r) figures.new result }
+    ensures { ExportsRefusal (refusal_of r) figures.new result }
 {
     let start = r.start;
     let len = r.len;
@@ -63,7 +63,7 @@ pub(crate) fn store_checked(figures: &mut [u64; 5], x: Checked) -> u64
 
 // Stores the figures of an answer. Gives its code.
 pub(crate) fn store_answered(figures: &mut [u64; 5], x: Answered) -> u64
-    ensures { StoresAnswer (answeredAs x) figures.new result }
+    ensures { StoresAnswer (answered_as x) figures.new result }
 {
     match x {
         Answered::Refused(r) => store_refusal(figures, r),
@@ -83,7 +83,7 @@ pub(crate) fn store_answered(figures: &mut [u64; 5], x: Answered) -> u64
 
 // Stores the figures of a measured answer. Gives its code.
 pub(crate) fn store_measured(figures: &mut [u64; 5], x: Measured) -> u64
-    ensures { StoresLength (measuredAs x) figures.new result }
+    ensures { StoresLength (measured_as x) figures.new result }
 {
     match x {
         Measured::Refused(r) => store_refusal(figures, r),
@@ -116,7 +116,7 @@ pub extern "C" fn gate_ask(
     out: &mut [u8],
     figures: &mut [u64; 5],
 ) -> u64
-    ensures { ExportsAsk doc.now query.now (clockAt year day hour) out.old out.new figures.new result }
+    ensures { ExportsAsk doc.now query.now (clock_at year day hour) out.old out.new figures.new result }
 {
     let x = ask(doc, query, Clock { year, day, hour }, out);
     store_answered(figures, x)
@@ -133,7 +133,7 @@ pub extern "C" fn gate_measure(
     hour: u64,
     figures: &mut [u64; 5],
 ) -> u64
-    ensures { ExportsMeasure doc.now query.now (clockAt year day hour) figures.new result }
+    ensures { ExportsMeasure doc.now query.now (clock_at year day hour) figures.new result }
 {
     let x = measure(doc, query, Clock { year, day, hour });
     store_measured(figures, x)
@@ -141,7 +141,7 @@ pub extern "C" fn gate_measure(
 
 // Stores the figures of an import. Gives its code.
 fn store_imported(figures: &mut [u64; 5], x: Imported) -> u64
-    ensures { StoresLength (importedAs x) figures.new result }
+    ensures { StoresLength (imported_as x) figures.new result }
 {
     match x {
         Imported::Refused(r) => store_refusal(figures, r),

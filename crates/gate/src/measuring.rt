@@ -1,6 +1,6 @@
 // How long an answer is, so that a host can lend exactly enough.
 ghost use Rattle.loaded.specs.Outside.{Measures};
-ghost use Rattle.query.specs.HostClock.{clockOf};
+ghost use Rattle.query.specs.HostClock.{clock_of};
 
 use crate::documents::hold;
 use checker::loading::Loaded;
@@ -14,7 +14,7 @@ use workspace::layout::{
 
 // Measures the answer to the query at the clock's time: loads the document, then measures. Nothing of the answer is held.
 pub fn measure(doc: &[u8], query: &[u8], clock: Clock) -> Measured
-    ensures { Measures doc.now query.now (clockOf clock) result }
+    ensures { Measures doc.now query.now (clock_of clock) result }
 {
     let mut purposes = [0usize; PURPOSE_CELLS];
     let mut roles = [0usize; ROLE_CELLS];

@@ -1,7 +1,7 @@
 // The part of a text that a refusal hands back.
 ghost use Rattle.std.specs.Prelude.{drop, take, ◌≡◌};
 ghost use Rattle.answer.specs.Ask.{part_of};
-ghost use Rattle.text.specs.Reasons.{refusalOf};
+ghost use Rattle.text.specs.Reasons.{refusal_of};
 
 use text::refusals::{Refusal, Source};
 
@@ -22,7 +22,7 @@ fn piece(s: &[u8], start: usize, len: usize) -> &[u8]
 // The part that a refusal hands back, of the document or of the query, whichever it points into. A file's refusals hand back
 // nothing of it.
 pub fn part<'a>(doc: &'a [u8], query: &'a [u8], r: Refusal) -> &'a [u8]
-    ensures { result.now ≡ part_of doc.now query.now (refusalOf r) }
+    ensures { result.now ≡ part_of doc.now query.now (refusal_of r) }
 {
     let source = r.source;
     match source {

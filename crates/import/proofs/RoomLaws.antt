@@ -1,7 +1,7 @@
 -- Whether lines fit, told by a quotient, since a product could wrap. Assumes nothing.
 use Prim.Native.Nat.{◌*◌, ◌+◌, ◌-◌, ◌/◌, ◌<◌, ◌≤◌, ℕ}
 use borrow.Author.Tests.{le-leb, leb-true, lt-leb}
-use Rattle.import.specs.Outside.{lengthWithin}
+use Rattle.import.specs.Outside.{length_within}
 use Rattle.text.specs.declared.words.End.TheVariants.{At, Nothing}
 use lib.Dec.{leb}
 use mathlib.Core.Bool.{Bool, cond, false, true}
@@ -10,8 +10,8 @@ use native.Mathlib.Nat.{le-div_iff_mul-le}
 use native.Mathlib.Omega.{arith}
 use Rattle.lists.proofs.Tests.{both}
 
-room-short : (room count each more : ℕ) → room < more → false ≡ leb (count * each + more) room
-room-short room count each more h = sym (lt-leb (count * each + more) room (omega (arith, h)))
+room_short : (room count each more : ℕ) → room < more → false ≡ leb (count * each + more) room
+room_short room count each more h = sym (lt-leb (count * each + more) room (omega (arith, h)))
 
 room_by : (room count each more : ℕ) → 0 < each → more ≤ room → leb count ((room - more) / each) ≡ leb (count * each + more) room
 room_by room count each more p h =
@@ -27,20 +27,20 @@ room_by room count each more p h =
 
 module _ (room count each more : ℕ) where
   -- the bytes more alone are too many
-  pub within-less : room < more → Nothing ≡ lengthWithin room (count * each + more)
-  unfolding lengthWithin
-  within-less h = ap (λ (b : Bool). cond b (At (count * each + more)) Nothing) (room-short room count each more h)
+  pub within_less : room < more → Nothing ≡ length_within room (count * each + more)
+  unfolding length_within
+  within_less h = ap (λ (b : Bool). cond b (At (count * each + more)) Nothing) (room_short room count each more h)
 
   module _ (some_bytes : 0 < each) (h : more ≤ room) where
     -- the lines fit, and their length does not wrap
     pub product_small : count ≤ (room - more) / each → count * each + more ≤ room
     product_small k = leb-true (count * each + more) room (sym (room_by room count each more some_bytes h) ∙ le-leb count ((room - more) / each) k)
 
-    pub within-fits : count ≤ (room - more) / each → At (count * each + more) ≡ lengthWithin room (count * each + more)
-    unfolding lengthWithin
-    within-fits k = ap (λ (b : Bool). cond b (At (count * each + more)) Nothing) (sym (le-leb (count * each + more) room (product_small k)))
+    pub within_fits : count ≤ (room - more) / each → At (count * each + more) ≡ length_within room (count * each + more)
+    unfolding length_within
+    within_fits k = ap (λ (b : Bool). cond b (At (count * each + more)) Nothing) (sym (le-leb (count * each + more) room (product_small k)))
 
     -- they don't
-    pub within-not : (room - more) / each < count → Nothing ≡ lengthWithin room (count * each + more)
-    unfolding lengthWithin
-    within-not k = ap (λ (b : Bool). cond b (At (count * each + more)) Nothing) (sym (lt-leb count ((room - more) / each) k) ∙ room_by room count each more some_bytes h)
+    pub within_not : (room - more) / each < count → Nothing ≡ length_within room (count * each + more)
+    unfolding length_within
+    within_not k = ap (λ (b : Bool). cond b (At (count * each + more)) Nothing) (sym (lt-leb count ((room - more) / each) k) ∙ room_by room count each more some_bytes h)

@@ -5,26 +5,26 @@ use mathlib.Core.Bool.{Bool, ◌&&◌, false, true}
 use mathlib.Core.List.{List, [], ◌∷◌}
 use mathlib.Core.Path.{◌≡◌, refl}
 use Rattle.import.specs.Computing.{computing}
-use Rattle.import.specs.Importing.{importing, measureImport}
+use Rattle.import.specs.Importing.{importing, measure_import}
 use Rattle.lists.specs.Lists.{all_of}
 use Rattle.text.specs.Bytes.{ascii}
-use Rattle.text.specs.Names.{sameName}
+use Rattle.text.specs.Names.{same_name}
 use Rattle.text.specs.Refusal.{Refusal, Result, Source, accepted, document, file, query, refused}
 
 -- it is accepted with these bytes
 abbrev gave : Result (List ℕ) → List ℕ → Bool
 gave (refused r) bs = false
-gave (accepted ls) bs = sameName ls bs
+gave (accepted ls) bs = same_name ls bs
 
 -- the text is the file
-abbrev inFile : Source → Bool
-inFile document = false
-inFile query = false
-inFile file = true
+abbrev in_file : Source → Bool
+in_file document = false
+in_file query = false
+in_file file = true
 
 -- it is refused with this number, and hands back the empty part at this place of the file
 abbrev refuses : {A : Type 0} → Result A → ℕ → ℕ → Bool
-refuses (refused r) n p = eqb r.number n && (eqb r.start p && (eqb r.len 0 && inFile r.source))
+refuses (refused r) n p = eqb r.number n && (eqb r.start p && (eqb r.len 0 && in_file r.source))
 refuses (accepted ls) n p = false
 
 -- the lines have so many bytes
@@ -74,10 +74,10 @@ pub samples : all_of (λ t. t)
     ∷ refuses (importing (ascii "-0\n") (ascii "sub") (ascii "free") 0) 20 0
     ∷ gave (importing (ascii "") (ascii "sub") (ascii "free") 0) (ascii "")
     -- measuring: the length, or 19 and 20
-    ∷ measures (measureImport (ascii "Ida,40\n") (ascii "sub") (ascii "free")) 22
-    ∷ measures (measureImport (ascii "") (ascii "sub") (ascii "free")) 0
-    ∷ refuses (measureImport (ascii "a,b\nc") (ascii "5") (ascii "free")) 19 4
-    ∷ refuses (measureImport (ascii "a,5\nb,01\n") (ascii "sub") (ascii "free")) 20 4
+    ∷ measures (measure_import (ascii "Ida,40\n") (ascii "sub") (ascii "free")) 22
+    ∷ measures (measure_import (ascii "") (ascii "sub") (ascii "free")) 0
+    ∷ refuses (measure_import (ascii "a,b\nc") (ascii "5") (ascii "free")) 19 4
+    ∷ refuses (measure_import (ascii "a,5\nb,01\n") (ascii "sub") (ascii "free")) 20 4
     ∷ []) ≡ true
 unfolding computing
 samples = refl

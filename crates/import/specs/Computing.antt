@@ -10,5 +10,5 @@ use Rattle.import.specs.Outside as Outside
 use Rattle.import.specs.ReadBack as ReadBack
 
 unfoldable pub computing : Unit {0}
-unfolding mathlib.Core.Option.bind mathlib.Core.List.flatten lists.computing text.computing calendar.computing condition.computing form.computing csv.computing Importing.refusalAt Importing.wellFormed Importing.refuseUnfit Importing.recordLine Importing.recordLines Importing.ifWritable Importing.importable Importing.importing Importing.lengthOnly Importing.longestBuffer Importing.measureImport Importing.afterImport Outside.lengthWithin Outside.inBrief ReadBack.itemWords ReadBack.rowWords ReadBack.lineWords ReadBack.wholeLines ReadBack.lines_read
+unfolding mathlib.Core.Option.bind mathlib.Core.List.flatten lists.computing text.computing calendar.computing condition.computing form.computing csv.computing Importing.refusal_at Importing.well_formed Importing.refuse_unfit Importing.record_line Importing.record_lines Importing.if_writable Importing.importable Importing.importing Importing.length_only Importing.longest_buffer Importing.measure_import Importing.after_import Outside.length_within Outside.in_brief ReadBack.item_words ReadBack.row_words ReadBack.line_words ReadBack.whole_lines ReadBack.lines_read
 computing = tt

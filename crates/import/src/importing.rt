@@ -1,12 +1,12 @@
 // Importing a comma-separated file as row lines: judged and measured first, and then written straight into the lent buffer.
 ghost use Rattle.std.specs.Prelude.{◌*◌, ◌+◌, ◌<◌, ◌^◌, ℕ, List, ◌≡◌};
-ghost use Rattle.import.specs.Importing.{ifWritable, importable, measureImport, refusalAt};
-ghost use Rattle.import.specs.Outside.{Imports, importedAs, inBrief, judgedAs, lengthWithin};
+ghost use Rattle.import.specs.Importing.{if_writable, importable, measure_import, refusal_at};
+ghost use Rattle.import.specs.Outside.{Imports, imported_as, in_brief, judged_as, length_within};
 ghost use Rattle.csv.specs.Records.{Entry, records, split};
-ghost use Rattle.csv.specs.Scanned.{scanOf};
+ghost use Rattle.csv.specs.Scanned.{scan_of};
 ghost use Rattle.csv.specs.declared.records.Scan.TheVariants as scan;
-ghost use Rattle.text.specs.Names.{isName};
-ghost use Rattle.text.specs.Reasons.{reasonNumber, refusalOf};
+ghost use Rattle.text.specs.Names.{is_name};
+ghost use Rattle.text.specs.Reasons.{reason_number, refusal_of};
 
 use crate::rows::put_rows;
 use csv::records::{Scan, scan_file};
@@ -32,7 +32,7 @@ pub enum Judged {
 
 // The refusal that hands back the empty part at a place of the file.
 fn refusal_at(reason: Reason, place: usize) -> Refusal
-    ensures { refusalOf result ≡ refusalAt (reasonNumber reason) place }
+    ensures { refusal_of result ≡ refusal_at (reason_number reason) place }
 {
     Refusal {
         reason,
@@ -44,7 +44,7 @@ fn refusal_at(reason: Reason, place: usize) -> Refusal
 
 // Whether the text is a name.
 fn is_name(s: &[u8]) -> bool
-    ensures { result ≡ isName s.now }
+    ensures { result ≡ is_name s.now }
 {
     let n = name_end(s, 0);
     match n {
@@ -57,7 +57,7 @@ fn is_name(s: &[u8]) -> bool
 // could wrap.
 fn length_within(room: usize, count: usize, each: usize, more: usize) -> End
     requires { 0 < each }
-    ensures { result ≡ lengthWithin room (count * each + more) }
+    ensures { result ≡ length_within room (count * each + more) }
 {
     if room < more {
         return End::Nothing;
@@ -77,7 +77,7 @@ fn judge_scanned(
     size: usize,
     unfit: End,
 ) -> Judged
-    ensures { (es : List Entry) → scanOf (split es) ≡ scan.Counted count size unfit → judgedAs result ≡ inBrief table.now label.now (ifWritable table.now label.now room es) }
+    ensures { (es : List Entry) → scan_of (split es) ≡ scan.Counted count size unfit → judged_as result ≡ in_brief table.now label.now (if_writable table.now label.now room es) }
 {
     if !is_name(table) {
         return Judged::Refused(refusal_at(Reason::UnfitField, 0));
@@ -97,7 +97,7 @@ fn judge_scanned(
 
 // 19, 20 and 21 of a file, by what scanning it gave.
 fn judge(x: Scan, table: &[u8], label: &[u8], room: usize) -> Judged
-    ensures { (bytes : List ℕ) → x ≡ scanOf (records bytes) → judgedAs result ≡ inBrief table.now label.now (importable bytes table.now label.now room) }
+    ensures { (bytes : List ℕ) → x ≡ scan_of (records bytes) → judged_as result ≡ in_brief table.now label.now (importable bytes table.now label.now room) }
 {
     match x {
         Scan::Malformed(p) => Judged::Refused(refusal_at(Reason::MalformedRecord, p)),
@@ -124,7 +124,7 @@ pub fn import_rows(file: &[u8], table: &[u8], label: &[u8], out: &mut [u8]) -> I
 
 // How long the lines are: what import_rows has to be lent.
 pub fn measure_rows(file: &[u8], table: &[u8], label: &[u8]) -> Imported
-    ensures { importedAs result ≡ measureImport file.now table.now label.now }
+    ensures { imported_as result ≡ measure_import file.now table.now label.now }
 {
     let x = scan_file(file);
     let j = judge(x, table, label, MOST);

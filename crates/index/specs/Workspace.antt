@@ -21,7 +21,7 @@ pub record Indexed (text ps rs bs us cs gs ls ms ts ws : List ℕ) (c : Counts) 
   pub roles : Nodes 64 text rs c.roles d.policy.roles
   pub attributes : Attributes text bs c.attributes d.policy.attributes
   pub users : Users d.policy text us c.users d.policy.users
-  pub conds : CondRoles d.policy text cs c.conds d.policy.condRoles
+  pub conds : CondRoles d.policy text cs c.conds d.policy.cond_roles
   pub grants : Grants gs c.grants d.policy.grants
   pub labels : Labels text ls ms c.labels d.policy.labels
   pub tables : Tables text ts c.tables d.policy.tables

@@ -1,10 +1,10 @@
 -- Contract: what becomes of a row, and what the arrays say of its cells.
 use Rattle.std.specs.Prelude.{◌+◌, ◌<◌, ◌≤◌, ℕ, eqb, drop, get_or, take, Bool, ◌&&◌, cond, false, true, List, ◌≡◌}
 use Rattle.answer.specs.Answer.{satisfies}
-use Rattle.answer.specs.Exactly.{isGiven, isUnmatchedRow, isWithheldRow}
-use Rattle.answer.specs.Seen.{rowsIn}
-use Rattle.document.specs.Lookup.{notesOf, schemeAt, settled}
-use Rattle.document.specs.Open.{openTo, rowWithheld}
+use Rattle.answer.specs.Exactly.{is_given, is_unmatched_row, is_withheld_row}
+use Rattle.answer.specs.Seen.{rows_in}
+use Rattle.document.specs.Lookup.{notes_of, scheme_at, settled}
+use Rattle.document.specs.Open.{open_to, row_withheld}
 use Rattle.document.specs.Policy.{Doc, Policy, Row}
 use Rattle.form.specs.Form.{Note}
 use Rattle.form.specs.declared.lines.Scheme as coded
@@ -17,29 +17,29 @@ use Rattle.judging.specs.declared.sought.Sought.{Sought}
 use Rattle.judging.specs.declared.tally.Tally.{Tally}
 use Rattle.lists.specs.Lists.{count_of}
 use Rattle.query.specs.Query.{Query}
-use Rattle.query.specs.QueryForm.{modeIn}
+use Rattle.query.specs.QueryForm.{mode_in}
 use Rattle.relations.specs.Labels.{Said}
-use Rattle.relations.specs.Rows.{Rows, labelCountIn, labelRoom, labelsIn}
-use Rattle.relations.specs.Tables.{schemeBy}
+use Rattle.relations.specs.Rows.{Rows, label_count_in, label_room, labels_in}
+use Rattle.relations.specs.Tables.{scheme_by}
 use Rattle.workspace.specs.Tabulated.{tabulated}
 
 -- fates::is_withheld: the row is withheld, where the scheme and the marking are those of a table with some notes
 abbrev pub WithheldBy : (scheme : coded.Scheme) (ws : List ℕ) (os : List Bool) (m : Marking) (r : ℕ) (cs : List ℕ) (x : Bool) → Type 0
 WithheldBy scheme ws os m r cs x =
-    (d : Policy) (p l : ℕ) (ls : List ℕ) (ns : List (Note ℕ)) → Said d p os → Marks d p m (schemeBy scheme l ls) ns → r < 1024 → labelCountIn ws r ≤ labelRoom →
-    x ≡ rowWithheld (openTo d p) (settled ns (schemeBy scheme l ls)) cs (labelsIn ws r)
+    (d : Policy) (p l : ℕ) (ls : List ℕ) (ns : List (Note ℕ)) → Said d p os → Marks d p m (scheme_by scheme l ls) ns → r < 1024 → label_count_in ws r ≤ label_room →
+    x ≡ row_withheld (open_to d p) (settled ns (scheme_by scheme l ls)) cs (labels_in ws r)
 
 -- ---- the rows
 
 -- what becomes of a row of the table: a withheld row is that, whether its condition holds or not
-abbrev pub fateHere : Bool → Bool → Fate
-fateHere held met = cond held fate.Withheld (cond met fate.Passed fate.Unmatched)
+abbrev pub fate_here : Bool → Bool → Fate
+fate_here held met = cond held fate.Withheld (cond met fate.Passed fate.Unmatched)
 
 -- what becomes of a row
-unfoldable pub fateOf : Doc → Query → Row → Fate
-fateOf d q row =
+unfoldable pub fate_of : Doc → Query → Row → Fate
+fate_of d q row =
     cond (eqb row.table q.source.table)
-    (fateHere (isWithheldRow d q row) (satisfies q row.values))
+    (fate_here (is_withheld_row d q row) (satisfies q row.values))
     fate.Elsewhere
 
 -- the row passes
@@ -50,11 +50,11 @@ passed_by fate.Passed = true
 passed_by fate.Unmatched = false
 
 -- the counts with one row more
-abbrev pub countedBy : Tally → Fate → Tally
-countedBy x fate.Elsewhere = x
-countedBy x fate.Withheld = record { passed = x.passed; withheld = x.withheld + 1; unmatched = x.unmatched }
-countedBy x fate.Passed = record { passed = x.passed + 1; withheld = x.withheld; unmatched = x.unmatched }
-countedBy x fate.Unmatched = record { passed = x.passed; withheld = x.withheld; unmatched = x.unmatched + 1 }
+abbrev pub counted_by : Tally → Fate → Tally
+counted_by x fate.Elsewhere = x
+counted_by x fate.Withheld = record { passed = x.passed; withheld = x.withheld + 1; unmatched = x.unmatched }
+counted_by x fate.Passed = record { passed = x.passed + 1; withheld = x.withheld; unmatched = x.unmatched }
+counted_by x fate.Unmatched = record { passed = x.passed; withheld = x.withheld; unmatched = x.unmatched + 1 }
 
 -- a query and what is read of it, ready for each of the rows: g is what is sought of them, in a table of this scheme; of the numbers cs
 -- those from `first` on are of the columns that withhold, and the condition's comparisons are read
@@ -63,15 +63,15 @@ pub record Judgeable (text ws : List ℕ) (count : ℕ) (os : List Bool) (s : Li
   pub table : q.source.table ≡ g.table
   pub label : ℕ
   pub labels : List ℕ
-  pub schemed : schemeBy scheme label labels ≡ schemeAt d.policy q.source.table
+  pub schemed : scheme_by scheme label labels ≡ scheme_at d.policy q.source.table
   pub said : Said d.policy q.purpose os
-  pub marking : Marks d.policy q.purpose g.marking (schemeAt d.policy q.source.table) (notesOf d.policy.notes q.source.table)
+  pub marking : Marks d.policy q.purpose g.marking (scheme_at d.policy q.source.table) (notes_of d.policy.notes q.source.table)
   pub withholding : drop first (take (g.chosen + g.tests) cs) ≡ q.source.withholding
-  pub tested : Tested s read g.tests (modeIn q.wanted) q.condition
+  pub tested : Tested s read g.tests (mode_in q.wanted) q.condition
 
 -- the same as Judged, for the first k rows
 pub record JudgedTo (d : Doc) (q : Query) (row : ℕ → Row) (k : ℕ) (marks : List Bool) (x : Tally) : Type 0 where
-  pub given : (r : ℕ) → r < k → get_or marks r false ≡ (eqb (row r).table q.source.table && isGiven d q (row r))
-  pub passed : x.passed ≡ count_of (isGiven d q) (rowsIn q.source.table (tabulated row k))
-  pub withheld : x.withheld ≡ count_of (isWithheldRow d q) (rowsIn q.source.table (tabulated row k))
-  pub unmatched : x.unmatched ≡ count_of (isUnmatchedRow d q) (rowsIn q.source.table (tabulated row k))
+  pub given : (r : ℕ) → r < k → get_or marks r false ≡ (eqb (row r).table q.source.table && is_given d q (row r))
+  pub passed : x.passed ≡ count_of (is_given d q) (rows_in q.source.table (tabulated row k))
+  pub withheld : x.withheld ≡ count_of (is_withheld_row d q) (rows_in q.source.table (tabulated row k))
+  pub unmatched : x.unmatched ≡ count_of (is_unmatched_row d q) (rows_in q.source.table (tabulated row k))

@@ -2,7 +2,7 @@
 ghost use Rattle.std.specs.Prelude.{◌≡◌};
 ghost use Rattle.condition.specs.Answers.{kind_of};
 ghost use Rattle.judging.specs.Constants.{ConstantOf};
-ghost use Rattle.text.specs.Words.{writtenAt};
+ghost use Rattle.text.specs.Words.{written_at};
 
 use calendar::reading::{DateRead, read_date};
 use condition::kinds::Kind;
@@ -25,7 +25,7 @@ fn rank_number(n: u64) -> usize
 
 // Reads the constant at a place of the query, where one of the type should stand.
 pub(crate) fn read_constant(query: &[u8], at: usize, kind: Kind) -> Constant
-    ensures { ConstantOf (kind_of kind) (writtenAt query.now at) result }
+    ensures { ConstantOf (kind_of kind) (written_at query.now at) result }
 {
     match kind {
         Kind::Num => {

@@ -2,16 +2,16 @@
 ghost use Rattle.std.specs.Prelude.{◌+◌, ◌<◌, ◌≤◌, ℕ, drop, get_or, length, take, ◌&&◌, false, not, List, ◌≡◌};
 ghost use Rattle.std.proofs.Math.Option.{Option};
 ghost use Rattle.answer.specs.Answer.{matches};
-ghost use Rattle.judging.specs.Judging.{JudgedTo, Judgeable, WithheldBy, countedBy, fateHere, fateOf, passed_by};
-ghost use Rattle.judging.specs.Marking.{openUnder};
+ghost use Rattle.judging.specs.Judging.{JudgedTo, Judgeable, WithheldBy, counted_by, fate_here, fate_of, passed_by};
+ghost use Rattle.judging.specs.Marking.{open_under};
 ghost use Rattle.judging.specs.Promises.{JudgeEachPromise};
-ghost use Rattle.judging.specs.Prepared.{Judged, Prepared, firstWithholding};
+ghost use Rattle.judging.specs.Prepared.{Judged, Prepared, first_withholding};
 ghost use Rattle.judging.specs.Tests.{Tested};
 ghost use Rattle.condition.specs.Comparison.{Comparison};
 ghost use Rattle.condition.specs.Cond.{Cond};
 ghost use Rattle.condition.specs.Ranges.{Mode};
 ghost use Rattle.document.specs.Policy.{Doc};
-ghost use Rattle.relations.specs.Rows.{labelCountIn, labelRoom, labelsIn, row_in, valueCountIn};
+ghost use Rattle.relations.specs.Rows.{label_count_in, label_room, labels_in, row_in, value_count_in};
 ghost use Rattle.lists.specs.Lists.{any_of};
 ghost use Rattle.query.specs.Query.{Query};
 
@@ -43,7 +43,7 @@ fn any_closed(
     r: usize,
     columns: &[usize],
 ) -> bool
-    ensures { r < 1024 → labelCountIn rows.now r ≤ labelRoom → result ≡ any_of (λ c. not (openUnder said.now m (labelsIn rows.now r) c)) columns.now }
+    ensures { r < 1024 → label_count_in rows.now r ≤ label_room → result ≡ any_of (λ c. not (open_under said.now m (labels_in rows.now r) c)) columns.now }
 {
     let mut i = 0;
     while i < columns.len() {
@@ -90,7 +90,7 @@ fn row_met(
     m: usize,
 ) -> bool
     requires { m ≤ 64 }
-    ensures { (mode : Mode) (o : Option (Cond Comparison)) → Tested query.now tests.now m mode o → r < 1024 → valueCountIn rows.now r ≤ 16 → result ≡ (not skip && matches mode o (row_in text.now rows.now r).values) }
+    ensures { (mode : Mode) (o : Option (Cond Comparison)) → Tested query.now tests.now m mode o → r < 1024 → value_count_in rows.now r ≤ 16 → result ≡ (not skip && matches mode o (row_in text.now rows.now r).values) }
 {
     if skip {
         return false;
@@ -100,7 +100,7 @@ fn row_met(
 
 // What becomes of a row of the table: a withheld row is that, whether its condition holds or not.
 fn fate_here(held: bool, met: bool) -> Fate
-    ensures { result ≡ fateHere held met }
+    ensures { result ≡ fate_here held met }
 {
     if held {
         return Fate::Withheld;
@@ -125,7 +125,7 @@ fn fate_of(
     tests: &[usize; TEST_CELLS],
 ) -> Fate
     requires { (s.chosen ≤ 16) × (s.tests ≤ 64) × (first ≤ s.chosen) }
-    ensures { (count : ℕ) (d : Doc) (q : Query) → Judgeable text.now rows.now count said.now query.now s first scheme columns.now tests.now d q → r < count → result ≡ fateOf d q (row_in text.now rows.now r) }
+    ensures { (count : ℕ) (d : Doc) (q : Query) → Judgeable text.now rows.now count said.now query.now s first scheme columns.now tests.now d q → r < count → result ≡ fate_of d q (row_in text.now rows.now r) }
 {
     let m = s.tests;
     if row_table(rows, r) != s.table {
@@ -154,7 +154,7 @@ fn is_passed(f: Fate) -> bool
 // One row more is counted.
 fn count_row(x: Tally, f: Fate) -> Tally
     requires { (x.passed < 1024) × (x.withheld < 1024) × (x.unmatched < 1024) }
-    ensures { result ≡ countedBy x f }
+    ensures { result ≡ counted_by x f }
 {
     let passed = x.passed;
     let withheld = x.withheld;
@@ -213,7 +213,7 @@ fn judge_each(
 
 // The first of the columns whose closed cells withhold: where gaps are left, the selected ones do not (02, Q-10).
 fn first_withholding(s: Sought) -> usize
-    ensures { (result ≡ firstWithholding s) × (result ≤ s.chosen) }
+    ensures { (result ≡ first_withholding s) × (result ≤ s.chosen) }
 {
     let verb = s.verb;
     if leaves_gaps(verb) {

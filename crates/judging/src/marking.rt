@@ -1,9 +1,9 @@
 // Whether the cells of a row are open: by their own labels, or, in a nest table, by the labels that come down to them (02, Q-11).
 ghost use Rattle.std.specs.Prelude.{◌<◌, ◌≤◌, suc, ◌≡◌};
 ghost use Rattle.std.proofs.Math.ListN.{get_elem?};
-ghost use Rattle.judging.specs.Marking.{MarkingOf, openUnder, openedFor, underRow};
-ghost use Rattle.relations.specs.Labels.{verdictFor};
-ghost use Rattle.relations.specs.Rows.{labelCountIn, labelRoom, labelsIn};
+ghost use Rattle.judging.specs.Marking.{MarkingOf, open_under, opened_for, under_row};
+ghost use Rattle.relations.specs.Labels.{verdict_for};
+ghost use Rattle.relations.specs.Rows.{label_count_in, label_room, labels_in};
 
 use purpose::{Verdict, merged_over, nest_open};
 use relations::labels::{said_at, said_of};
@@ -36,7 +36,7 @@ pub fn marking_of(tables: &[usize; TABLE_CELLS], t: usize, said: &[bool; VERDICT
 
 // What label i of row r says; a label that the row has not says nothing.
 fn label_said(rows: &[usize; ROW_CELLS], said: &[bool; VERDICTS], r: usize, i: usize) -> Verdict
-    ensures { r < 1024 → labelCountIn rows.now r ≤ labelRoom → result ≡ verdictFor said.now (get_elem? (labelsIn rows.now r) i) }
+    ensures { r < 1024 → label_count_in rows.now r ≤ label_room → result ≡ verdict_for said.now (get_elem? (labels_in rows.now r) i) }
 {
     let n = row_labels(rows, r);
     if i < n {
@@ -55,7 +55,7 @@ pub(crate) fn label_open(
     r: usize,
     i: usize,
 ) -> bool
-    ensures { r < 1024 → labelCountIn rows.now r ≤ labelRoom → result ≡ openedFor said.now (get_elem? (labelsIn rows.now r) i) }
+    ensures { r < 1024 → label_count_in rows.now r ≤ label_room → result ≡ opened_for said.now (get_elem? (labels_in rows.now r) i) }
 {
     let v = label_said(rows, said, r, i);
     if v.allowed {
@@ -71,7 +71,7 @@ pub fn under_row(
     m: Marking,
     r: usize,
 ) -> Marking
-    ensures { r < 1024 → labelCountIn rows.now r ≤ labelRoom → result ≡ underRow said.now m (labelsIn rows.now r) }
+    ensures { r < 1024 → label_count_in rows.now r ≤ label_room → result ≡ under_row said.now m (labels_in rows.now r) }
 {
     if m.nested {
         let strong = m.strong;
@@ -88,7 +88,7 @@ pub fn under_row(
 
 // What the label of cell c of row r says, where the row's own label stands first.
 fn cell_said(rows: &[usize; ROW_CELLS], said: &[bool; VERDICTS], r: usize, c: usize) -> Verdict
-    ensures { r < 1024 → labelCountIn rows.now r ≤ labelRoom → result ≡ verdictFor said.now (get_elem? (labelsIn rows.now r) (suc c)) }
+    ensures { r < 1024 → label_count_in rows.now r ≤ label_room → result ≡ verdict_for said.now (get_elem? (labels_in rows.now r) (suc c)) }
 {
     if c < COLUMNS {
         return label_said(rows, said, r, c + 1);
@@ -107,7 +107,7 @@ pub fn cell_open(
     r: usize,
     c: usize,
 ) -> bool
-    ensures { r < 1024 → labelCountIn rows.now r ≤ labelRoom → result ≡ openUnder said.now m (labelsIn rows.now r) c }
+    ensures { r < 1024 → label_count_in rows.now r ≤ label_room → result ≡ open_under said.now m (labels_in rows.now r) c }
 {
     if m.nested {
         let strong = m.strong;

@@ -2,9 +2,9 @@
 // in the same way, by both its tables (02, Q-3).
 ghost use Rattle.std.specs.Prelude.{◌+◌, ◌<◌, ◌≤◌, ℕ, eqb, length, cond, List, ◌≡◌};
 ghost use Rattle.judging.specs.Reading.{Comparable, ReadsComparisons, TestsRead};
-ghost use Rattle.judging.specs.Tests.{KindRead, ProgramOf, TestAt, TestOf, TestStored, modeUnder, testIn};
-ghost use Rattle.condition.specs.Answers.{kind_of, modeBy, namingBy};
-ghost use Rattle.document.specs.Lookup.{columnsAt};
+ghost use Rattle.judging.specs.Tests.{KindRead, ProgramOf, TestAt, TestOf, TestStored, mode_under, test_in};
+ghost use Rattle.condition.specs.Answers.{kind_of, mode_by, naming_by};
+ghost use Rattle.document.specs.Lookup.{columns_at};
 ghost use Rattle.document.specs.Policy.{Policy};
 
 use crate::constants::read_constant;
@@ -69,7 +69,7 @@ fn flag_number(b: bool) -> usize
 
 // Whether a comparison is asked for sure: under an odd number of `not`s it is asked the other way.
 fn asked_certain(certain: bool, odd: bool) -> bool
-    ensures { modeBy result ≡ modeUnder (modeBy certain) odd }
+    ensures { mode_by result ≡ mode_under (mode_by certain) odd }
 {
     if odd {
         return !certain;
@@ -98,7 +98,7 @@ fn read_test(
     miss: usize,
     certain: bool,
 ) -> TestRead
-    ensures { TestOf tables.now g query.now op c hit miss (modeBy certain) result }
+    ensures { TestOf tables.now g query.now op c hit miss (mode_by certain) result }
 {
     let place = value_place(query, op, g.joined);
     let end = word_end(query, place);
@@ -145,7 +145,7 @@ fn store_test(tests: &mut [usize; TEST_CELLS], j: usize, x: TestRead)
 // Comparison j, as it was stored.
 pub(crate) fn test_at(tests: &[usize; TEST_CELLS], j: usize) -> TestRead
     requires { j < 64 }
-    ensures { result ≡ testIn tests.now j }
+    ensures { result ≡ test_in tests.now j }
 {
     let at = 11 * j;
     TestRead {
@@ -165,7 +165,7 @@ pub(crate) fn test_at(tests: &[usize; TEST_CELLS], j: usize) -> TestRead
 
 // The comparison to go on with behind comparison j, where it holds and where it does not.
 pub fn next_of(tests: &[usize; TEST_CELLS], j: usize, holds: bool) -> usize
-    ensures { j < 64 → result ≡ cond holds (testIn tests.now j).hit (testIn tests.now j).miss }
+    ensures { j < 64 → result ≡ cond holds (test_in tests.now j).hit (test_in tests.now j).miss }
 {
     if TESTS <= j {
         return 0;
@@ -186,7 +186,7 @@ fn store_program(
     falses: &mut [usize; 64],
     flips: &mut [bool; 64],
 )
-    ensures { ProgramOf (namingBy joined) query.now test trues.new falses.new flips.new }
+    ensures { ProgramOf (naming_by joined) query.now test trues.new falses.new flips.new }
 {
     match test {
         Test::Always => {}
@@ -276,7 +276,7 @@ pub fn read_tests(
     columns: &[usize; 80],
     tests: &mut [usize; TEST_CELLS],
 )
-    ensures { (text : List ℕ) (d : Policy) → Comparable text tables.now query.now s ops.now columns.now d → TestsRead query.now s tests.new (columnsAt d s.table) }
+    ensures { (text : List ℕ) (d : Policy) → Comparable text tables.now query.now s ops.now columns.now d → TestsRead query.now s tests.new (columns_at d s.table) }
 {
     let verb = s.verb;
     let test = s.test;

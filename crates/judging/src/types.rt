@@ -1,9 +1,9 @@
 // The types of a query's condition (16) and its dates that do not exist (31), told from its comparisons as they were read.
 ghost use Rattle.std.specs.Prelude.{◌≤◌, ℕ, List, ◌≡◌};
-ghost use Rattle.judging.specs.Reading.{firstMissing, firstWrong, wrongBy};
-ghost use Rattle.query.specs.Query.{isMissingDate};
-ghost use Rattle.text.specs.CodeEnds.{offendingValue};
-ghost use Rattle.text.specs.Words.{writtenAt};
+ghost use Rattle.judging.specs.Reading.{first_missing, first_wrong, wrong_by};
+ghost use Rattle.query.specs.Query.{is_missing_date};
+ghost use Rattle.text.specs.CodeEnds.{offending_value};
+ghost use Rattle.text.specs.Words.{written_at};
 
 use crate::tests::{TEST_CELLS, TESTS, TestRead, test_at};
 use calendar::reading::{DateRead, read_date};
@@ -13,7 +13,7 @@ use workspace::store::kind_by;
 
 // The operator of a comparison, or else its value, where it is of the wrong type.
 fn wrong_test(x: TestRead) -> Offending
-    ensures { (s : List ℕ) → offendingValue s result ≡ wrongBy s x }
+    ensures { (s : List ℕ) → offending_value s result ≡ wrong_by s x }
 {
     if !takes_op(kind_by(x.kind), op_by(x.operator)) {
         return Offending::At(x.sign);
@@ -26,7 +26,7 @@ fn wrong_test(x: TestRead) -> Offending
 
 // The first operator or value of the wrong type among m comparisons.
 pub fn mistyped_test(tests: &[usize; TEST_CELLS], m: usize) -> Offending
-    ensures { (s : List ℕ) → m ≤ 64 → offendingValue s result ≡ firstWrong s tests.now m }
+    ensures { (s : List ℕ) → m ≤ 64 → offending_value s result ≡ first_wrong s tests.now m }
 {
     let mut j = 0;
     while j < m {
@@ -44,7 +44,7 @@ pub fn mistyped_test(tests: &[usize; TEST_CELLS], m: usize) -> Offending
 
 // Whether a date is written at a place of the query, and there is no such date.
 fn is_missing_date(query: &[u8], at: usize) -> bool
-    ensures { result ≡ isMissingDate (writtenAt query.now at) }
+    ensures { result ≡ is_missing_date (written_at query.now at) }
 {
     let d = read_date(query, at);
     match d {
@@ -56,7 +56,7 @@ fn is_missing_date(query: &[u8], at: usize) -> bool
 
 // The first date that does not exist among m comparisons.
 pub fn missing_date(query: &[u8], tests: &[usize; TEST_CELLS], m: usize) -> Offending
-    ensures { m ≤ 64 → offendingValue query.now result ≡ firstMissing query.now tests.now m }
+    ensures { m ≤ 64 → offending_value query.now result ≡ first_missing query.now tests.now m }
 {
     let mut j = 0;
     while j < m {

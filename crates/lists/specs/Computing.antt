@@ -2,5 +2,5 @@
 use Rattle.lists.specs.Lists as Lists
 
 unfoldable pub computing : Unit {0}
-unfolding mathlib.Core.Option.bind mathlib.Core.List.flatten Lists.any_of Lists.all_of Lists.keep Lists.count_of Lists.findIndexFrom Lists.findIndex Lists.find Lists.found Lists.there Lists.holds_of Lists.listed Lists.member Lists.or_zero
+unfolding mathlib.Core.Option.bind mathlib.Core.List.flatten Lists.any_of Lists.all_of Lists.keep Lists.count_of Lists.find_index_from Lists.find_index Lists.find Lists.found Lists.there Lists.holds_of Lists.listed Lists.member Lists.or_zero
 computing = tt

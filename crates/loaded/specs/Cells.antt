@@ -7,8 +7,8 @@ unfoldable pub version : ℕ
 version = 7700003
 
 -- how many of each kind the arrays hold
-unfoldable pub countsIn : List ℕ → Counts
-countsIn l = record {
+unfoldable pub counts_in : List ℕ → Counts
+counts_in l = record {
   purposes = get_or l 1 0;
   roles = get_or l 2 0;
   attributes = get_or l 3 0;
@@ -25,5 +25,5 @@ unfoldable pub cells_of : Counts → List ℕ
 cells_of c = version ∷ c.purposes ∷ c.roles ∷ c.attributes ∷ c.users ∷ c.conds ∷ c.grants ∷ c.labels ∷ c.tables ∷ c.rows ∷ []
 
 -- the numbers beside arrays that hold no document
-unfoldable pub noCells : List ℕ
-noCells = 0 ∷ 0 ∷ 0 ∷ 0 ∷ 0 ∷ 0 ∷ 0 ∷ 0 ∷ 0 ∷ 0 ∷ []
+unfoldable pub no_cells : List ℕ
+no_cells = 0 ∷ 0 ∷ 0 ∷ 0 ∷ 0 ∷ 0 ∷ 0 ∷ 0 ∷ 0 ∷ 0 ∷ []

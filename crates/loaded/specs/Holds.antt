@@ -1,7 +1,7 @@
 -- Contract: when arrays hold a loaded document.
 use Rattle.std.specs.Prelude.{ℕ, get_or, List, ◌≡◌}
 use Rattle.document.specs.Check.{Accepted, check}
-use Rattle.loaded.specs.Cells.{countsIn, version}
+use Rattle.loaded.specs.Cells.{counts_in, version}
 use Rattle.stages.specs.Stages.{Standing}
 use Rattle.text.specs.Refusal.{accepted}
 
@@ -11,4 +11,4 @@ pub record Holds (text ps rs bs us cs gs ms ts ws cells : List ℕ) : Type 0 whe
   pub what : Accepted
   pub is : check text ≡ accepted what
   pub filled : get_or cells 0 0 ≡ version
-  pub standing : Standing text ps rs bs us cs gs ms ts ws (countsIn cells) what.doc
+  pub standing : Standing text ps rs bs us cs gs ms ts ws (counts_in cells) what.doc

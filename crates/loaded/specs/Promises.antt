@@ -1,6 +1,6 @@
 -- Contract: what functions of this crate promise: over arrays that hold this very text, what asking and measuring the text give.
 use Rattle.std.specs.Prelude.{ℕ, List}
-use Rattle.answer.specs.Ask.{askUnbounded}
+use Rattle.answer.specs.Ask.{ask_unbounded}
 use Rattle.loaded.specs.Holds.{Holds}
 use Rattle.loaded.specs.Outside.{Asks, Measures}
 use Rattle.query.specs.Authority.{Clock}
@@ -10,7 +10,7 @@ use Rattle.stages.specs.declared.answered.Answered.{Answered}
 
 -- asks::ask_unbounded: the answer, 18 aside
 abbrev pub AskUnboundedPromise : (text ps rs bs us cs gs ms ts ws cells : List ℕ) (c : Clock) (query out out' : List ℕ) (r : Answered) → Type 0
-AskUnboundedPromise text ps rs bs us cs gs ms ts ws cells c query out out' r = Holds text ps rs bs us cs gs ms ts ws cells → Gives (askUnbounded text query c) out out' r
+AskUnboundedPromise text ps rs bs us cs gs ms ts ws cells c query out out' r = Holds text ps rs bs us cs gs ms ts ws cells → Gives (ask_unbounded text query c) out out' r
 
 -- asks::ask_loaded: the answer
 abbrev pub AskLoadedPromise : (text ps rs bs us cs gs ms ts ws cells : List ℕ) (c : Clock) (query out out' : List ℕ) (r : Answered) → Type 0

@@ -1,7 +1,7 @@
 // Asking a document that was loaded before. Whatever the arrays hold, a call returns; over those that hold this very text it gives
 // what asking the text gives.
 ghost use Rattle.loaded.specs.Promises.{AskLoadedPromise, AskUnboundedPromise};
-ghost use Rattle.query.specs.HostClock.{clockOf};
+ghost use Rattle.query.specs.HostClock.{clock_of};
 
 use crate::cells::{CELLS, counts_of};
 use crate::room::within_room;
@@ -30,7 +30,7 @@ pub(crate) fn ask_unbounded(
     query: &[u8],
     out: &mut [u8],
 ) -> Answered
-    ensures { AskUnboundedPromise text.now purposes.now roles.now attributes.now users.now conds.now grants.now sets.now tables.now rows.now cells.now (clockOf clock) query.now out.old out.new result }
+    ensures { AskUnboundedPromise text.now purposes.now roles.now attributes.now users.now conds.now grants.now sets.now tables.now rows.now cells.now (clock_of clock) query.now out.old out.new result }
 {
     let c = counts_of(cells);
     ask_accepted(
@@ -56,7 +56,7 @@ pub fn ask_loaded(
     query: &[u8],
     out: &mut [u8],
 ) -> Answered
-    ensures { AskLoadedPromise text.now purposes.now roles.now attributes.now users.now conds.now grants.now sets.now tables.now rows.now cells.now (clockOf clock) query.now out.old out.new result }
+    ensures { AskLoadedPromise text.now purposes.now roles.now attributes.now users.now conds.now grants.now sets.now tables.now rows.now cells.now (clock_of clock) query.now out.old out.new result }
 {
     let room = out.len();
     let a = ask_unbounded(

@@ -1,6 +1,6 @@
 // The numbers beside the lent arrays: the version of the layout, then how many of each kind the arrays hold.
 ghost use Rattle.std.specs.Prelude.{eqb, get_or, ◌≡◌};
-ghost use Rattle.loaded.specs.Cells.{cells_of, countsIn, noCells, version};
+ghost use Rattle.loaded.specs.Cells.{cells_of, counts_in, no_cells, version};
 
 use index::counts::Counts;
 
@@ -19,7 +19,7 @@ pub fn is_loaded(cells: &[usize; CELLS]) -> bool
 
 // How many of each kind the arrays hold.
 pub fn counts_of(cells: &[usize; CELLS]) -> Counts
-    ensures { result ≡ countsIn cells.now }
+    ensures { result ≡ counts_in cells.now }
 {
     Counts {
         purposes: cells[1],
@@ -54,7 +54,7 @@ pub fn store_counts(cells: &mut [usize; CELLS], c: Counts)
 
 // Says that the arrays hold no document.
 pub fn store_none(cells: &mut [usize; CELLS])
-    ensures { cells.new ≡ noCells }
+    ensures { cells.new ≡ no_cells }
 {
     *cells = [0, 0, 0, 0, 0, 0, 0, 0, 0, 0];
 }

@@ -1,6 +1,6 @@
 // How long an answer of a loaded document is, so that a host can lend exactly enough.
 ghost use Rattle.loaded.specs.Promises.{MeasureLoadedPromise};
-ghost use Rattle.query.specs.HostClock.{clockOf};
+ghost use Rattle.query.specs.HostClock.{clock_of};
 
 use crate::asks::ask_unbounded;
 use crate::cells::CELLS;
@@ -35,7 +35,7 @@ pub fn measure_loaded(
     clock: Clock,
     query: &[u8],
 ) -> Measured
-    ensures { MeasureLoadedPromise text.now purposes.now roles.now attributes.now users.now conds.now grants.now sets.now tables.now rows.now cells.now (clockOf clock) query.now result }
+    ensures { MeasureLoadedPromise text.now purposes.now roles.now attributes.now users.now conds.now grants.now sets.now tables.now rows.now cells.now (clock_of clock) query.now result }
 {
     let mut nothing = [0u8; 1];
     let a = ask_unbounded(

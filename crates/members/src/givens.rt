@@ -2,20 +2,20 @@
 ghost use Rattle.std.specs.Prelude.{ℕ, length, take, List, map, ◌≡◌};
 ghost use Rattle.std.proofs.Math.ListN.{get_elem?};
 ghost use Rattle.std.proofs.Math.Option.{some};
-ghost use Rattle.condition.specs.Kinds.{hasKind};
-ghost use Rattle.document.specs.Lookup.{attributeKind, attributeOf, hasAttribute};
+ghost use Rattle.condition.specs.Kinds.{has_kind};
+ghost use Rattle.document.specs.Lookup.{attribute_kind, attribute_of, has_attribute};
 ghost use Rattle.document.specs.Policy.{Attribute, Policy};
-ghost use Rattle.document.specs.ValueFaults.{givesAll, isAttributeOf};
+ghost use Rattle.document.specs.ValueFaults.{gives_all, is_attribute_of};
 ghost use Rattle.stepping.specs.Places.{Near};
-ghost use Rattle.form.specs.Walks.{givensAt};
+ghost use Rattle.form.specs.Walks.{givens_at};
 ghost use Rattle.principals.specs.Attributes.{Attributes};
 ghost use Rattle.principals.specs.Nodes.{Nodes};
 ghost use Rattle.lists.specs.Distinct.{NoTwoSame};
 ghost use Rattle.lists.specs.Lists.{all_of, any_of, count_of, there};
-ghost use Rattle.text.specs.Names.{sameName};
+ghost use Rattle.text.specs.Names.{same_name};
 ghost use Rattle.text.specs.Offending.{leftmost, missing, repeated, unless};
-ghost use Rattle.text.specs.Words.{isCalled, word_at, word_of};
-ghost use Rattle.text.specs.CodeEnds.{offendingOf};
+ghost use Rattle.text.specs.Words.{is_called, word_at, word_of};
+ghost use Rattle.text.specs.CodeEnds.{offending_of};
 
 use condition::kinds::{Kind, has_kind};
 use form::walks::{first_in, pair_end, second_in};
@@ -36,7 +36,7 @@ fn attribute_known(
     line: &[u8],
     at: usize,
 ) -> bool
-    ensures { (d : Policy) → Attributes text.now attributes.now k d.attributes → result ≡ there (attributeOf d (word_of line.now at)) }
+    ensures { (d : Policy) → Attributes text.now attributes.now k d.attributes → result ≡ there (attribute_of d (word_of line.now at)) }
 {
     let found = find_attribute(text, attributes, k, line, at);
     match found {
@@ -53,7 +53,7 @@ pub(crate) fn first_unknown_given(
     line: &[u8],
     gs: usize,
 ) -> Offending
-    ensures { ((d : Policy) → Attributes text.now attributes.now k d.attributes → offendingOf line.now result ≡ missing (λ w. there (attributeOf d w)) (map (λ g. g.attribute) (givensAt line.now gs))) × Near line.now result }
+    ensures { ((d : Policy) → Attributes text.now attributes.now k d.attributes → offending_of line.now result ≡ missing (λ w. there (attribute_of d w)) (map (λ g. g.attribute) (givens_at line.now gs))) × Near line.now result }
 {
     let mut j = gs;
     while byte_at(line, j) == b' ' {
@@ -68,7 +68,7 @@ pub(crate) fn first_unknown_given(
 
 // Whether the name at w is among the attributes of the first n values.
 fn given_before(line: &[u8], gs: usize, n: usize, w: usize) -> bool
-    ensures { result ≡ any_of (λ v. isCalled (word_of line.now w) v.bytes) (take n (map (λ g. g.attribute) (givensAt line.now gs))) }
+    ensures { result ≡ any_of (λ v. is_called (word_of line.now w) v.bytes) (take n (map (λ g. g.attribute) (givens_at line.now gs))) }
 {
     let mut j = gs;
     let mut i = 0;
@@ -88,7 +88,7 @@ fn given_before(line: &[u8], gs: usize, n: usize, w: usize) -> bool
 
 // Whether an attribute is given twice. A name that is surely new is compared with none.
 fn givens_repeat_by(line: &[u8], gs: usize, met: &mut [u64]) -> bool
-    ensures { result ≡ there (repeated (map (λ g. g.attribute) (givensAt line.now gs))) }
+    ensures { result ≡ there (repeated (map (λ g. g.attribute) (givens_at line.now gs))) }
 {
     let mut j = gs;
     let mut n = 0;
@@ -107,7 +107,7 @@ fn givens_repeat_by(line: &[u8], gs: usize, met: &mut [u64]) -> bool
 
 // Whether an attribute is given twice.
 fn givens_repeat(line: &[u8], gs: usize) -> bool
-    ensures { result ≡ there (repeated (map (λ g. g.attribute) (givensAt line.now gs))) }
+    ensures { result ≡ there (repeated (map (λ g. g.attribute) (givens_at line.now gs))) }
 {
     if line.len() < LONG_LINE {
         let mut few = [0u64; 1];
@@ -119,7 +119,7 @@ fn givens_repeat(line: &[u8], gs: usize) -> bool
 
 // How many values are given.
 fn givens_count(line: &[u8], gs: usize) -> usize
-    ensures { result ≡ length (givensAt line.now gs) }
+    ensures { result ≡ length (givens_at line.now gs) }
 {
     let mut j = gs;
     let mut n = 0;
@@ -139,7 +139,7 @@ fn attribute_of_role(
     role: usize,
     n: usize,
 ) -> bool
-    ensures { (text : List ℕ) (d : Policy) (a : Attribute) → Nodes 64 text roles.now rcount d.roles → Attributes text attributes.now k d.attributes → get_elem? d.attributes n ≡ some a → result ≡ hasAttribute d role a }
+    ensures { (text : List ℕ) (d : Policy) (a : Attribute) → Nodes 64 text roles.now rcount d.roles → Attributes text attributes.now k d.attributes → get_elem? d.attributes n ≡ some a → result ≡ has_attribute d role a }
 {
     let at = attribute_role(attributes, k, n);
     match at {
@@ -159,7 +159,7 @@ fn names_attribute_of(
     line: &[u8],
     at: usize,
 ) -> bool
-    ensures { (d : Policy) → Nodes 64 text.now roles.now rcount d.roles → Attributes text.now attributes.now k d.attributes → result ≡ isAttributeOf d role (word_of line.now at) }
+    ensures { (d : Policy) → Nodes 64 text.now roles.now rcount d.roles → Attributes text.now attributes.now k d.attributes → result ≡ is_attribute_of d role (word_of line.now at) }
 {
     let found = find_attribute(text, attributes, k, line, at);
     match found {
@@ -179,7 +179,7 @@ fn givens_of_role(
     line: &[u8],
     gs: usize,
 ) -> bool
-    ensures { (d : Policy) → Nodes 64 text.now roles.now rcount d.roles → Attributes text.now attributes.now k d.attributes → result ≡ all_of (isAttributeOf d role) (map (λ g. g.attribute) (givensAt line.now gs)) }
+    ensures { (d : Policy) → Nodes 64 text.now roles.now rcount d.roles → Attributes text.now attributes.now k d.attributes → result ≡ all_of (is_attribute_of d role) (map (λ g. g.attribute) (givens_at line.now gs)) }
 {
     let mut j = gs;
     while byte_at(line, j) == b' ' {
@@ -200,7 +200,7 @@ fn role_attributes(
     k: usize,
     role: usize,
 ) -> usize
-    ensures { (text : List ℕ) (d : Policy) → Nodes 64 text roles.now rcount d.roles → Attributes text attributes.now k d.attributes → result ≡ count_of (hasAttribute d role) d.attributes }
+    ensures { (text : List ℕ) (d : Policy) → Nodes 64 text roles.now rcount d.roles → Attributes text attributes.now k d.attributes → result ≡ count_of (has_attribute d role) d.attributes }
 {
     if ATTRIBUTES < k {
         return 0;
@@ -227,7 +227,7 @@ pub(crate) fn gives_all(
     line: &[u8],
     gs: usize,
 ) -> bool
-    ensures { (d : Policy) → Nodes 64 text.now roles.now rcount d.roles → Attributes text.now attributes.now k d.attributes → NoTwoSame (λ x y. sameName x.name y.name) d.attributes → result ≡ givesAll d role (map (λ g. g.attribute) (givensAt line.now gs)) }
+    ensures { (d : Policy) → Nodes 64 text.now roles.now rcount d.roles → Attributes text.now attributes.now k d.attributes → NoTwoSame (λ x y. same_name x.name y.name) d.attributes → result ≡ gives_all d role (map (λ g. g.attribute) (givens_at line.now gs)) }
 {
     if givens_repeat(line, gs) {
         return false;
@@ -249,7 +249,7 @@ fn value_fits(
     at: usize,
     v: usize,
 ) -> bool
-    ensures { (d : Policy) → Attributes text.now attributes.now k d.attributes → result ≡ hasKind (attributeKind d (word_of line.now at)) (word_at line.now v) }
+    ensures { (d : Policy) → Attributes text.now attributes.now k d.attributes → result ≡ has_kind (attribute_kind d (word_of line.now at)) (word_at line.now v) }
 {
     let found = find_attribute(text, attributes, k, line, at);
     match found {
@@ -266,7 +266,7 @@ pub(crate) fn first_mistyped_given(
     line: &[u8],
     gs: usize,
 ) -> Offending
-    ensures { ((d : Policy) → Attributes text.now attributes.now k d.attributes → offendingOf line.now result ≡ leftmost (map (λ g. unless (hasKind (attributeKind d g.attribute) g.value.bytes) g.value) (givensAt line.now gs))) × Near line.now result }
+    ensures { ((d : Policy) → Attributes text.now attributes.now k d.attributes → offending_of line.now result ≡ leftmost (map (λ g. unless (has_kind (attribute_kind d g.attribute) g.value.bytes) g.value) (givens_at line.now gs))) × Near line.now result }
 {
     let mut j = gs;
     while byte_at(line, j) == b' ' {

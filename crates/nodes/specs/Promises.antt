@@ -1,7 +1,7 @@
 -- Contract: what functions of this crate promise, where it takes more than a line.
 use Rattle.std.specs.Prelude.{◌+◌, ◌≤◌, ℕ, length, List}
 use Rattle.std.proofs.Math.Option.{none, some}
-use Rattle.document.specs.Check.{checkForm}
+use Rattle.document.specs.Check.{check_form}
 use Rattle.document.specs.Meaning.{add}
 use Rattle.document.specs.Policy.{Doc}
 use Rattle.form.specs.Form.{purpose, role}
@@ -19,28 +19,28 @@ abbrev pub StepPurposeRootPromise : (text : List ℕ) (at : ℕ) (line purposes 
 StepPurposeRootPromise text at line purposes purposes' c n s =
     (d : Doc) (rs' bs' us' cs' gs' ls' ms' ts' ws' : List ℕ) → LineAt text at line → (n ≤ length line) →
     Indexed text purposes rs' bs' us' cs' gs' ls' ms' ts' ws' c d →
-    Follows (Indexed text purposes' rs' bs' us' cs' gs' ls' ms' ts' ws') line (checkForm d line (purpose (word_of line n) none)) s
+    Follows (Indexed text purposes' rs' bs' us' cs' gs' ls' ms' ts' ws') line (check_form d line (purpose (word_of line n) none)) s
 
 -- steps::step_purpose_below: a purpose below the one whose name stands at p
 abbrev pub StepPurposeBelowPromise : (text : List ℕ) (at : ℕ) (line purposes purposes' : List ℕ) (c : Counts) (n p : ℕ) (s : Step) → Type 0
 StepPurposeBelowPromise text at line purposes purposes' c n p s =
     (d : Doc) (rs' bs' us' cs' gs' ls' ms' ts' ws' : List ℕ) → LineAt text at line → ((n ≤ length line) × (p ≤ length line)) →
     Indexed text purposes rs' bs' us' cs' gs' ls' ms' ts' ws' c d →
-    Follows (Indexed text purposes' rs' bs' us' cs' gs' ls' ms' ts' ws') line (checkForm d line (purpose (word_of line n) (some (word_of line p)))) s
+    Follows (Indexed text purposes' rs' bs' us' cs' gs' ls' ms' ts' ws') line (check_form d line (purpose (word_of line n) (some (word_of line p)))) s
 
 -- steps::step_role_root: a root role, whose name stands at n
 abbrev pub StepRoleRootPromise : (text : List ℕ) (at : ℕ) (line roles roles' : List ℕ) (c : Counts) (n : ℕ) (s : Step) → Type 0
 StepRoleRootPromise text at line roles roles' c n s =
     (d : Doc) (ps' bs' us' cs' gs' ls' ms' ts' ws' : List ℕ) → LineAt text at line → (n ≤ length line) →
     Indexed text ps' roles bs' us' cs' gs' ls' ms' ts' ws' c d →
-    Follows (Indexed text ps' roles' bs' us' cs' gs' ls' ms' ts' ws') line (checkForm d line (role (word_of line n) none)) s
+    Follows (Indexed text ps' roles' bs' us' cs' gs' ls' ms' ts' ws') line (check_form d line (role (word_of line n) none)) s
 
 -- steps::step_role_below: a role below the one whose name stands at p
 abbrev pub StepRoleBelowPromise : (text : List ℕ) (at : ℕ) (line roles roles' : List ℕ) (c : Counts) (n p : ℕ) (s : Step) → Type 0
 StepRoleBelowPromise text at line roles roles' c n p s =
     (d : Doc) (ps' bs' us' cs' gs' ls' ms' ts' ws' : List ℕ) → LineAt text at line → ((n ≤ length line) × (p ≤ length line)) →
     Indexed text ps' roles bs' us' cs' gs' ls' ms' ts' ws' c d →
-    Follows (Indexed text ps' roles' bs' us' cs' gs' ls' ms' ts' ws') line (checkForm d line (role (word_of line n) (some (word_of line p)))) s
+    Follows (Indexed text ps' roles' bs' us' cs' gs' ls' ms' ts' ws') line (check_form d line (role (word_of line n) (some (word_of line p)))) s
 
 -- storing::store_purpose_root: stores the purpose of the name at n of the line, behind k of them: the root, whose parent is its own number
 abbrev pub StorePurposeRootPromise : (text purposes purposes' : List ℕ) (k at : ℕ) (line : List ℕ) (n : ℕ) → Type 0

@@ -1,11 +1,11 @@
 // Lines about a table that stand behind it: what is wrong with one that declares it public, or gives it a weak or strong label.
 ghost use Rattle.std.specs.Prelude.{◌<◌, ◌≤◌, ℕ, List, ◌≡◌};
-ghost use Rattle.document.specs.Lookup.{givenBy, notesOf};
+ghost use Rattle.document.specs.Lookup.{given_by, notes_of};
 ghost use Rattle.document.specs.Policy.{Noted};
 ghost use Rattle.lists.specs.Lists.{there};
 ghost use Rattle.relations.specs.Notes.{Notes};
-ghost use Rattle.workspace.specs.Found.{foundAs};
-ghost use Rattle.notes.specs.Promises.{LabelNoteFaultPromise, OutOfPlacePromise, PublicFaultPromise, givenIn};
+ghost use Rattle.workspace.specs.Found.{found_as};
+ghost use Rattle.notes.specs.Promises.{LabelNoteFaultPromise, OutOfPlacePromise, PublicFaultPromise, given_in};
 
 use index::counts::Counts;
 use relations::labels::find_label;
@@ -39,7 +39,7 @@ pub fn public_fault(
 
 // Whether one was found.
 fn is_found(f: Found) -> bool
-    ensures { result ≡ there (foundAs f) }
+    ensures { result ≡ there (found_as f) }
 {
     match f {
         Found::At(_) => true,
@@ -49,7 +49,7 @@ fn is_found(f: Found) -> bool
 
 // Whether table t has a strong label, or a weak one.
 fn has_label(tables: &[usize; TABLE_CELLS], t: usize, strong: bool) -> bool
-    ensures { (k : ℕ) (ns : List Noted) → t < k → k ≤ 8 → Notes tables.now k ns → result ≡ there (givenBy (givenIn strong) (notesOf ns t)) }
+    ensures { (k : ℕ) (ns : List Noted) → t < k → k ≤ 8 → Notes tables.now k ns → result ≡ there (given_by (given_in strong) (notes_of ns t)) }
 {
     if strong {
         return is_found(strong_label(tables, t));

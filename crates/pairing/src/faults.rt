@@ -1,6 +1,6 @@
 // A join whose names are known judged: types (16), ranges (27), dates (31), labels (17).
 ghost use Rattle.std.specs.Prelude.{◌≡◌};
-ghost use Rattle.pairing.specs.Faults.{judgedAs};
+ghost use Rattle.pairing.specs.Faults.{judged_as};
 ghost use Rattle.pairing.specs.Promises.{JudgeJoinPromise, JudgeTypesPromise};
 
 use crate::naming::Names;

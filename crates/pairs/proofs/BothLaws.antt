@@ -8,7 +8,7 @@ use Rattle.answer.specs.Ask.{after, ask}
 use Rattle.loaded.specs.Outside.{Asks}
 use Rattle.pairs.specs.Both.{AsksBoth}
 use Rattle.query.specs.Authority.{Clock}
-use Rattle.stages.specs.Figures.{inFigures}
+use Rattle.stages.specs.Figures.{in_figures}
 use Rattle.pairs.specs.declared.two.Pair.{Pair}
 
 -- each answer is that of asking, so alike documents give the same
@@ -17,7 +17,7 @@ asks_both {a} {b} {text} {c} {out} {out'} {other} {other'} {r} x y = record {
   first = x;
   second = y;
   alike = λ l e. record {
-    answers = x.is ∙ ap inFigures (no_difference text a b l c out).0 ∙ ap (λ o. inFigures (ask b text c (length o))) e ∙ sym y.is;
+    answers = x.is ∙ ap in_figures (no_difference text a b l c out).0 ∙ ap (λ o. in_figures (ask b text c (length o))) e ∙ sym y.is;
     buffers = x.buffer ∙ (no_difference text a b l c out).1 ∙ ap (λ o. after (ask b text c (length o)) o) e ∙ sym y.buffer;
   };
 }

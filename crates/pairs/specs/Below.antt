@@ -3,7 +3,7 @@ use Rattle.std.specs.Prelude.{◌≤◌, ℕ, length, List, ◌≡◌}
 use Rattle.answer.specs.Ask.{Answered, after}
 use Rattle.answer.specs.Further.{Contains, SelectsBelow}
 use Rattle.loaded.specs.Outside.{Asks}
-use Rattle.stages.specs.Figures.{Figures, answeredAs, inFigures}
+use Rattle.stages.specs.Figures.{Figures, answered_as, in_figures}
 use Rattle.query.specs.Authority.{Clock}
 use Rattle.text.specs.Refusal.{accepted}
 use Rattle.stages.specs.declared.answered.Answered as code
@@ -11,7 +11,7 @@ use Rattle.pairs.specs.declared.two.Pair.{Pair}
 
 -- the code's answer r is this answer, and it stands in the buffer
 pub record IsGiven (a : Answered) (before after' : List ℕ) (r : code.Answered) : Type 0 where
-  pub answer : answeredAs r ≡ inFigures (accepted a)
+  pub answer : answered_as r ≡ in_figures (accepted a)
   pub buffer : after' ≡ after (accepted a) before
 
 -- both selects are answered, the second where its buffer is as long as its answer needs; its rows contain the first's in the same
@@ -28,4 +28,4 @@ pub record GivesBelow (out out' other other' : List ℕ) (r : Pair) : Type 0 whe
 pub record AsksBelow (doc text lower : List ℕ) (c : Clock) (out out' other other' : List ℕ) (r : Pair) : Type 0 where
   pub first : Asks doc text c out out' r.first
   pub second : Asks doc lower c other other' r.second
-  pub further : SelectsBelow doc text lower → (f : Figures) → answeredAs r.first ≡ accepted f → GivesBelow out out' other other' r
+  pub further : SelectsBelow doc text lower → (f : Figures) → answered_as r.first ≡ accepted f → GivesBelow out out' other other' r

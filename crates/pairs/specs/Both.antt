@@ -2,13 +2,13 @@
 use Rattle.std.specs.Prelude.{ℕ, List, ◌≡◌}
 use Rattle.answer.specs.Alike.{Alike}
 use Rattle.loaded.specs.Outside.{Asks}
-use Rattle.stages.specs.Figures.{answeredAs}
+use Rattle.stages.specs.Figures.{answered_as}
 use Rattle.query.specs.Authority.{Clock}
 use Rattle.pairs.specs.declared.two.Pair.{Pair}
 
 -- the two answers stand for the same, and the two buffers hold the same bytes afterwards
 pub record SameAnswers (r : Pair) (out' other' : List ℕ) : Type 0 where
-  pub answers : answeredAs r.first ≡ answeredAs r.second
+  pub answers : answered_as r.first ≡ answered_as r.second
   pub buffers : out' ≡ other'
 
 -- BOTH ANSWERS: each is that of asking its document; alike documents, asked into equal buffers, give the same

@@ -1,6 +1,6 @@
 // One select asked for two purposes.
 ghost use Rattle.pairs.specs.Below.{AsksBelow};
-ghost use Rattle.query.specs.HostClock.{clockOf};
+ghost use Rattle.query.specs.HostClock.{clock_of};
 
 use crate::two::Pair;
 use gate::asking::ask;
@@ -15,7 +15,7 @@ pub fn ask_below(
     out: &mut [u8],
     other: &mut [u8],
 ) -> Pair
-    ensures { AsksBelow doc.now query.now lower.now (clockOf clock) out.old out.new other.old other.new result }
+    ensures { AsksBelow doc.now query.now lower.now (clock_of clock) out.old out.new other.old other.new result }
 {
     let first = ask(doc, query, clock, out);
     let second = ask(doc, lower, clock, other);

@@ -1,7 +1,7 @@
 // Two documents asked alike.
 ghost use Rattle.pairs.specs.Both.{AskedAlike, AsksBoth};
 ghost use Rattle.loaded.specs.Promises.{AskLoadedPromise};
-ghost use Rattle.query.specs.HostClock.{clockOf};
+ghost use Rattle.query.specs.HostClock.{clock_of};
 
 use gate::asking::ask;
 use loaded::asks::ask_loaded;
@@ -29,7 +29,7 @@ pub fn ask_both(
     out: &mut [u8],
     other: &mut [u8],
 ) -> Pair
-    ensures { AsksBoth a.now b.now query.now (clockOf clock) out.old out.new other.old other.new result }
+    ensures { AsksBoth a.now b.now query.now (clock_of clock) out.old out.new other.old other.new result }
 {
     let first = ask(a, query, clock, out);
     let second = ask(b, query, clock, other);
@@ -65,9 +65,9 @@ pub fn ask_both_loaded(
     out: &mut [u8],
     other: &mut [u8],
 ) -> Pair
-    ensures ask_loaded_promise { AskLoadedPromise a.now purposes.now roles.now attributes.now users.now conds.now grants.now sets.now tables.now rows.now cells.now (clockOf clock) query.now out.old out.new result.first }
-    ensures ask_loaded_promise_2 { AskLoadedPromise b.now purposes2.now roles2.now attributes2.now users2.now conds2.now grants2.now sets2.now tables2.now rows2.now cells2.now (clockOf clock) query.now other.old other.new result.second }
-    ensures asked_alike { AskedAlike a.now b.now query.now (clockOf clock) out.old out.new other.old other.new result }
+    ensures ask_loaded_promise { AskLoadedPromise a.now purposes.now roles.now attributes.now users.now conds.now grants.now sets.now tables.now rows.now cells.now (clock_of clock) query.now out.old out.new result.first }
+    ensures ask_loaded_promise_2 { AskLoadedPromise b.now purposes2.now roles2.now attributes2.now users2.now conds2.now grants2.now sets2.now tables2.now rows2.now cells2.now (clock_of clock) query.now other.old other.new result.second }
+    ensures asked_alike { AskedAlike a.now b.now query.now (clock_of clock) out.old out.new other.old other.new result }
 {
     let first = ask_loaded(
         a, purposes, roles, attributes, users, conds, grants, sets, tables, rows, cells, clock,

@@ -9,96 +9,96 @@ use mathlib.Core.Option
 use mathlib.Core.Option.{bind}
 use mathlib.Core.Path.{◌∙◌, ◌≡◌, ap, refl, sym}
 use native.Mathlib.Omega.{arith}
-use Rattle.condition.specs.Cond.{Cond, Conds, both, comparisons, comparisonsOf, either, last, mapCond, mapConds, more, negate, test}
+use Rattle.condition.specs.Cond.{Cond, Conds, both, comparisons, comparisons_of, either, last, map_cond, map_conds, more, negate, test}
 use Rattle.condition.specs.CondForm.{Compared}
 use Rattle.condition.specs.Kinds.{numbers}
-use Rattle.document.specs.Lookup.{attributeKind, attributeNamed, attributeOf}
-use Rattle.document.specs.Meaning.{attributeComparison, given_of}
-use Rattle.document.specs.Policy.{Attribute, CondRole, Node, Policy, User, clockAttributes}
+use Rattle.document.specs.Lookup.{attribute_kind, attribute_named, attribute_of}
+use Rattle.document.specs.Meaning.{attribute_comparison, given_of}
+use Rattle.document.specs.Policy.{Attribute, CondRole, Node, Policy, User, clock_attributes}
 use Rattle.form.specs.Form.{GivenForm}
-use Rattle.form.specs.Walks.{givensAt}
-use Rattle.workspace.proofs.TabulatedLaws.{length-tabulated, tabulated-same}
-use Rattle.principals.specs.Attributes.{Attributes, attributeIn}
-use Rattle.workspace.specs.Cells.{lineIn}
-use Rattle.principals.specs.CondRoles.{CondRoles, attributesKnown, condRoleIn, conditionIn}
-use Rattle.principals.specs.Nodes.{Nodes, nodeIn}
-use Rattle.principals.specs.Users.{Users, userIn}
+use Rattle.form.specs.Walks.{givens_at}
+use Rattle.workspace.proofs.TabulatedLaws.{length_tabulated, tabulated_same}
+use Rattle.principals.specs.Attributes.{Attributes, attribute_in}
+use Rattle.workspace.specs.Cells.{line_in}
+use Rattle.principals.specs.CondRoles.{CondRoles, attributes_known, cond_role_in, condition_in}
+use Rattle.principals.specs.Nodes.{Nodes, node_in}
+use Rattle.principals.specs.Users.{Users, user_in}
 use Rattle.workspace.specs.Tabulated.{tabulated}
-use Rattle.lists.proofs.ListLaws.{all-everywhere, all_here, all-parts, findIndex-found, findIndexFrom-append, getElem?-inside-append, there-some}
+use Rattle.lists.proofs.ListLaws.{all_everywhere, all_here, all_parts, find_index_found, find_index_from_append, get_elem?_inside_append, there_some}
 use Rattle.lists.proofs.Tests.{and_left}
-use Rattle.lists.specs.Lists.{all_of, findIndex, or_zero, there}
-use Rattle.text.specs.Words.{Word, isCalled, word_at}
+use Rattle.lists.specs.Lists.{all_of, find_index, or_zero, there}
+use Rattle.text.specs.Words.{Word, is_called, word_at}
 
 -- ---- conditions with their comparisons replaced: what agrees on the comparisons gives the same
 
 module _ {C D : Type 0} (p : C → Bool) (f g : C → D) (agree : (x : C) → p x ≡ true → f x ≡ g x) where
   mutual
-    unfolding mapCond comparisons all_of
+    unfolding map_cond comparisons all_of
 
-    mapCond-agree : (c : Cond C) → all_of p (comparisons c) ≡ true → mapCond f c ≡ mapCond g c
-    mapCond-agree (test c) h = ap test (agree c (and_left (p c) true h))
-    mapCond-agree (negate c) h = ap negate (mapCond-agree c h)
-    mapCond-agree (both cs) h = ap both (mapConds-agree cs h)
-    mapCond-agree (either cs) h = ap either (mapConds-agree cs h)
+    map_cond_agree : (c : Cond C) → all_of p (comparisons c) ≡ true → map_cond f c ≡ map_cond g c
+    map_cond_agree (test c) h = ap test (agree c (and_left (p c) true h))
+    map_cond_agree (negate c) h = ap negate (map_cond_agree c h)
+    map_cond_agree (both cs) h = ap both (map_conds_agree cs h)
+    map_cond_agree (either cs) h = ap either (map_conds_agree cs h)
 
-    mapConds-agree : (cs : Conds C) → all_of p (comparisonsOf cs) ≡ true → mapConds f cs ≡ mapConds g cs
-    mapConds-agree (last c) h = ap last (mapCond-agree c h)
-    mapConds-agree (more c cs) h =
-        λ j. more (mapCond-agree c (all-parts p (comparisons c) (comparisonsOf cs) h).0 j) (mapConds-agree cs (all-parts p (comparisons c) (comparisonsOf cs) h).1 j)
+    map_conds_agree : (cs : Conds C) → all_of p (comparisons_of cs) ≡ true → map_conds f cs ≡ map_conds g cs
+    map_conds_agree (last c) h = ap last (map_cond_agree c h)
+    map_conds_agree (more c cs) h =
+        λ j. more (map_cond_agree c (all_parts p (comparisons c) (comparisons_of cs) h).0 j) (map_conds_agree cs (all_parts p (comparisons c) (comparisons_of cs) h).1 j)
 
 -- ---- the policy e has the attributes of d, and perhaps more behind them
 
 module _ (d e : Policy) (new : List Attribute) (grown : e.attributes ≡ d.attributes ++ new) where
   -- a known attribute keeps its number
-  pub attribute-same : (w : Word) → there (attributeOf d w) ≡ true → attributeOf e w ≡ attributeOf d w
-  unfolding attributeOf findIndex
-  attribute-same w h =
-      ap (findIndex (λ (x : Attribute). isCalled w x.name)) grown
-      ∙ findIndexFrom-append 0 (λ (x : Attribute). isCalled w x.name) d.attributes new (or_zero (attributeOf d w)) (there-some (attributeOf d w) h)
-      ∙ sym (there-some (attributeOf d w) h)
+  pub attribute_same : (w : Word) → there (attribute_of d w) ≡ true → attribute_of e w ≡ attribute_of d w
+  unfolding attribute_of find_index
+  attribute_same w h =
+      ap (find_index (λ (x : Attribute). is_called w x.name)) grown
+      ∙ find_index_from_append 0 (λ (x : Attribute). is_called w x.name) d.attributes new (or_zero (attribute_of d w)) (there_some (attribute_of d w) h)
+      ∙ sym (there_some (attribute_of d w) h)
 
   -- and its type
-  pub attributeKind-same : (w : Word) → there (attributeOf d w) ≡ true → attributeKind e w ≡ attributeKind d w
-  unfolding attributeKind attributeNamed bind
-  attributeKind-same w h =
+  pub attribute_kind_same : (w : Word) → there (attribute_of d w) ≡ true → attribute_kind e w ≡ attribute_kind d w
+  unfolding attribute_kind attribute_named bind
+  attribute_kind_same w h =
       ap (λ o. Option.get_or (Option.map (λ (a : Attribute). a.kind) o) numbers)
-      (ap (λ o. bind o (get_elem? e.attributes)) (attribute-same w h ∙ there-some (attributeOf d w) h)
-      ∙ ap (λ l. get_elem? l (or_zero (attributeOf d w))) grown
-      ∙ getElem?-inside-append d.attributes new (or_zero (attributeOf d w)) inside
-      ∙ sym (ap (λ o. bind o (get_elem? d.attributes)) (there-some (attributeOf d w) h)))
+      (ap (λ o. bind o (get_elem? e.attributes)) (attribute_same w h ∙ there_some (attribute_of d w) h)
+      ∙ ap (λ l. get_elem? l (or_zero (attribute_of d w))) grown
+      ∙ get_elem?_inside_append d.attributes new (or_zero (attribute_of d w)) inside
+      ∙ sym (ap (λ o. bind o (get_elem? d.attributes)) (there_some (attribute_of d w) h)))
     where
-      inside : or_zero (attributeOf d w) < length d.attributes
-      inside = unfold attributeOf in (findIndex-found (λ (x : Attribute). isCalled w x.name) d.attributes (or_zero (attributeOf d w)) (there-some (attributeOf d w) h)).1
+      inside : or_zero (attribute_of d w) < length d.attributes
+      inside = unfold attribute_of in (find_index_found (λ (x : Attribute). is_called w x.name) d.attributes (or_zero (attribute_of d w)) (there_some (attribute_of d w) h)).1
 
-  comparison-same : (x : Compared) → there (attributeOf d x.of) ≡ true → attributeComparison e x ≡ attributeComparison d x
-  unfolding attributeComparison
-  comparison-same x h = λ j. record {
-    of = or_zero (attribute-same x.of h j);
-    kind = attributeKind-same x.of h j;
+  comparison_same : (x : Compared) → there (attribute_of d x.of) ≡ true → attribute_comparison e x ≡ attribute_comparison d x
+  unfolding attribute_comparison
+  comparison_same x h = λ j. record {
+    of = or_zero (attribute_same x.of h j);
+    kind = attribute_kind_same x.of h j;
     op = x.op;
     value = x.value.bytes;
   }
 
   -- what is known stays known
-  known_grown : (c : Cond Compared) → attributesKnown d c ≡ true → attributesKnown e c ≡ true
-  unfolding attributesKnown
+  known_grown : (c : Cond Compared) → attributes_known d c ≡ true → attributes_known e c ≡ true
+  unfolding attributes_known
   known_grown c h =
-      all-everywhere (λ (x : Compared). there (attributeOf e x.of)) (comparisons c)
-      (λ i x q. let k : there (attributeOf d x.of) ≡ true = all_here (λ (x : Compared). there (attributeOf d x.of)) (comparisons c) h i x q in
-      ap there (attribute-same x.of k) ∙ k)
+      all_everywhere (λ (x : Compared). there (attribute_of e x.of)) (comparisons c)
+      (λ i x q. let k : there (attribute_of d x.of) ≡ true = all_here (λ (x : Compared). there (attribute_of d x.of)) (comparisons c) h i x q in
+      ap there (attribute_same x.of k) ∙ k)
 
-  cond_same : (text ws : List ℕ) (i : ℕ) → attributesKnown d (conditionIn text ws i) ≡ true → condRoleIn e text ws i ≡ condRoleIn d text ws i
-  unfolding condRoleIn attributesKnown
+  cond_same : (text ws : List ℕ) (i : ℕ) → attributes_known d (condition_in text ws i) ≡ true → cond_role_in e text ws i ≡ cond_role_in d text ws i
+  unfolding cond_role_in attributes_known
   cond_same text ws i h =
       ap {B = CondRole} (λ c. record { name = word_at text (get_or ws i 0); role = get_or ws (64 + i) 0; condition = c })
-      (mapCond-agree (λ (x : Compared). there (attributeOf d x.of)) (attributeComparison e) (attributeComparison d) comparison-same (conditionIn text ws i) h)
+      (map_cond_agree (λ (x : Compared). there (attribute_of d x.of)) (attribute_comparison e) (attribute_comparison d) comparison_same (condition_in text ws i) h)
 
   -- conditional roles stay where attributes are added behind
-  pub conds-grown : {text ws : List ℕ} {k : ℕ} {cs : List CondRole} → CondRoles d text ws k cs → CondRoles e text ws k cs
-  conds-grown {text} {ws} {k} n = record {
+  pub conds_grown : {text ws : List ℕ} {k : ℕ} {cs : List CondRole} → CondRoles d text ws k cs → CondRoles e text ws k cs
+  conds_grown {text} {ws} {k} n = record {
     few = n.few;
-    are = tabulated-same (condRoleIn e text ws) (condRoleIn d text ws) k (λ i l. cond_same text ws i (n.known i l)) ∙ n.are;
-    known = λ i l. known_grown (conditionIn text ws i) (n.known i l);
+    are = tabulated_same (cond_role_in e text ws) (cond_role_in d text ws) k (λ i l. cond_same text ws i (n.known i l)) ∙ n.are;
+    known = λ i l. known_grown (condition_in text ws i) (n.known i l);
     reads = n.reads;
     printed = n.printed;
   }
@@ -106,65 +106,65 @@ module _ (d e : Policy) (new : List Attribute) (grown : e.attributes ≡ d.attri
 -- ---- the policy e has the attributes of d
 
 module _ (d e : Policy) (same : e.attributes ≡ d.attributes) where
-  pub conds-same : {text ws : List ℕ} {k : ℕ} {cs : List CondRole} → CondRoles d text ws k cs → CondRoles e text ws k cs
-  conds-same = conds-grown d e [] (same ∙ sym (append-nil d.attributes))
+  pub conds_same : {text ws : List ℕ} {k : ℕ} {cs : List CondRole} → CondRoles d text ws k cs → CondRoles e text ws k cs
+  conds_same = conds_grown d e [] (same ∙ sym (append-nil d.attributes))
 
-  given-same : (g : GivenForm) → given_of e g ≡ given_of d g
-  unfolding given_of attributeOf
-  given-same g = λ j. record {
-    attribute = or_zero (findIndex (λ (x : Attribute). isCalled g.attribute x.name) (same j));
+  given_same : (g : GivenForm) → given_of e g ≡ given_of d g
+  unfolding given_of attribute_of
+  given_same g = λ j. record {
+    attribute = or_zero (find_index (λ (x : Attribute). is_called g.attribute x.name) (same j));
     value = g.value.bytes;
   }
 
-  user-same : (text ws : List ℕ) (i : ℕ) → userIn e text ws i ≡ userIn d text ws i
-  unfolding userIn
-  user-same text ws i = λ j. record {
+  user_same : (text ws : List ℕ) (i : ℕ) → user_in e text ws i ≡ user_in d text ws i
+  unfolding user_in
+  user_same text ws i = λ j. record {
     name = word_at text (get_or ws i 0);
     role = get_or ws (256 + i) 0;
-    values = map (λ g. given-same g j) (givensAt (lineIn text (get_or ws (512 + i) 0) (get_or ws (768 + i) 0)) (get_or ws (1024 + i) 0));
+    values = map (λ g. given_same g j) (givens_at (line_in text (get_or ws (512 + i) 0) (get_or ws (768 + i) 0)) (get_or ws (1024 + i) 0));
   }
 
-  pub users-same : {text ws : List ℕ} {k : ℕ} {us : List User} → Users d text ws k us → Users e text ws k us
-  users-same {text} {ws} {k} n = record {
+  pub users_same : {text ws : List ℕ} {k : ℕ} {us : List User} → Users d text ws k us → Users e text ws k us
+  users_same {text} {ws} {k} n = record {
     few = n.few;
-    are = tabulated-same (userIn e text ws) (userIn d text ws) k (λ i l. user-same text ws i) ∙ n.are;
+    are = tabulated_same (user_in e text ws) (user_in d text ws) k (λ i l. user_same text ws i) ∙ n.are;
     printed = n.printed;
   }
 
 -- where there is no user, any policy will do
-pub users-none : (d e : Policy) {text ws : List ℕ} {us : List User} → Users d text ws 0 us → Users e text ws 0 us
+pub users_none : (d e : Policy) {text ws : List ℕ} {us : List User} → Users d text ws 0 us → Users e text ws 0 us
 unfolding tabulated
-users-none d e n = record { few = n.few; are = n.are; printed = n.printed }
+users_none d e n = record { few = n.few; are = n.are; printed = n.printed }
 
 -- ---- before any line
 
-pub nodes-start : (room : ℕ) (text ws : List ℕ) → Nodes room text ws 0 []
+pub nodes_start : (room : ℕ) (text ws : List ℕ) → Nodes room text ws 0 []
 unfolding tabulated
-nodes-start room text ws = record { few = omega arith; are = refl; hashed = below_none _; first = below_none _ }
+nodes_start room text ws = record { few = omega arith; are = refl; hashed = below_none _; first = below_none _ }
 
-pub attributes-start : (text ws : List ℕ) → Attributes text ws 0 clockAttributes
+pub attributes_start : (text ws : List ℕ) → Attributes text ws 0 clock_attributes
 unfolding tabulated
-attributes-start text ws = record { few = omega arith; are = append-nil clockAttributes }
+attributes_start text ws = record { few = omega arith; are = append-nil clock_attributes }
 
-pub users-start : (d : Policy) (text ws : List ℕ) → Users d text ws 0 []
+pub users_start : (d : Policy) (text ws : List ℕ) → Users d text ws 0 []
 unfolding tabulated
-users-start d text ws = record { few = omega arith; are = refl; printed = below_none _ }
+users_start d text ws = record { few = omega arith; are = refl; printed = below_none _ }
 
-pub conds-start : (d : Policy) (text ws : List ℕ) → CondRoles d text ws 0 []
+pub conds_start : (d : Policy) (text ws : List ℕ) → CondRoles d text ws 0 []
 unfolding tabulated
-conds-start d text ws = record { few = omega arith; are = refl; known = below_none _; reads = below_none _; printed = below_none _ }
+conds_start d text ws = record { few = omega arith; are = refl; known = below_none _; reads = below_none _; printed = below_none _ }
 
 -- ---- how many there are
 
-pub nodes-length : {room : ℕ} {text ws : List ℕ} {k : ℕ} {ns : List Node} → Nodes room text ws k ns → length ns ≡ k
-nodes-length {room} {text} {ws} {k} n = ap length (sym n.are) ∙ length-tabulated (nodeIn room text ws) k
+pub nodes_length : {room : ℕ} {text ws : List ℕ} {k : ℕ} {ns : List Node} → Nodes room text ws k ns → length ns ≡ k
+nodes_length {room} {text} {ws} {k} n = ap length (sym n.are) ∙ length_tabulated (node_in room text ws) k
 
-pub attributes-length : {text ws : List ℕ} {k : ℕ} {xs : List Attribute} → Attributes text ws k xs → length xs ≡ 3 + k
-attributes-length {text} {ws} {k} n =
-    ap length (sym n.are) ∙ length-append clockAttributes (tabulated (attributeIn text ws) k) ∙ (unfold clockAttributes in ap (λ m. 3 + m) (length-tabulated (attributeIn text ws) k))
+pub attributes_length : {text ws : List ℕ} {k : ℕ} {xs : List Attribute} → Attributes text ws k xs → length xs ≡ 3 + k
+attributes_length {text} {ws} {k} n =
+    ap length (sym n.are) ∙ length-append clock_attributes (tabulated (attribute_in text ws) k) ∙ (unfold clock_attributes in ap (λ m. 3 + m) (length_tabulated (attribute_in text ws) k))
 
-pub users-length : {d : Policy} {text ws : List ℕ} {k : ℕ} {us : List User} → Users d text ws k us → length us ≡ k
-users-length {d} {text} {ws} {k} n = ap length (sym n.are) ∙ length-tabulated (userIn d text ws) k
+pub users_length : {d : Policy} {text ws : List ℕ} {k : ℕ} {us : List User} → Users d text ws k us → length us ≡ k
+users_length {d} {text} {ws} {k} n = ap length (sym n.are) ∙ length_tabulated (user_in d text ws) k
 
-pub conds-length : {d : Policy} {text ws : List ℕ} {k : ℕ} {cs : List CondRole} → CondRoles d text ws k cs → length cs ≡ k
-conds-length {d} {text} {ws} {k} n = ap length (sym n.are) ∙ length-tabulated (condRoleIn d text ws) k
+pub conds_length : {d : Policy} {text ws : List ℕ} {k : ℕ} {cs : List CondRole} → CondRoles d text ws k cs → length cs ≡ k
+conds_length {d} {text} {ws} {k} n = ap length (sym n.are) ∙ length_tabulated (cond_role_in d text ws) k

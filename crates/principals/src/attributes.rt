@@ -6,9 +6,9 @@ ghost use Rattle.std.proofs.Math.Option.{some};
 ghost use Rattle.condition.specs.Answers.{kind_of};
 ghost use Rattle.document.specs.Policy.{Attribute};
 ghost use Rattle.principals.specs.Attributes.{Attributes};
-ghost use Rattle.workspace.specs.Found.{FoundBelow, foundAs};
-ghost use Rattle.lists.specs.Lists.{findIndex};
-ghost use Rattle.text.specs.Words.{isCalled, word_at, word_of};
+ghost use Rattle.workspace.specs.Found.{FoundBelow, found_as};
+ghost use Rattle.lists.specs.Lists.{find_index};
+ghost use Rattle.text.specs.Words.{is_called, word_at, word_of};
 
 use condition::kinds::Kind;
 use text::words::is_word;
@@ -29,7 +29,7 @@ pub fn find_attribute(
     line: &[u8],
     i: usize,
 ) -> Found
-    ensures { ((xs : List Attribute) → Attributes text.now ws.now k xs → foundAs result ≡ findIndex (λ x. isCalled (word_of line.now i) x.name) xs) × FoundBelow result (3 + k) }
+    ensures { ((xs : List Attribute) → Attributes text.now ws.now k xs → found_as result ≡ find_index (λ x. is_called (word_of line.now i) x.name) xs) × FoundBelow result (3 + k) }
 {
     if is_word(line, i, b"year") {
         return Found::At(0);
@@ -66,7 +66,7 @@ pub fn attribute_kind(ws: &[usize; ATTRIBUTE_CELLS], k: usize, n: usize) -> Kind
 
 // The role that attribute n is defined at: none for the clock's.
 pub fn attribute_role(ws: &[usize; ATTRIBUTE_CELLS], k: usize, n: usize) -> Found
-    ensures { (text : List ℕ) (xs : List Attribute) (a : Attribute) → Attributes text ws.now k xs → get_elem? xs n ≡ some a → foundAs result ≡ a.role }
+    ensures { (text : List ℕ) (xs : List Attribute) (a : Attribute) → Attributes text ws.now k xs → get_elem? xs n ≡ some a → found_as result ≡ a.role }
 {
     if n < 3 {
         return Found::Nothing;

@@ -2,10 +2,10 @@
 // as the start and the end of its line in the text and its place in the line.
 ghost use Rattle.std.specs.Prelude.{◌+◌, ◌<◌, length, List, ◌≡◌};
 ghost use Rattle.document.specs.Policy.{CondRole, Policy};
-ghost use Rattle.principals.specs.CondRoles.{CondRoles, condRoleEndIn, condRolePlaceIn, condRoleRoleIn, condRoleStartIn};
-ghost use Rattle.workspace.specs.Found.{FoundBelow, foundAs};
-ghost use Rattle.lists.specs.Lists.{findIndex};
-ghost use Rattle.text.specs.Words.{isCalled, word_of};
+ghost use Rattle.principals.specs.CondRoles.{CondRoles, cond_role_end_in, cond_role_place_in, cond_role_role_in, cond_role_start_in};
+ghost use Rattle.workspace.specs.Found.{FoundBelow, found_as};
+ghost use Rattle.lists.specs.Lists.{find_index};
+ghost use Rattle.text.specs.Words.{is_called, word_of};
 ghost use Rattle.principals.specs.Promises.{AddCondRolePromise, StoreCondRolePromise};
 
 use workspace::found::{Found, find_printed};
@@ -30,7 +30,7 @@ pub fn find_cond_role(
     line: &[u8],
     i: usize,
 ) -> Found
-    ensures { ((d : Policy) (cs : List CondRole) → CondRoles d text.now ws.now k cs → foundAs result ≡ findIndex (λ x. isCalled (word_of line.now i) x.name) cs) × FoundBelow result k }
+    ensures { ((d : Policy) (cs : List CondRole) → CondRoles d text.now ws.now k cs → found_as result ≡ find_index (λ x. is_called (word_of line.now i) x.name) cs) × FoundBelow result k }
 {
     if COND_ROLES < k {
         return Found::Nothing;
@@ -81,27 +81,27 @@ pub fn add_cond_role(
 
 // The role of conditional role i.
 pub fn cond_role_role(ws: &[usize; COND_ROLE_CELLS], i: usize) -> usize
-    ensures { i < 64 → result ≡ condRoleRoleIn ws.now i }
+    ensures { i < 64 → result ≡ cond_role_role_in ws.now i }
 {
     if i < COND_ROLES { ws[ROLE_AT + i] } else { 0 }
 }
 
 // Where the line of conditional role i starts and ends.
 pub fn cond_role_start(ws: &[usize; COND_ROLE_CELLS], i: usize) -> usize
-    ensures { i < 64 → result ≡ condRoleStartIn ws.now i }
+    ensures { i < 64 → result ≡ cond_role_start_in ws.now i }
 {
     if i < COND_ROLES { ws[START_AT + i] } else { 0 }
 }
 
 pub fn cond_role_end(ws: &[usize; COND_ROLE_CELLS], i: usize) -> usize
-    ensures { i < 64 → result ≡ condRoleEndIn ws.now i }
+    ensures { i < 64 → result ≡ cond_role_end_in ws.now i }
 {
     if i < COND_ROLES { ws[END_AT + i] } else { 0 }
 }
 
 // Where its condition stands in the line.
 pub fn cond_role_place(ws: &[usize; COND_ROLE_CELLS], i: usize) -> usize
-    ensures { i < 64 → result ≡ condRolePlaceIn ws.now i }
+    ensures { i < 64 → result ≡ cond_role_place_in ws.now i }
 {
     if i < COND_ROLES { ws[PLACE_AT + i] } else { 0 }
 }

@@ -1,13 +1,13 @@
 // Purposes and roles: looking one up by its name, adding one, and whether a role stands below another.
 ghost use Rattle.std.specs.Prelude.{◌*◌, ◌+◌, ◌<◌, ◌≤◌, ℕ, length, List, [], ◌++◌, ◌∷◌, ◌≡◌};
-ghost use Rattle.workspace.specs.Hash.{hashOf, slots};
-ghost use Rattle.workspace.specs.Found.{FoundBelow, foundAs};
-ghost use Rattle.principals.specs.Nodes.{Nodes, Seeks, firstHashed};
+ghost use Rattle.workspace.specs.Hash.{hash_of, slots};
+ghost use Rattle.workspace.specs.Found.{FoundBelow, found_as};
+ghost use Rattle.principals.specs.Nodes.{Nodes, Seeks, first_hashed};
 ghost use Rattle.document.specs.Policy.{Node, tree_of};
-ghost use Rattle.lists.specs.Lists.{findIndex};
+ghost use Rattle.lists.specs.Lists.{find_index};
 ghost use Rattle.purpose.specs.Compliance.{descends};
 ghost use Rattle.purpose.specs.Members.{limit};
-ghost use Rattle.text.specs.Words.{isCalled, word_at, word_of};
+ghost use Rattle.text.specs.Words.{is_called, word_at, word_of};
 
 use workspace::found::{Found, same_length_name};
 use workspace::hashes::hash_word;
@@ -25,7 +25,7 @@ pub struct Sought {
 // The first of the names among the first k that has the hash h; k where none has it.
 fn first_hashed(ws: &[usize], room: usize, k: usize, h: usize) -> usize
     requires { (k ≤ room) × (3 * room + slots ≤ length ws.now) × (h < slots) }
-    ensures { result ≡ firstHashed room ws.now k h }
+    ensures { result ≡ first_hashed room ws.now k h }
 {
     let j = ws[3 * room + h];
     if j < k {
@@ -48,7 +48,7 @@ fn find_node(
     h: usize,
 ) -> Found
     requires { (k ≤ room) × (3 * room + slots ≤ length ws.now) × (h < slots) }
-    ensures { ((ns : List Node) → Nodes room text.now ws.now k ns → len ≡ length (word_at line.now i) → h ≡ hashOf (word_at line.now i) → foundAs result ≡ findIndex (λ x. isCalled (word_of line.now i) x.name) ns) × FoundBelow result k }
+    ensures { ((ns : List Node) → Nodes room text.now ws.now k ns → len ≡ length (word_at line.now i) → h ≡ hash_of (word_at line.now i) → found_as result ≡ find_index (λ x. is_called (word_of line.now i) x.name) ns) × FoundBelow result k }
 {
     let mut j = first_hashed(ws, room, k, h);
     while j < k {
@@ -107,7 +107,7 @@ pub fn find_purpose(
     line: &[u8],
     i: usize,
 ) -> Found
-    ensures { ((ns : List Node) → Nodes limit text.now ws.now k ns → foundAs result ≡ findIndex (λ x. isCalled (word_of line.now i) x.name) ns) × FoundBelow result k }
+    ensures { ((ns : List Node) → Nodes limit text.now ws.now k ns → found_as result ≡ find_index (λ x. is_called (word_of line.now i) x.name) ns) × FoundBelow result k }
 {
     let s = seek_purpose(text, ws, k, line, i);
     s.found
@@ -115,7 +115,7 @@ pub fn find_purpose(
 
 // The role of the name at i of the line, among the first k.
 pub fn find_role(text: &[u8], ws: &[usize; ROLE_CELLS], k: usize, line: &[u8], i: usize) -> Found
-    ensures { ((ns : List Node) → Nodes 64 text.now ws.now k ns → foundAs result ≡ findIndex (λ x. isCalled (word_of line.now i) x.name) ns) × FoundBelow result k }
+    ensures { ((ns : List Node) → Nodes 64 text.now ws.now k ns → found_as result ≡ find_index (λ x. is_called (word_of line.now i) x.name) ns) × FoundBelow result k }
 {
     if ROLES < k {
         return Found::Nothing;
@@ -127,7 +127,7 @@ pub fn find_role(text: &[u8], ws: &[usize; ROLE_CELLS], k: usize, line: &[u8], i
 // One more among the purposes or the roles, of which there is room for `room`; h is its name's hash. The slot keeps the first name.
 fn add_node(ws: &mut [usize], room: usize, k: usize, pos: usize, parent: usize, h: usize)
     requires { (k < room) × (3 * room + slots ≤ length ws.old) × (h < slots) }
-    ensures { (text : List ℕ) (ns : List Node) → Nodes room text ws.old k ns → h ≡ hashOf (word_at text pos) → Nodes room text ws.new (k + 1) (ns ++ (record { name = word_at text pos; parent = parent } ∷ [])) }
+    ensures { (text : List ℕ) (ns : List Node) → Nodes room text ws.old k ns → h ≡ hash_of (word_at text pos) → Nodes room text ws.new (k + 1) (ns ++ (record { name = word_at text pos; parent = parent } ∷ [])) }
 {
     let first = first_hashed(ws, room, k, h);
     put(ws, k, pos);
@@ -138,7 +138,7 @@ fn add_node(ws: &mut [usize], room: usize, k: usize, pos: usize, parent: usize, 
 
 // One purpose more, whose name stands at pos of the text and has the hash h.
 pub fn add_purpose(ws: &mut [usize; PURPOSE_CELLS], k: usize, pos: usize, parent: usize, h: usize)
-    ensures { (text : List ℕ) (ns : List Node) → Nodes limit text ws.old k ns → h ≡ hashOf (word_at text pos) → k < limit → Nodes limit text ws.new (k + 1) (ns ++ (record { name = word_at text pos; parent = parent } ∷ [])) }
+    ensures { (text : List ℕ) (ns : List Node) → Nodes limit text ws.old k ns → h ≡ hash_of (word_at text pos) → k < limit → Nodes limit text ws.new (k + 1) (ns ++ (record { name = word_at text pos; parent = parent } ∷ [])) }
 {
     if k < PURPOSES {
         if h < SLOTS {
@@ -149,7 +149,7 @@ pub fn add_purpose(ws: &mut [usize; PURPOSE_CELLS], k: usize, pos: usize, parent
 
 // One role more, whose name stands at pos of the text and has the hash h.
 pub fn add_role(ws: &mut [usize; ROLE_CELLS], k: usize, pos: usize, parent: usize, h: usize)
-    ensures { (text : List ℕ) (ns : List Node) → Nodes 64 text ws.old k ns → h ≡ hashOf (word_at text pos) → k < 64 → Nodes 64 text ws.new (k + 1) (ns ++ (record { name = word_at text pos; parent = parent } ∷ [])) }
+    ensures { (text : List ℕ) (ns : List Node) → Nodes 64 text ws.old k ns → h ≡ hash_of (word_at text pos) → k < 64 → Nodes 64 text ws.new (k + 1) (ns ++ (record { name = word_at text pos; parent = parent } ∷ [])) }
 {
     if k < ROLES {
         if h < SLOTS {

@@ -3,13 +3,13 @@
 ghost use Rattle.std.specs.Prelude.{◌+◌, ◌<◌, ℕ, eqb, length, ◌&&◌, List, [], ◌++◌, ◌∷◌, map, ◌≡◌};
 ghost use Rattle.document.specs.Meaning.{given_of};
 ghost use Rattle.document.specs.Policy.{Policy, User};
-ghost use Rattle.form.specs.Walks.{givensAt};
-ghost use Rattle.workspace.specs.Cells.{lineIn};
-ghost use Rattle.workspace.specs.Found.{FoundBelow, foundAs};
-ghost use Rattle.workspace.specs.Hash.{Printed, printOf};
-ghost use Rattle.principals.specs.Users.{Users, userEndIn, userPasses, userPlaceIn, userRoleIn, userStartIn};
-ghost use Rattle.lists.specs.Lists.{any_of, findIndex};
-ghost use Rattle.text.specs.Words.{isCalled, word_at, word_of};
+ghost use Rattle.form.specs.Walks.{givens_at};
+ghost use Rattle.workspace.specs.Cells.{line_in};
+ghost use Rattle.workspace.specs.Found.{FoundBelow, found_as};
+ghost use Rattle.workspace.specs.Hash.{Printed, print_of};
+ghost use Rattle.principals.specs.Users.{Users, user_end_in, user_passes, user_place_in, user_role_in, user_start_in};
+ghost use Rattle.lists.specs.Lists.{any_of, find_index};
+ghost use Rattle.text.specs.Words.{is_called, word_at, word_of};
 
 use workspace::found::{Found, find_printed, same_length_name};
 use workspace::hashes::print_word;
@@ -28,7 +28,7 @@ fn is_user(
     role: usize,
 ) -> bool
     requires { i < 256 }
-    ensures { Printed 1280 text.now ws.now i → len ≡ length (word_at line.now u) → h ≡ printOf (word_at line.now u) → result ≡ userPasses (word_of line.now u) text.now ws.now role i }
+    ensures { Printed 1280 text.now ws.now i → len ≡ length (word_at line.now u) → h ≡ print_of (word_at line.now u) → result ≡ user_passes (word_of line.now u) text.now ws.now role i }
 {
     if ws[5 * USERS + i] != h {
         return false;
@@ -48,7 +48,7 @@ pub fn find_user(
     u: usize,
     role: usize,
 ) -> Found
-    ensures { ((d : Policy) (us : List User) → Users d text.now ws.now k us → foundAs result ≡ findIndex (λ x. isCalled (word_of line.now u) x.name && eqb x.role role) us) × FoundBelow result k }
+    ensures { ((d : Policy) (us : List User) → Users d text.now ws.now k us → found_as result ≡ find_index (λ x. is_called (word_of line.now u) x.name && eqb x.role role) us) × FoundBelow result k }
 {
     if USERS < k {
         return Found::Nothing;
@@ -69,7 +69,7 @@ pub fn find_user(
 
 // Whether one of the first k user forms has the name at u of the line.
 pub fn user_named(text: &[u8], ws: &[usize; USER_CELLS], k: usize, line: &[u8], u: usize) -> bool
-    ensures { (d : Policy) (us : List User) → Users d text.now ws.now k us → result ≡ any_of (λ x. isCalled (word_of line.now u) x.name) us }
+    ensures { (d : Policy) (us : List User) → Users d text.now ws.now k us → result ≡ any_of (λ x. is_called (word_of line.now u) x.name) us }
 {
     if USERS < k {
         return false;
@@ -93,7 +93,7 @@ pub fn add_user(
     place: usize,
     h: usize,
 )
-    ensures { (d : Policy) (text : List ℕ) (us : List User) → Users d text ws.old k us → h ≡ printOf (word_at text pos) → k < 256 → Users d text ws.new (k + 1) (us ++ (record { name = word_at text pos; role = role; values = map (given_of d) (givensAt (lineIn text start end) place) } ∷ [])) }
+    ensures { (d : Policy) (text : List ℕ) (us : List User) → Users d text ws.old k us → h ≡ print_of (word_at text pos) → k < 256 → Users d text ws.new (k + 1) (us ++ (record { name = word_at text pos; role = role; values = map (given_of d) (givens_at (line_in text start end) place) } ∷ [])) }
 {
     if k < USERS {
         put(ws, k, pos);
@@ -107,27 +107,27 @@ pub fn add_user(
 
 // The role of user form i.
 pub fn user_role(ws: &[usize; USER_CELLS], i: usize) -> usize
-    ensures { i < 256 → result ≡ userRoleIn ws.now i }
+    ensures { i < 256 → result ≡ user_role_in ws.now i }
 {
     if i < USERS { ws[USERS + i] } else { 0 }
 }
 
 // Where the line of user form i starts and ends.
 pub fn user_start(ws: &[usize; USER_CELLS], i: usize) -> usize
-    ensures { i < 256 → result ≡ userStartIn ws.now i }
+    ensures { i < 256 → result ≡ user_start_in ws.now i }
 {
     if i < USERS { ws[2 * USERS + i] } else { 0 }
 }
 
 pub fn user_end(ws: &[usize; USER_CELLS], i: usize) -> usize
-    ensures { i < 256 → result ≡ userEndIn ws.now i }
+    ensures { i < 256 → result ≡ user_end_in ws.now i }
 {
     if i < USERS { ws[3 * USERS + i] } else { 0 }
 }
 
 // Where its values stand in the line.
 pub fn user_place(ws: &[usize; USER_CELLS], i: usize) -> usize
-    ensures { i < 256 → result ≡ userPlaceIn ws.now i }
+    ensures { i < 256 → result ≡ user_place_in ws.now i }
 {
     if i < USERS { ws[4 * USERS + i] } else { 0 }
 }

@@ -6,5 +6,5 @@ use Rattle.condition.specs.Computing as condition
 use Rattle.program.specs.Program as Program
 
 unfoldable pub computing : Unit {0}
-unfolding mathlib.Core.Option.bind mathlib.Core.List.flatten lists.computing text.computing calendar.computing condition.computing Program.run Program.branchesOf Program.code
+unfolding mathlib.Core.Option.bind mathlib.Core.List.flatten lists.computing text.computing calendar.computing condition.computing Program.run Program.branches_of Program.code
 computing = tt

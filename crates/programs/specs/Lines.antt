@@ -4,5 +4,5 @@ use Rattle.text.specs.Bytes.{ascii}
 use Rattle.text.specs.Numbers.{decimal}
 
 -- `(accepted LINES RESERVE)` and a line feed (01, "Checking a document": acceptance gives the number of lines and a reserve)
-unfoldable pub acceptedLine : ℕ → ℕ → List ℕ
-acceptedLine lines reserve = ascii "(accepted" ++ 32 ∷ decimal lines ++ 32 ∷ decimal reserve ++ ascii ")\n"
+unfoldable pub accepted_line : ℕ → ℕ → List ℕ
+accepted_line lines reserve = ascii "(accepted" ++ 32 ∷ decimal lines ++ 32 ∷ decimal reserve ++ ascii ")\n"

@@ -1,9 +1,9 @@
 // The lines that programs print, each put together in a lent array, so that it is written in one call.
 ghost use Rattle.std.specs.Prelude.{take, ◌∷◌, ◌≡◌};
-ghost use Rattle.answer.specs.Session.{refusalLine, sourceName};
+ghost use Rattle.answer.specs.Session.{refusal_line, source_name};
 ghost use Rattle.io.specs.Counts.{IsPrefixLen};
-ghost use Rattle.programs.specs.Lines.{acceptedLine};
-ghost use Rattle.text.specs.Reasons.{refusalOf, source_of};
+ghost use Rattle.programs.specs.Lines.{accepted_line};
+ghost use Rattle.text.specs.Reasons.{refusal_of, source_of};
 ghost use Rattle.writing.specs.Write.{Wrote};
 
 use text::refusals::{Refusal, Source, number};
@@ -14,7 +14,7 @@ pub const ROOM: usize = 128;
 
 // Writes a space, and `document`, `query` or `file`.
 fn put_source(line: &mut [u8], at: usize, source: Source) -> usize
-    ensures { Wrote line.old at (32 ∷ sourceName (source_of source)) line.new result }
+    ensures { Wrote line.old at (32 ∷ source_name (source_of source)) line.new result }
 {
     match source {
         Source::Document => put_bytes(line, at, b" document"),
@@ -25,7 +25,7 @@ fn put_source(line: &mut [u8], at: usize, source: Source) -> usize
 
 // Writes a refusal at the start of the line.
 fn put_refusal(line: &mut [u8], refusal: Refusal) -> usize
-    ensures { Wrote line.old 0 (refusalLine (refusalOf refusal)) line.new result }
+    ensures { Wrote line.old 0 (refusal_line (refusal_of refusal)) line.new result }
 {
     let reason = refusal.reason;
     let source = refusal.source;
@@ -39,7 +39,7 @@ fn put_refusal(line: &mut [u8], refusal: Refusal) -> usize
 
 // Writes what acceptance gives at the start of the line.
 fn put_accepted(line: &mut [u8], lines: usize, reserve: usize) -> usize
-    ensures { Wrote line.old 0 (acceptedLine lines reserve) line.new result }
+    ensures { Wrote line.old 0 (accepted_line lines reserve) line.new result }
 {
     let a = put_bytes(line, 0, b"(accepted");
     let b = put_number(line, a, lines);
@@ -50,7 +50,7 @@ fn put_accepted(line: &mut [u8], lines: usize, reserve: usize) -> usize
 // The line of a refusal.
 pub fn refusal_line(line: &mut [u8; ROOM], refusal: Refusal) -> usize
     ensures prefix_len { IsPrefixLen result line.new }
-    ensures line_after { take result line.new ≡ refusalLine (refusalOf refusal) }
+    ensures line_after { take result line.new ≡ refusal_line (refusal_of refusal) }
 {
     put_refusal(line, refusal)
 }
@@ -58,7 +58,7 @@ pub fn refusal_line(line: &mut [u8; ROOM], refusal: Refusal) -> usize
 // The line of an accepted document: how many lines it has, and the reserve.
 pub fn accepted_line(line: &mut [u8; ROOM], lines: usize, reserve: usize) -> usize
     ensures prefix_len { IsPrefixLen result line.new }
-    ensures line_after { take result line.new ≡ acceptedLine lines reserve }
+    ensures line_after { take result line.new ≡ accepted_line lines reserve }
 {
     put_accepted(line, lines, reserve)
 }

@@ -1,6 +1,6 @@
 // Refusals as programs write them.
 ghost use Rattle.std.specs.Prelude.{◌≡◌};
-ghost use Rattle.programs.specs.Kept.{partLength};
+ghost use Rattle.programs.specs.Kept.{part_length};
 
 use crate::lines;
 use crate::lines::refusal_line;
@@ -17,7 +17,7 @@ pub fn write_refused(r: Refusal) -> bool {
 // The length of a refusal's part, of a line of so many bytes of which the first `kept` were seen. A line that was not kept whole is longer
 // than any right one, and so is refused as a whole: its part is the whole line, or empty where even the line does not count.
 pub fn part_len(part: usize, kept: usize, len: usize) -> usize
-    ensures { result ≡ partLength part kept len }
+    ensures { result ≡ part_length part kept len }
 {
     if part == 0 {
         return 0;

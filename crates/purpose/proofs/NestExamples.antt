@@ -7,7 +7,7 @@ use Rattle.lists.specs.Lists.{all_of, member}
 use Rattle.purpose.proofs.Examples.{session}
 use Rattle.purpose.specs.Compliance.{Marks}
 use Rattle.purpose.specs.Computing.{computing}
-use Rattle.purpose.specs.Nest.{closedBothWays, closedDown, nestOpens, unmarked, weakSets, without}
+use Rattle.purpose.specs.Nest.{closed_both_ways, closed_down, nest_opens, unmarked, weak_sets, without}
 
 abbrev marks : List ℕ → List ℕ → Marks
 marks xs ys = record { allowed = xs; denied = ys }
@@ -48,7 +48,7 @@ cases =
 
 unfoldable pub right : List ℕ → ℕ → Case → List Bool → Bool
 right tree p c [] = true
-right tree p c (b ∷ bs) = beq (nestOpens tree c.strong c.table c.row c.cell p) b && right tree (p + 1) c bs
+right tree p c (b ∷ bs) = beq (nest_opens tree c.strong c.table c.row c.cell p) b && right tree (p + 1) c bs
 
 unfoldable pub agree : List ℕ → List Case → Bool
 agree tree [] = true
@@ -60,25 +60,25 @@ sample = refl
 
 -- why merged sets are not closed again: post, which the row allows and the table denied, would be denied by its ancestors, which
 -- stay in the set
-pub closed-again : member 3 (closedBothWays session (without (closedBothWays session (3 ∷ [])) (closedDown session (3 ∷ [])))) ≡ true
+pub closed_again : member 3 (closed_both_ways session (without (closed_both_ways session (3 ∷ [])) (closed_down session (3 ∷ [])))) ≡ true
 unfolding computing session
-closed-again = refl
+closed_again = refl
 
 -- ---- 000's own labels, over the tree of its figure 1
 
 -- General-Purpose 0; Admin 1 with Profiling 2 and Analysis 3; Purchase 4; Shipping 5; Marketing 6 with Direct 7 (D-Email 8 with
 -- Special-Offers 10 and Service-Updates 11, D-Phone 9) and Third-Party 12 (T-Email 13, T-Postal 14)
-unfoldable pub figure-1 : List ℕ
-figure-1 = 0 ∷ 0 ∷ 1 ∷ 1 ∷ 0 ∷ 0 ∷ 0 ∷ 6 ∷ 7 ∷ 7 ∷ 8 ∷ 8 ∷ 6 ∷ 12 ∷ 12 ∷ []
+unfoldable pub figure_1 : List ℕ
+figure_1 = 0 ∷ 0 ∷ 1 ∷ 1 ∷ 0 ∷ 0 ∷ 0 ∷ 6 ∷ 7 ∷ 7 ∷ 8 ∷ 8 ∷ 6 ∷ 12 ∷ 12 ∷ []
 
 -- the lists hold the same numbers
-unfoldable pub sameSets : List ℕ → List ℕ → Bool
-sameSets xs ys = all_of (λ x. member x ys) xs && all_of (λ y. member y xs) ys
+unfoldable pub same_sets : List ℕ → List ℕ → Bool
+same_sets xs ys = all_of (λ x. member x ys) xs && all_of (λ y. member y xs) ys
 
 -- Example 1: what the allowed Admin and Direct and the prohibited D-Email entail
-pub example-1 : (sameSets (closedDown figure-1 (1 ∷ 7 ∷ [])) (1 ∷ 2 ∷ 3 ∷ 7 ∷ 8 ∷ 9 ∷ 10 ∷ 11 ∷ []) && sameSets (closedBothWays figure-1 (8 ∷ [])) (8 ∷ 10 ∷ 11 ∷ 7 ∷ 6 ∷ 0 ∷ [])) ≡ true
-unfolding computing figure-1 sameSets
-example-1 = refl
+pub example_1 : (same_sets (closed_down figure_1 (1 ∷ 7 ∷ [])) (1 ∷ 2 ∷ 3 ∷ 7 ∷ 8 ∷ 9 ∷ 10 ∷ 11 ∷ []) && same_sets (closed_both_ways figure_1 (8 ∷ [])) (8 ∷ 10 ∷ 11 ∷ 7 ∷ 6 ∷ 0 ∷ [])) ≡ true
+unfolding computing figure_1 same_sets
+example_1 = refl
 
 -- Section 5.2: the label of an instance, which allows Admin and prohibits Marketing, merged over that of its type, which allows Marketing
 -- and prohibits Admin. Where the type's is weak it is overridden, and where it is strong it is not. General-Purpose stays denied, and
@@ -89,14 +89,14 @@ conflict =
     ∷ record { strong = marks (6 ∷ []) (1 ∷ []); table = unmarked; row = marks (1 ∷ []) (6 ∷ []); cell = unmarked; open? = false ∷ false ∷ false ∷ false ∷ false ∷ false ∷ true ∷ true ∷ [] }
     ∷ []
 
-pub section-5-2 : agree figure-1 conflict ≡ true
-unfolding computing figure-1 conflict agree right
-section-5-2 = refl
+pub section_5_2 : agree figure_1 conflict ≡ true
+unfolding computing figure_1 conflict agree right
+section_5_2 = refl
 
 -- Figure 4, lines 9 and 10, on these labels: the sets of the instance merged over the type's
-pub figure-4 :
-    (sameSets (weakSets figure-1 (marks (6 ∷ []) (1 ∷ [])) (marks (1 ∷ []) (6 ∷ [])) unmarked).allowed (1 ∷ 2 ∷ 3 ∷ 6 ∷ 7 ∷ 8 ∷ 9 ∷ 10 ∷ 11 ∷ 12 ∷ 13 ∷ 14 ∷ [])
-    && sameSets (weakSets figure-1 (marks (6 ∷ []) (1 ∷ [])) (marks (1 ∷ []) (6 ∷ [])) unmarked).denied (0 ∷ 6 ∷ 7 ∷ 8 ∷ 9 ∷ 10 ∷ 11 ∷ 12 ∷ 13 ∷ 14 ∷ []))
+pub figure_4 :
+    (same_sets (weak_sets figure_1 (marks (6 ∷ []) (1 ∷ [])) (marks (1 ∷ []) (6 ∷ [])) unmarked).allowed (1 ∷ 2 ∷ 3 ∷ 6 ∷ 7 ∷ 8 ∷ 9 ∷ 10 ∷ 11 ∷ 12 ∷ 13 ∷ 14 ∷ [])
+    && same_sets (weak_sets figure_1 (marks (6 ∷ []) (1 ∷ [])) (marks (1 ∷ []) (6 ∷ [])) unmarked).denied (0 ∷ 6 ∷ 7 ∷ 8 ∷ 9 ∷ 10 ∷ 11 ∷ 12 ∷ 13 ∷ 14 ∷ []))
     ≡ true
-unfolding computing figure-1 sameSets
-figure-4 = refl
+unfolding computing figure_1 same_sets
+figure_4 = refl

@@ -3,8 +3,8 @@ ghost use Rattle.std.specs.Prelude.{◌≡◌, ◌&&◌, ◌||◌, [], ℕ, ◌�
 ghost use Rattle.lists.specs.Lists.{member};
 ghost use Rattle.purpose.specs.Compliance.{intersects, Same, descends, related, in_tree, opens};
 ghost use Rattle.purpose.specs.Members.{limit, members, including};
-ghost use Rattle.purpose.specs.Meaning.{treeHeld, treeFrom, marksHeld, TreeGrows, ClosureOf, admitted, isAbove};
-ghost use Rattle.purpose.specs.Verdicts.{verdictBy, over, openBy};
+ghost use Rattle.purpose.specs.Meaning.{tree_held, tree_from, marks_held, TreeGrows, ClosureOf, admitted, is_above};
+ghost use Rattle.purpose.specs.Verdicts.{verdict_by, over, open_by};
 
 // How many words of 64 bits hold a set of purposes, and the most purposes that a tree has.
 pub const WORDS: usize = 4;
@@ -55,7 +55,7 @@ fn wide(x: u8) -> usize
 
 // A tree with no purpose.
 pub fn no_purposes() -> Tree
-    ensures { treeHeld result ≡ [] }
+    ensures { tree_held result ≡ [] }
 {
     Tree {
         parents: [0u8; LIMIT],
@@ -65,7 +65,7 @@ pub fn no_purposes() -> Tree
 
 // How many purposes the tree has: never more than the limit, whatever `count` says.
 pub fn size(t: Tree) -> usize
-    ensures { (result ≡ length (treeHeld t)) × (result ≤ limit) }
+    ensures { (result ≡ length (tree_held t)) × (result ≤ limit) }
 {
     let n = t.count;
     if n < LIMIT { n } else { LIMIT }
@@ -73,7 +73,7 @@ pub fn size(t: Tree) -> usize
 
 // The tree with its first purpose; refused if it has one already.
 pub fn add_root(t: Tree) -> Growth
-    ensures { TreeGrows (eqb (length (treeHeld t)) 0) 0 t result }
+    ensures { TreeGrows (eqb (length (tree_held t)) 0) 0 t result }
 {
     let n = t.count;
     if n == 0 {
@@ -87,7 +87,7 @@ pub fn add_root(t: Tree) -> Growth
 
 // The tree with one purpose more below `parent`; refused if the tree is full or has no such purpose.
 pub fn add_child(t: Tree, parent: usize) -> Growth
-    ensures { TreeGrows (ltb (length (treeHeld t)) limit && in_tree (treeHeld t) parent) parent t result }
+    ensures { TreeGrows (ltb (length (tree_held t)) limit && in_tree (tree_held t) parent) parent t result }
 {
     let n = t.count;
     if n < LIMIT {
@@ -109,7 +109,7 @@ fn smaller(a: usize, b: usize) -> usize
 
 // The tree that `add_root` and then `add_child` for each further parent give, without a copy for each: what is refused is left out.
 pub fn tree_of(parents: &[usize], count: usize) -> Tree
-    ensures { treeHeld result ≡ treeFrom (take count parents.now) }
+    ensures { tree_held result ≡ tree_from (take count parents.now) }
 {
     let m = smaller(count, parents.len());
     if m == 0 {
@@ -196,7 +196,7 @@ pub fn unite(a: [u64; WORDS], b: [u64; WORDS]) -> [u64; WORDS]
 
 // The ancestors of each purpose of the tree.
 fn upward(t: Tree) -> [[u64; WORDS]; LIMIT]
-    ensures { (i : ℕ) → i < length (treeHeld t) → (a : ℕ) → member a (members (get_or result i [])) ≡ descends (treeHeld t) i a }
+    ensures { (i : ℕ) → i < length (tree_held t) → (a : ℕ) → member a (members (get_or result i [])) ≡ descends (tree_held t) i a }
 {
     let n = size(t);
     let mut up = [[0u64; WORDS]; LIMIT];
@@ -234,7 +234,7 @@ fn relatives(up: &[[u64; WORDS]; LIMIT], n: usize, p: usize) -> [u64; WORDS]
 
 // The closure of p: both sets are empty if the tree has no p.
 pub fn closure_of(t: Tree, p: usize) -> Closure
-    ensures { ClosureOf (treeHeld t) p result }
+    ensures { ClosureOf (tree_held t) p result }
 {
     let n = size(t);
     if p < n {
@@ -255,7 +255,7 @@ pub fn closure_of(t: Tree, p: usize) -> Closure
 
 // Whether a is the purpose whose closure is given, or stands above it.
 pub fn is_above(c: Closure, a: usize) -> bool
-    ensures { result ≡ isAbove c a }
+    ensures { result ≡ is_above c a }
 {
     let above = c.ancestors;
     contains(above, a)
@@ -278,7 +278,7 @@ pub fn admits(c: Closure, l: Label) -> bool
 
 // What the label says of the purpose whose closure is given: two ANDs for each word.
 pub fn verdict_of(c: Closure, l: Label) -> Verdict
-    ensures { result ≡ verdictBy c l }
+    ensures { result ≡ verdict_by c l }
 {
     let ancestors = c.ancestors;
     let allowed = l.allowed;
@@ -311,7 +311,7 @@ pub fn merged_over(upper: Verdict, lower: Verdict) -> Verdict
 
 // Whether a cell of a nest table is open, by the strong verdict, the weak one of its table and row, and its own.
 pub fn nest_open(strong: Verdict, inherited: Verdict, cell: Verdict) -> bool
-    ensures { result ≡ openBy strong (over inherited cell) }
+    ensures { result ≡ open_by strong (over inherited cell) }
 {
     if strong.denied {
         return false;
@@ -328,7 +328,7 @@ pub fn nest_open(strong: Verdict, inherited: Verdict, cell: Verdict) -> bool
 
 // Whether p is open under the label.
 pub fn open(t: Tree, l: Label, p: usize) -> bool
-    ensures { result ≡ opens (treeHeld t) (marksHeld l) p }
+    ensures { result ≡ opens (tree_held t) (marks_held l) p }
 {
     admits(closure_of(t, p), l)
 }

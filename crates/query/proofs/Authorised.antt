@@ -10,16 +10,16 @@ use Rattle.document.specs.Policy.{CondRole, Grant, Policy, User, tree_of}
 use Rattle.lists.proofs.Tests.{and_both}
 use Rattle.lists.specs.Lists.{holds_of}
 use Rattle.purpose.specs.Compliance.{descends}
-use Rattle.query.specs.Authority.{Clock, attributeMeets, authorises, belongs, clockNumber}
+use Rattle.query.specs.Authority.{Clock, attribute_meets, authorises, belongs, clock_number}
 
 -- a user whose role descends from the conditional role's belongs to it, if the condition holds
-pub belongs-below : (d : Policy) (c : Clock) (u : User) (r : CondRole) → descends (tree_of d.roles) u.role r.role ≡ true
-    → holds (λ x. attributeMeets u x (clockNumber c x.of)) r.condition ≡ true → belongs d c u r ≡ true
+pub belongs_below : (d : Policy) (c : Clock) (u : User) (r : CondRole) → descends (tree_of d.roles) u.role r.role ≡ true
+    → holds (λ x. attribute_meets u x (clock_number c x.of)) r.condition ≡ true → belongs d c u r ≡ true
 unfolding belongs
-belongs-below d c u r below h = and_both (descends (tree_of d.roles) u.role r.role) _ below h
+belongs_below d c u r below h = and_both (descends (tree_of d.roles) u.role r.role) _ below h
 
 -- a grant authorises every purpose below its own, for a user who belongs to its conditional role
-pub authorises-below : (d : Policy) (c : Clock) (u : User) (p : ℕ) (g : Grant) (r : CondRole) → descends (tree_of d.purposes) p g.purpose ≡ true
-    → get_elem? d.condRoles g.condRole ≡ some r → belongs d c u r ≡ true → authorises d c u p g ≡ true
+pub authorises_below : (d : Policy) (c : Clock) (u : User) (p : ℕ) (g : Grant) (r : CondRole) → descends (tree_of d.purposes) p g.purpose ≡ true
+    → get_elem? d.cond_roles g.cond_role ≡ some r → belongs d c u r ≡ true → authorises d c u p g ≡ true
 unfolding authorises holds_of
-authorises-below d c u p g r below is h = and_both (descends (tree_of d.purposes) p g.purpose) _ below (rw is h)
+authorises_below d c u p g r below is h = and_both (descends (tree_of d.purposes) p g.purpose) _ below (rw is h)

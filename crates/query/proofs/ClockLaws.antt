@@ -4,27 +4,27 @@ use borrow.Author.Tests.{le-leb, lt-leb}
 use lib.Dec.{leb}
 use mathlib.Core.Bool.{false}
 use mathlib.Core.Path.{◌≡◌}
-use Rattle.calendar.specs.Calendar.{daysIn}
+use Rattle.calendar.specs.Calendar.{days_in}
 use Rattle.query.specs.Authority.{in_range}
 
 module _ (y d h : ℕ) where
-  pub year-low : y < 1 → false ≡ in_range (record { year = y; day = d; hour = h })
+  pub year_low : y < 1 → false ≡ in_range (record { year = y; day = d; hour = h })
   unfolding in_range
-  year-low a = rw (lt-leb 1 y a)
+  year_low a = rw (lt-leb 1 y a)
 
-  pub year-high : 1 ≤ y → 9999 < y → false ≡ in_range (record { year = y; day = d; hour = h })
+  pub year_high : 1 ≤ y → 9999 < y → false ≡ in_range (record { year = y; day = d; hour = h })
   unfolding in_range
-  year-high a b = rw (le-leb 1 y a, lt-leb y 9999 b)
+  year_high a b = rw (le-leb 1 y a, lt-leb y 9999 b)
 
   module _ (low : 1 ≤ y) (high : y ≤ 9999) where
-    pub day-low : d < 1 → false ≡ in_range (record { year = y; day = d; hour = h })
+    pub day_low : d < 1 → false ≡ in_range (record { year = y; day = d; hour = h })
     unfolding in_range
-    day-low a = rw (le-leb 1 y low, le-leb y 9999 high, lt-leb 1 d a)
+    day_low a = rw (le-leb 1 y low, le-leb y 9999 high, lt-leb 1 d a)
 
-    pub day-high : 1 ≤ d → daysIn y < d → false ≡ in_range (record { year = y; day = d; hour = h })
+    pub day_high : 1 ≤ d → days_in y < d → false ≡ in_range (record { year = y; day = d; hour = h })
     unfolding in_range
-    day-high a b = rw (le-leb 1 y low, le-leb y 9999 high, le-leb 1 d a, lt-leb d (daysIn y) b)
+    day_high a b = rw (le-leb 1 y low, le-leb y 9999 high, le-leb 1 d a, lt-leb d (days_in y) b)
 
-    pub by-hour : 1 ≤ d → d ≤ daysIn y → leb h 23 ≡ in_range (record { year = y; day = d; hour = h })
+    pub by_hour : 1 ≤ d → d ≤ days_in y → leb h 23 ≡ in_range (record { year = y; day = d; hour = h })
     unfolding in_range
-    by-hour a b = rw (le-leb 1 y low, le-leb y 9999 high, le-leb 1 d a, le-leb d (daysIn y) b)
+    by_hour a b = rw (le-leb 1 y low, le-leb y 9999 high, le-leb 1 d a, le-leb d (days_in y) b)

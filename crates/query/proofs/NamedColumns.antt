@@ -5,122 +5,122 @@ use mathlib.Core.List.{List, [], ◌++◌, ◌∷◌, map}
 use mathlib.Core.Option
 use mathlib.Core.Option.{Option, none, some}
 use mathlib.Core.Path.{◌∙◌, ◌≡◌, ap, refl, sym}
-use Rattle.condition.proofs.CondLaws.{comparisonsIn-map}
+use Rattle.condition.proofs.CondLaws.{comparisons_in_map}
 use Rattle.condition.specs.Comparison.{Comparison}
-use Rattle.condition.specs.Cond.{Cond, comparisonsIn, mapCond}
+use Rattle.condition.specs.Cond.{Cond, comparisons_in, map_cond}
 use Rattle.condition.specs.CondForm.{Compared}
-use Rattle.document.specs.Lookup.{columnOf, columnsOf, labellingAt, labellingOf, purposeOf}
-use Rattle.document.specs.Open.{columnOpen, openTo, tableOpen}
+use Rattle.document.specs.Lookup.{column_of, columns_of, labelling_at, labelling_of, purpose_of}
+use Rattle.document.specs.Open.{column_open, open_to, table_open}
 use Rattle.document.specs.Policy.{Column, Policy}
-use Rattle.query.proofs.Sources.{named-columns, named-words-are, sources-known, withholding-columns, withholding-words-are, withholdingWords}
-use Rattle.query.proofs.WantedLaws.{gaps-map, selected-map}
-use Rattle.query.specs.Query.{NamesParts, PartsOpen, closedPart, columnComparison, openFor, resolved, source_of, sources, tested, unknownColumn, unknownParty, wantedOf}
-use Rattle.query.specs.QueryForm.{QueryForm, Wanted, has_gaps, namedWords, selected, selectedWords}
-use Rattle.lists.proofs.ListLaws.{all-at, all-parts, map-append, map-map, there-some}
-use Rattle.text.proofs.OffendingLaws.{leftmost-head, leftmost-tail, missing-none, unless-none}
+use Rattle.query.proofs.Sources.{named_columns, named_words_are, sources_known, withholding_columns, withholding_words_are, withholding_words}
+use Rattle.query.proofs.WantedLaws.{gaps_map, selected_map}
+use Rattle.query.specs.Query.{NamesParts, PartsOpen, closed_part, column_comparison, open_for, resolved, source_of, sources, tested, unknown_column, unknown_party, wanted_of}
+use Rattle.query.specs.QueryForm.{QueryForm, Wanted, has_gaps, named_words, selected, selected_words}
+use Rattle.lists.proofs.ListLaws.{all_at, all_parts, map_append, map_map, there_some}
+use Rattle.text.proofs.OffendingLaws.{leftmost_head, leftmost_tail, missing_none, unless_none}
 use Rattle.lists.proofs.Tests.{and_left, and_right}
 use Rattle.lists.specs.Lists.{all_of, found, member, or_zero, there}
 use Rattle.text.specs.Words.{Word}
 
 -- the number of the column that a word names
-abbrev pub columnNumber : List Column → Word → ℕ
-columnNumber cs w = or_zero (columnOf cs w)
+abbrev pub column_number : List Column → Word → ℕ
+column_number cs w = or_zero (column_of cs w)
 
-selected-words : (cs : List Column) (w : Wanted Word) → selected (wantedOf cs w) ≡ map (columnNumber cs) (selected w)
-unfolding wantedOf
-selected-words cs w = selected-map (columnNumber cs) w
+selected_words_lem : (cs : List Column) (w : Wanted Word) → selected (wanted_of cs w) ≡ map (column_number cs) (selected w)
+unfolding wanted_of
+selected_words_lem cs w = selected_map (column_number cs) w
 
-condition-words : (cs : List Column) (o : Option (Cond Compared))
-    → map (λ (t : Comparison). t.of) (comparisonsIn (Option.map (mapCond (columnComparison cs)) o)) ≡ map (columnNumber cs) (map (λ (x : Compared). x.of) (comparisonsIn o))
-unfolding columnComparison
-condition-words cs o =
-    rw (comparisonsIn-map (columnComparison cs) o, map-map (λ (t : Comparison). t.of) (columnComparison cs) (comparisonsIn o), map-map (columnNumber cs) (λ (x : Compared). x.of) (comparisonsIn o))
+condition_words : (cs : List Column) (o : Option (Cond Compared))
+    → map (λ (t : Comparison). t.of) (comparisons_in (Option.map (map_cond (column_comparison cs)) o)) ≡ map (column_number cs) (map (λ (x : Compared). x.of) (comparisons_in o))
+unfolding column_comparison
+condition_words cs o =
+    rw (comparisons_in_map (column_comparison cs) o, map_map (λ (t : Comparison). t.of) (column_comparison cs) (comparisons_in o), map_map (column_number cs) (λ (x : Compared). x.of) (comparisons_in o))
 
 -- where every word names a column, the named columns are those that are found
-pub found-known : (cs : List Column) (ws : List Word) → all_of (λ w. there (columnOf cs w)) ws ≡ true → found (map (columnOf cs) ws) ≡ map (columnNumber cs) ws
+pub found_known : (cs : List Column) (ws : List Word) → all_of (λ w. there (column_of cs w)) ws ≡ true → found (map (column_of cs) ws) ≡ map (column_number cs) ws
 unfolding all_of found or_zero
-found-known cs [] h = refl
-found-known cs (w ∷ ws) h =
-    rw (there-some (columnOf cs w) (and_left (there (columnOf cs w)) _ h)) (ap (λ l. columnNumber cs w ∷ l) (found-known cs ws (and_right (there (columnOf cs w)) _ h)))
+found_known cs [] h = refl
+found_known cs (w ∷ ws) h =
+    rw (there_some (column_of cs w) (and_left (there (column_of cs w)) _ h)) (ap (λ l. column_number cs w ∷ l) (found_known cs ws (and_right (there (column_of cs w)) _ h)))
 
 -- a query of known columns names those of its words
-pub named-words : (d : Policy) (q : QueryForm) → all_of (λ w. there (columnOf (columnsOf d q.table) w)) (namedWords q) ≡ true
-    → (resolved d q).source.named ≡ map (columnNumber (columnsOf d q.table)) (namedWords q)
+pub named_words_lem : (d : Policy) (q : QueryForm) → all_of (λ w. there (column_of (columns_of d q.table) w)) (named_words q) ≡ true
+    → (resolved d q).source.named ≡ map (column_number (columns_of d q.table)) (named_words q)
 unfolding resolved
-named-words d q h = named-columns d q ∙ found-known (columnsOf d q.table) (namedWords q) h
+named_words_lem d q h = named_columns d q ∙ found_known (columns_of d q.table) (named_words q) h
 
 -- all of the condition's words are known
-tested-known : (d : Policy) (q : QueryForm) → all_of (λ w. there (columnOf (columnsOf d q.table) w)) (namedWords q) ≡ true
-    → all_of (λ w. there (columnOf (columnsOf d q.table) w)) (map (λ (x : Compared). x.of) (comparisonsIn q.condition)) ≡ true
-tested-known d q h = (all-parts (λ w. there (columnOf (columnsOf d q.table) w)) (selectedWords q) _ (ap (all_of (λ w. there (columnOf (columnsOf d q.table) w))) (sym (named-words-are q)) ∙ h)).1
+tested_known : (d : Policy) (q : QueryForm) → all_of (λ w. there (column_of (columns_of d q.table) w)) (named_words q) ≡ true
+    → all_of (λ w. there (column_of (columns_of d q.table) w)) (map (λ (x : Compared). x.of) (comparisons_in q.condition)) ≡ true
+tested_known d q h = (all_parts (λ w. there (column_of (columns_of d q.table) w)) (selected_words q) _ (ap (all_of (λ w. there (column_of (columns_of d q.table) w))) (sym (named_words_are q)) ∙ h)).1
 
 -- the words that withhold stand for their columns
-pub withholding-words : (d : Policy) (q : QueryForm) → all_of (λ w. there (columnOf (columnsOf d q.table) w)) (namedWords q) ≡ true
-    → (resolved d q).source.withholding ≡ map (columnNumber (columnsOf d q.table)) (withholdingWords q)
+pub withholding_words_lem : (d : Policy) (q : QueryForm) → all_of (λ w. there (column_of (columns_of d q.table) w)) (named_words q) ≡ true
+    → (resolved d q).source.withholding ≡ map (column_number (columns_of d q.table)) (withholding_words q)
 unfolding resolved
-withholding-words d q h = withholding-columns d q ∙ found-known (columnsOf d q.table) (withholdingWords q) (ap (all_of (λ w. there (columnOf (columnsOf d q.table) w))) (withholding-words-are q) ∙ go (has_gaps q.wanted))
+withholding_words_lem d q h = withholding_columns d q ∙ found_known (columns_of d q.table) (withholding_words q) (ap (all_of (λ w. there (column_of (columns_of d q.table) w))) (withholding_words_are q) ∙ go (has_gaps q.wanted))
   where
-    go : (b : Bool) → all_of (λ w. there (columnOf (columnsOf d q.table) w)) (cond b (map (λ (x : Compared). x.of) (comparisonsIn q.condition)) (namedWords q)) ≡ true
-    go true = tested-known d q h
+    go : (b : Bool) → all_of (λ w. there (column_of (columns_of d q.table) w)) (cond b (map (λ (x : Compared). x.of) (comparisons_in q.condition)) (named_words q)) ≡ true
+    go true = tested_known d q h
     go false = h
 
 -- the condition's columns by number
-tested-words : (d : Policy) (q : QueryForm) → tested (resolved d q) ≡ map (columnNumber (columnsOf d q.table)) (map (λ (x : Compared). x.of) (comparisonsIn q.condition))
+tested_words : (d : Policy) (q : QueryForm) → tested (resolved d q) ≡ map (column_number (columns_of d q.table)) (map (λ (x : Compared). x.of) (comparisons_in q.condition))
 unfolding tested resolved
-tested-words d q = condition-words (columnsOf d q.table) q.condition
+tested_words d q = condition_words (columns_of d q.table) q.condition
 
 -- the named words by number are the selected columns, and then the condition's
-named-numbers : (d : Policy) (q : QueryForm) → map (columnNumber (columnsOf d q.table)) (namedWords q) ≡ selected (resolved d q).wanted ++ tested (resolved d q)
-unfolding resolved selectedWords
-named-numbers d q =
-    let cs : List Column = columnsOf d q.table in
-    ap (map (columnNumber cs)) (named-words-are q)
-    ∙ map-append (columnNumber cs) (selected q.wanted) (map (λ x. x.of) (comparisonsIn q.condition))
-    ∙ (λ i. sym (selected-words cs q.wanted) i ++ sym (tested-words d q) i)
+named_numbers : (d : Policy) (q : QueryForm) → map (column_number (columns_of d q.table)) (named_words q) ≡ selected (resolved d q).wanted ++ tested (resolved d q)
+unfolding resolved selected_words
+named_numbers d q =
+    let cs : List Column = columns_of d q.table in
+    ap (map (column_number cs)) (named_words_are q)
+    ∙ map_append (column_number cs) (selected q.wanted) (map (λ x. x.of) (comparisons_in q.condition))
+    ∙ (λ i. sym (selected_words_lem cs q.wanted) i ++ sym (tested_words d q) i)
 
 -- so a query of known columns names its parts
-pub names-parts : (d : Policy) (q : QueryForm) → all_of (λ w. there (columnOf (columnsOf d q.table) w)) (namedWords q) ≡ true → NamesParts (resolved d q)
-unfolding resolved wantedOf
-names-parts d q h = record {
-  named = named-words d q h ∙ named-numbers d q;
+pub names_parts : (d : Policy) (q : QueryForm) → all_of (λ w. there (column_of (columns_of d q.table) w)) (named_words q) ≡ true → NamesParts (resolved d q)
+unfolding resolved wanted_of
+names_parts d q h = record {
+  named = named_words_lem d q h ∙ named_numbers d q;
   withholding =
-      withholding-words d q h ∙ ap (map (columnNumber cs)) (withholding-words-are q) ∙ go (has_gaps q.wanted)
-      ∙ ap (λ b. cond b (tested (resolved d q)) (selected (resolved d q).wanted ++ tested (resolved d q))) (sym (gaps-map (columnNumber cs) q.wanted));
+      withholding_words_lem d q h ∙ ap (map (column_number cs)) (withholding_words_are q) ∙ go (has_gaps q.wanted)
+      ∙ ap (λ b. cond b (tested (resolved d q)) (selected (resolved d q).wanted ++ tested (resolved d q))) (sym (gaps_map (column_number cs) q.wanted));
 }
   where
     cs : List Column
-    cs = columnsOf d q.table
+    cs = columns_of d q.table
 
-    go : (b : Bool) → map (columnNumber cs) (cond b (map (λ (x : Compared). x.of) (comparisonsIn q.condition)) (namedWords q)) ≡ cond b (tested (resolved d q)) (selected (resolved d q).wanted ++ tested (resolved d q))
-    go true = sym (tested-words d q)
-    go false = named-numbers d q
+    go : (b : Bool) → map (column_number cs) (cond b (map (λ (x : Compared). x.of) (comparisons_in q.condition)) (named_words q)) ≡ cond b (tested (resolved d q)) (selected (resolved d q).wanted ++ tested (resolved d q))
+    go true = sym (tested_words d q)
+    go false = named_numbers d q
 
 -- ---- a query that is not refused with 12, 15 or 17
 
 module _ (d : Policy) (q : QueryForm) where
-  pub purpose-known : unknownParty d q ≡ none → purposeOf d q.purpose ≡ some (resolved d q).purpose
-  unfolding unknownParty resolved
-  purpose-known h = there-some (purposeOf d q.purpose) (unless-none _ _ (leftmost-head _ _ (leftmost-tail _ _ (leftmost-tail _ _ h))))
+  pub purpose_known : unknown_party d q ≡ none → purpose_of d q.purpose ≡ some (resolved d q).purpose
+  unfolding unknown_party resolved
+  purpose_known h = there_some (purpose_of d q.purpose) (unless_none _ _ (leftmost_head _ _ (leftmost_tail _ _ (leftmost_tail _ _ h))))
 
-  pub source_known : unknownColumn d q ≡ none → sources d q ≡ (resolved d q).source ∷ []
-  unfolding unknownColumn resolved
-  source_known h = sources-known d q (unless-none _ _ (leftmost-head _ _ h))
+  pub source_known : unknown_column d q ≡ none → sources d q ≡ (resolved d q).source ∷ []
+  unfolding unknown_column resolved
+  source_known h = sources_known d q (unless_none _ _ (leftmost_head _ _ h))
 
-  pub columns-known : unknownColumn d q ≡ none → all_of (λ w. there (columnOf (columnsOf d q.table) w)) (namedWords q) ≡ true
-  unfolding unknownColumn
-  columns-known h = missing-none _ _ (leftmost-head _ _ (leftmost-tail _ _ h))
+  pub columns_known : unknown_column d q ≡ none → all_of (λ w. there (column_of (columns_of d q.table) w)) (named_words q) ≡ true
+  unfolding unknown_column
+  columns_known h = missing_none _ _ (leftmost_head _ _ (leftmost_tail _ _ h))
 
-  pub table-open : closedPart d q ≡ none → tableOpen (openTo d (resolved d q).purpose) (labellingAt d (resolved d q).source.table) ≡ true
-  unfolding closedPart openFor resolved source_of labellingOf
-  table-open h = unless-none _ _ (leftmost-head _ _ h)
+  pub table_open_lem : closed_part d q ≡ none → table_open (open_to d (resolved d q).purpose) (labelling_at d (resolved d q).source.table) ≡ true
+  unfolding closed_part open_for resolved source_of labelling_of
+  table_open_lem h = unless_none _ _ (leftmost_head _ _ h)
 
-  pub columns-open : unknownColumn d q ≡ none → closedPart d q ≡ none
-      → (k : ℕ) → member k (resolved d q).source.named ≡ true → columnOpen (openTo d (resolved d q).purpose) (labellingAt d (resolved d q).source.table) k ≡ true
-  unfolding closedPart openFor resolved source_of labellingOf
-  columns-open u h k m =
-      all-at (columnNumber (columnsOf d q.table)) (columnOpen (openTo d (or_zero (purposeOf d q.purpose))) (labellingOf d q.table)) (namedWords q)
-      (missing-none _ _ (leftmost-head _ _ (leftmost-tail _ _ h)))
-      k (sym (ap (member k) (named-words d q (columns-known u))) ∙ m)
+  pub columns_open : unknown_column d q ≡ none → closed_part d q ≡ none
+      → (k : ℕ) → member k (resolved d q).source.named ≡ true → column_open (open_to d (resolved d q).purpose) (labelling_at d (resolved d q).source.table) k ≡ true
+  unfolding closed_part open_for resolved source_of labelling_of
+  columns_open u h k m =
+      all_at (column_number (columns_of d q.table)) (column_open (open_to d (or_zero (purpose_of d q.purpose))) (labelling_of d q.table)) (named_words q)
+      (missing_none _ _ (leftmost_head _ _ (leftmost_tail _ _ h)))
+      k (sym (ap (member k) (named_words_lem d q (columns_known u))) ∙ m)
 
-  pub parts-open : unknownColumn d q ≡ none → closedPart d q ≡ none → PartsOpen d (resolved d q)
-  parts-open u h = record { table = table-open h; columns = columns-open u h }
+  pub parts_open : unknown_column d q ≡ none → closed_part d q ≡ none → PartsOpen d (resolved d q)
+  parts_open u h = record { table = table_open_lem h; columns = columns_open u h }

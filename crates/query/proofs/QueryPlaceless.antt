@@ -5,172 +5,172 @@ use mathlib.Core.List.{List, [], ◌++◌, ◌∷◌, map}
 use mathlib.Core.Option
 use mathlib.Core.Option.{Option, none, some}
 use mathlib.Core.Path.{◌∙◌, ◌≡◌, ap, refl, sym}
-use Rattle.condition.proofs.CondLaws.{comparisonsIn-map, mapCond-map}
-use Rattle.condition.proofs.CondPlaces.{mistyped-placeless, placelessCompared}
+use Rattle.condition.proofs.CondLaws.{comparisons_in_map, map_cond_map}
+use Rattle.condition.proofs.CondPlaces.{mistyped_placeless, placeless_compared}
 use Rattle.condition.specs.Comparison.{Comparison}
-use Rattle.condition.specs.Cond.{Cond, comparisonsIn, mapCond}
+use Rattle.condition.specs.Cond.{Cond, comparisons_in, map_cond}
 use Rattle.condition.specs.CondForm.{Compared, Ref, mistyped}
 use Rattle.condition.specs.Kinds.{Kind}
-use Rattle.document.specs.Lookup.{columnKind, columnOf, columnsOf, labellingOf, purposeOf, roleOf, table_of}
-use Rattle.document.specs.Open.{columnOpen, tableOpen}
+use Rattle.document.specs.Lookup.{column_kind, column_of, columns_of, labelling_of, purpose_of, role_of, table_of}
+use Rattle.document.specs.Open.{column_open, table_open}
 use Rattle.document.specs.Policy.{Column, Policy}
-use Rattle.query.proofs.WantedLaws.{gaps-map, selected-map}
-use Rattle.query.specs.Query.{closedPart, columnComparison, columnsIn, missingDate, mistypedQuery, isMissingDate, openFor, resolved, source_of, unknownColumn, unknownParty, wantedOf}
-use Rattle.query.specs.QueryForm.{QueryForm, Wanted, countsOnly, has_gaps, mapWanted, namedRefs, namedWords, plainRef, rows_of, selectedRefs, selectedWords, testedRefs, withholdingRefs, withinBounds}
-use Rattle.lists.proofs.KeptLaws.{keep-map}
-use Rattle.lists.proofs.ListLaws.{map-append, map-map}
-use Rattle.text.proofs.Places.{leftmost-placeless, unless-placeless}
+use Rattle.query.proofs.WantedLaws.{gaps_map, selected_map}
+use Rattle.query.specs.Query.{closed_part, column_comparison, columns_in, missing_date, mistyped_query, is_missing_date, open_for, resolved, source_of, unknown_column, unknown_party, wanted_of}
+use Rattle.query.specs.QueryForm.{QueryForm, Wanted, counts_only, has_gaps, map_wanted, named_refs, named_words, plain_ref, rows_of, selected_refs, selected_words, tested_refs, withholding_refs, within_bounds}
+use Rattle.lists.proofs.KeptLaws.{keep_map}
+use Rattle.lists.proofs.ListLaws.{map_append, map_map}
+use Rattle.text.proofs.Places.{leftmost_placeless, unless_placeless}
 use Rattle.text.proofs.ReadBack.{placeless}
 use Rattle.lists.specs.Lists.{any_of, found, keep, or_zero, there}
-use Rattle.text.specs.Offending.{leftmost, missing, offendingIf, unless}
-use Rattle.text.specs.Words.{Word, isCalled, plainWord}
+use Rattle.text.specs.Offending.{leftmost, missing, offending_if, unless}
+use Rattle.text.specs.Words.{Word, is_called, plain_word}
 
 -- a query without places
-unfoldable pub placelessQuery : QueryForm → QueryForm
-placelessQuery q = record {
+unfoldable pub placeless_query : QueryForm → QueryForm
+placeless_query q = record {
   user = placeless q.user;
   role = placeless q.role;
   purpose = placeless q.purpose;
   table = placeless q.table;
-  wanted = mapWanted placeless q.wanted;
-  condition = Option.map (mapCond placelessCompared) q.condition;
+  wanted = map_wanted placeless q.wanted;
+  condition = Option.map (map_cond placeless_compared) q.condition;
 }
 
 -- ---- the words
 
-selected-placeless : (q : QueryForm) → selectedWords (placelessQuery q) ≡ map placeless (selectedWords q)
-unfolding selectedWords placelessQuery
-selected-placeless q = selected-map placeless q.wanted
+selected_placeless : (q : QueryForm) → selected_words (placeless_query q) ≡ map placeless (selected_words q)
+unfolding selected_words placeless_query
+selected_placeless q = selected_map placeless q.wanted
 
-comparisons-placeless : (q : QueryForm) → comparisonsIn (placelessQuery q).condition ≡ map placelessCompared (comparisonsIn q.condition)
-unfolding placelessQuery
-comparisons-placeless q = comparisonsIn-map placelessCompared q.condition
+comparisons_placeless : (q : QueryForm) → comparisons_in (placeless_query q).condition ≡ map placeless_compared (comparisons_in q.condition)
+unfolding placeless_query
+comparisons_placeless q = comparisons_in_map placeless_compared q.condition
 
 -- a column without places
-abbrev placelessRef : Ref → Ref
-placelessRef r = record { table = placeless r.table; column = placeless r.column }
+abbrev placeless_ref : Ref → Ref
+placeless_ref r = record { table = placeless r.table; column = placeless r.column }
 
-picked-placeless : (q : QueryForm) → selectedRefs (placelessQuery q) ≡ map placelessRef (selectedRefs q)
-unfolding selectedRefs placelessQuery
-picked-placeless q =
-    ap (map (plainRef (placelessQuery q))) (selected-placeless q)
-    ∙ map-map (plainRef (placelessQuery q)) placeless (selectedWords q)
-    ∙ sym (map-map placelessRef (plainRef q) (selectedWords q))
+picked_placeless : (q : QueryForm) → selected_refs (placeless_query q) ≡ map placeless_ref (selected_refs q)
+unfolding selected_refs placeless_query
+picked_placeless q =
+    ap (map (plain_ref (placeless_query q))) (selected_placeless q)
+    ∙ map_map (plain_ref (placeless_query q)) placeless (selected_words q)
+    ∙ sym (map_map placeless_ref (plain_ref q) (selected_words q))
 
-tested-placeless : (q : QueryForm) → testedRefs (placelessQuery q) ≡ map placelessRef (testedRefs q)
-unfolding testedRefs placelessQuery placelessCompared
-tested-placeless q =
-    ap (map (λ x. plainRef (placelessQuery q) x.of)) (comparisons-placeless q)
-    ∙ map-map (λ (x : Compared). plainRef (placelessQuery q) x.of) placelessCompared (comparisonsIn q.condition)
-    ∙ sym (map-map placelessRef (λ (x : Compared). plainRef q x.of) (comparisonsIn q.condition))
+tested_placeless : (q : QueryForm) → tested_refs (placeless_query q) ≡ map placeless_ref (tested_refs q)
+unfolding tested_refs placeless_query placeless_compared
+tested_placeless q =
+    ap (map (λ x. plain_ref (placeless_query q) x.of)) (comparisons_placeless q)
+    ∙ map_map (λ (x : Compared). plain_ref (placeless_query q) x.of) placeless_compared (comparisons_in q.condition)
+    ∙ sym (map_map placeless_ref (λ (x : Compared). plain_ref q x.of) (comparisons_in q.condition))
 
-refs-placeless : (q : QueryForm) → namedRefs (placelessQuery q) ≡ map placelessRef (namedRefs q)
-unfolding namedRefs
-refs-placeless q = (λ i. picked-placeless q i ++ tested-placeless q i) ∙ sym (map-append placelessRef (selectedRefs q) (testedRefs q))
+refs_placeless : (q : QueryForm) → named_refs (placeless_query q) ≡ map placeless_ref (named_refs q)
+unfolding named_refs
+refs_placeless q = (λ i. picked_placeless q i ++ tested_placeless q i) ∙ sym (map_append placeless_ref (selected_refs q) (tested_refs q))
 
-withholding-placeless : (q : QueryForm) → withholdingRefs (placelessQuery q) ≡ map placelessRef (withholdingRefs q)
-unfolding withholdingRefs placelessQuery
-withholding-placeless q = (λ i. cond (gaps-map placeless q.wanted i) (tested-placeless q i) (refs-placeless q i)) ∙ go (has_gaps q.wanted)
+withholding_placeless : (q : QueryForm) → withholding_refs (placeless_query q) ≡ map placeless_ref (withholding_refs q)
+unfolding withholding_refs placeless_query
+withholding_placeless q = (λ i. cond (gaps_map placeless q.wanted i) (tested_placeless q i) (refs_placeless q i)) ∙ go (has_gaps q.wanted)
   where
-    go : (b : Bool) → cond b (map placelessRef (testedRefs q)) (map placelessRef (namedRefs q)) ≡ map placelessRef (cond b (testedRefs q) (namedRefs q))
+    go : (b : Bool) → cond b (map placeless_ref (tested_refs q)) (map placeless_ref (named_refs q)) ≡ map placeless_ref (cond b (tested_refs q) (named_refs q))
     go true = refl
     go false = refl
 
-pub named-placeless : (q : QueryForm) → namedWords (placelessQuery q) ≡ map placeless (namedWords q)
-unfolding namedWords
-named-placeless q =
-    ap (map (λ (r : Ref). r.column)) (refs-placeless q)
-    ∙ map-map (λ (r : Ref). r.column) placelessRef (namedRefs q)
-    ∙ sym (map-map placeless (λ (r : Ref). r.column) (namedRefs q))
+pub named_placeless : (q : QueryForm) → named_words (placeless_query q) ≡ map placeless (named_words q)
+unfolding named_words
+named_placeless q =
+    ap (map (λ (r : Ref). r.column)) (refs_placeless q)
+    ∙ map_map (λ (r : Ref). r.column) placeless_ref (named_refs q)
+    ∙ sym (map_map placeless (λ (r : Ref). r.column) (named_refs q))
 
-pub bounds-placeless : (q : QueryForm) → withinBounds (placelessQuery q) ≡ withinBounds q
-unfolding withinBounds
-bounds-placeless q = rw (selected-placeless q, comparisons-placeless q, length-map (selectedWords q), length-map (comparisonsIn q.condition))
+pub bounds_placeless : (q : QueryForm) → within_bounds (placeless_query q) ≡ within_bounds q
+unfolding within_bounds
+bounds_placeless q = rw (selected_placeless q, comparisons_placeless q, length-map (selected_words q), length-map (comparisons_in q.condition))
 
 -- ---- the tests: each offending word is the same up to its place
 
 -- tests of things that have places
-tests-placeless : {A : Type 0} (e : A → A) (g : A → Option Word) → ((x : A) → g (e x) ≡ Option.map placeless (g x)) → (xs : List A) → leftmost (map g (map e xs)) ≡ Option.map placeless (leftmost (map g xs))
-tests-placeless {A} e g h xs = ap leftmost (go xs) ∙ leftmost-placeless (map g xs)
+tests_placeless : {A : Type 0} (e : A → A) (g : A → Option Word) → ((x : A) → g (e x) ≡ Option.map placeless (g x)) → (xs : List A) → leftmost (map g (map e xs)) ≡ Option.map placeless (leftmost (map g xs))
+tests_placeless {A} e g h xs = ap leftmost (go xs) ∙ leftmost_placeless (map g xs)
   where
     go : (xs : List A) → map g (map e xs) ≡ map (Option.map placeless) (map g xs)
     go [] = refl
     go (x ∷ xs) = λ i. h x i ∷ go xs i
 
-pub missing-placeless : (f : Word → Bool) → ((w : Word) → f (placeless w) ≡ f w) → (ws : List Word) → missing f (map placeless ws) ≡ Option.map placeless (missing f ws)
+pub missing_placeless : (f : Word → Bool) → ((w : Word) → f (placeless w) ≡ f w) → (ws : List Word) → missing f (map placeless ws) ≡ Option.map placeless (missing f ws)
 unfolding missing
-missing-placeless f h ws = tests-placeless placeless (λ w. unless (f w) w) (λ w. ap (λ b. unless b (placeless w)) (h w) ∙ unless-placeless (f w) w) ws
+missing_placeless f h ws = tests_placeless placeless (λ w. unless (f w) w) (λ w. ap (λ b. unless b (placeless w)) (h w) ∙ unless_placeless (f w) w) ws
 
 module _ (d : Policy) (q : QueryForm) where
-  pub party-placeless : unknownParty d (placelessQuery q) ≡ Option.map placeless (unknownParty d q)
-  unfolding unknownParty placelessQuery roleOf purposeOf isCalled placeless plainWord
-  party-placeless = (λ i. leftmost (unless-placeless (any_of (λ x. isCalled q.user x.name) d.users) q.user i ∷ unless-placeless (there (roleOf d q.role)) q.role i
-      ∷ unless-placeless (there (purposeOf d q.purpose)) q.purpose i ∷ [])) ∙ leftmost-placeless (_ ∷ _ ∷ _ ∷ [])
+  pub party_placeless : unknown_party d (placeless_query q) ≡ Option.map placeless (unknown_party d q)
+  unfolding unknown_party placeless_query role_of purpose_of is_called placeless plain_word
+  party_placeless = (λ i. leftmost (unless_placeless (any_of (λ x. is_called q.user x.name) d.users) q.user i ∷ unless_placeless (there (role_of d q.role)) q.role i
+      ∷ unless_placeless (there (purpose_of d q.purpose)) q.purpose i ∷ [])) ∙ leftmost_placeless (_ ∷ _ ∷ _ ∷ [])
 
-  pub column-placeless : unknownColumn d (placelessQuery q) ≡ Option.map placeless (unknownColumn d q)
-  unfolding unknownColumn columnsOf table_of isCalled placeless plainWord columnOf placelessQuery
-  column-placeless =
-      (λ i. leftmost (unless-placeless (there (table_of d q.table)) q.table i
-      ∷ (ap (missing (λ w. there (columnOf (columnsOf d q.table) w))) (named-placeless q) ∙ missing-placeless (λ w. there (columnOf (columnsOf d q.table) w)) (λ w. refl) (namedWords q)) i ∷ []))
-      ∙ leftmost-placeless (_ ∷ _ ∷ [])
+  pub column_placeless : unknown_column d (placeless_query q) ≡ Option.map placeless (unknown_column d q)
+  unfolding unknown_column columns_of table_of is_called placeless plain_word column_of placeless_query
+  column_placeless =
+      (λ i. leftmost (unless_placeless (there (table_of d q.table)) q.table i
+      ∷ (ap (missing (λ w. there (column_of (columns_of d q.table) w))) (named_placeless q) ∙ missing_placeless (λ w. there (column_of (columns_of d q.table) w)) (λ w. refl) (named_words q)) i ∷ []))
+      ∙ leftmost_placeless (_ ∷ _ ∷ [])
 
-  pub closed-placeless : closedPart d (placelessQuery q) ≡ Option.map placeless (closedPart d q)
-  unfolding closedPart openFor columnsOf labellingOf table_of purposeOf isCalled placeless plainWord columnOf placelessQuery
-  closed-placeless =
-      let f : Word → Bool = λ w. columnOpen (openFor d q) (labellingOf d q.table) (or_zero (columnOf (columnsOf d q.table) w)) in
-      (λ i. leftmost (unless-placeless (tableOpen (openFor d q) (labellingOf d q.table)) q.table i ∷ (ap (missing f) (named-placeless q) ∙ missing-placeless f (λ w. refl) (namedWords q)) i ∷ []))
-      ∙ leftmost-placeless (_ ∷ _ ∷ [])
+  pub closed_placeless : closed_part d (placeless_query q) ≡ Option.map placeless (closed_part d q)
+  unfolding closed_part open_for columns_of labelling_of table_of purpose_of is_called placeless plain_word column_of placeless_query
+  closed_placeless =
+      let f : Word → Bool = λ w. column_open (open_for d q) (labelling_of d q.table) (or_zero (column_of (columns_of d q.table) w)) in
+      (λ i. leftmost (unless_placeless (table_open (open_for d q) (labelling_of d q.table)) q.table i ∷ (ap (missing f) (named_placeless q) ∙ missing_placeless f (λ w. refl) (named_words q)) i ∷ []))
+      ∙ leftmost_placeless (_ ∷ _ ∷ [])
 
-  pub types-placeless : mistypedQuery d (placelessQuery q) ≡ Option.map placeless (mistypedQuery d q)
-  unfolding mistypedQuery columnKind columnsOf table_of isCalled placeless plainWord columnOf placelessQuery placelessCompared
-  types-placeless =
-      let f : Word → Kind = columnKind (columnsOf d q.table) in
-      ap (λ l. leftmost (map (λ (x : Compared). mistyped (f x.of) x) l)) (comparisons-placeless q)
-      ∙ tests-placeless placelessCompared (λ x. mistyped (f x.of) x) (λ x. mistyped-placeless f (λ w. refl) x) (comparisonsIn q.condition)
+  pub types_placeless : mistyped_query d (placeless_query q) ≡ Option.map placeless (mistyped_query d q)
+  unfolding mistyped_query column_kind columns_of table_of is_called placeless plain_word column_of placeless_query placeless_compared
+  types_placeless =
+      let f : Word → Kind = column_kind (columns_of d q.table) in
+      ap (λ l. leftmost (map (λ (x : Compared). mistyped (f x.of) x) l)) (comparisons_placeless q)
+      ∙ tests_placeless placeless_compared (λ x. mistyped (f x.of) x) (λ x. mistyped_placeless f (λ w. refl) x) (comparisons_in q.condition)
 
-offending-placeless : (b : Bool) (w : Word) → offendingIf b (placeless w) ≡ Option.map placeless (offendingIf b w)
-unfolding offendingIf
-offending-placeless true w = refl
-offending-placeless false w = refl
+offending_placeless : (b : Bool) (w : Word) → offending_if b (placeless w) ≡ Option.map placeless (offending_if b w)
+unfolding offending_if
+offending_placeless true w = refl
+offending_placeless false w = refl
 
-pub dates-placeless : (q : QueryForm) → missingDate (placelessQuery q) ≡ Option.map placeless (missingDate q)
-unfolding missingDate placelessCompared placeless plainWord
-dates-placeless q =
-    let f : Compared → Option Word = λ x. offendingIf (isMissingDate x.value.bytes) x.value in
-    ap (λ l. leftmost (map f l)) (comparisons-placeless q)
-    ∙ tests-placeless placelessCompared f (λ x. offending-placeless (isMissingDate x.value.bytes) x.value) (comparisonsIn q.condition)
+pub dates_placeless : (q : QueryForm) → missing_date (placeless_query q) ≡ Option.map placeless (missing_date q)
+unfolding missing_date placeless_compared placeless plain_word
+dates_placeless q =
+    let f : Compared → Option Word = λ x. offending_if (is_missing_date x.value.bytes) x.value in
+    ap (λ l. leftmost (map f l)) (comparisons_placeless q)
+    ∙ tests_placeless placeless_compared f (λ x. offending_placeless (is_missing_date x.value.bytes) x.value) (comparisons_in q.condition)
 
-wanted-placeless : (cs : List Column) (w : Wanted Word) → wantedOf cs (mapWanted placeless w) ≡ wantedOf cs w
-unfolding wantedOf mapWanted columnOf isCalled placeless plainWord
-wanted-placeless cs (rows_of v ws) = ap (rows_of v) (map-map (λ w. or_zero (columnOf cs w)) placeless ws)
-wanted-placeless cs countsOnly = refl
+wanted_placeless : (cs : List Column) (w : Wanted Word) → wanted_of cs (map_wanted placeless w) ≡ wanted_of cs w
+unfolding wanted_of map_wanted column_of is_called placeless plain_word
+wanted_placeless cs (rows_of v ws) = ap (rows_of v) (map_map (λ w. or_zero (column_of cs w)) placeless ws)
+wanted_placeless cs counts_only = refl
 
-condition-placeless : (cs : List Column) (o : Option (Cond Compared)) → Option.map (mapCond (columnComparison cs)) (Option.map (mapCond placelessCompared) o) ≡ Option.map (mapCond (columnComparison cs)) o
-unfolding columnComparison columnKind columnOf isCalled placeless plainWord placelessCompared
-condition-placeless cs none = refl
-condition-placeless cs (some c) = ap {B = Option (Cond Comparison)} some (mapCond-map (columnComparison cs) placelessCompared c)
+condition_placeless : (cs : List Column) (o : Option (Cond Compared)) → Option.map (map_cond (column_comparison cs)) (Option.map (map_cond placeless_compared) o) ≡ Option.map (map_cond (column_comparison cs)) o
+unfolding column_comparison column_kind column_of is_called placeless plain_word placeless_compared
+condition_placeless cs none = refl
+condition_placeless cs (some c) = ap {B = Option (Cond Comparison)} some (map_cond_map (column_comparison cs) placeless_compared c)
 
-columns-placeless : (d : Policy) (t : Word) (rs : List Ref) → columnsIn d (placeless t) (map placelessRef rs) ≡ columnsIn d t rs
-unfolding columnsIn columnsOf table_of columnOf isCalled placeless plainWord
-columns-placeless d t rs =
-    ap (λ l. found (map (λ (r : Ref). columnOf (columnsOf d t) r.column) l)) (keep-map (λ (r : Ref). isCalled r.table t.bytes) placelessRef rs)
-    ∙ ap found (map-map (λ (r : Ref). columnOf (columnsOf d t) r.column) placelessRef (keep (λ r. isCalled r.table t.bytes) rs))
+columns_placeless : (d : Policy) (t : Word) (rs : List Ref) → columns_in d (placeless t) (map placeless_ref rs) ≡ columns_in d t rs
+unfolding columns_in columns_of table_of column_of is_called placeless plain_word
+columns_placeless d t rs =
+    ap (λ l. found (map (λ (r : Ref). column_of (columns_of d t) r.column) l)) (keep_map (λ (r : Ref). is_called r.table t.bytes) placeless_ref rs)
+    ∙ ap found (map_map (λ (r : Ref). column_of (columns_of d t) r.column) placeless_ref (keep (λ r. is_called r.table t.bytes) rs))
 
-source-placeless : (d : Policy) (q : QueryForm) → source_of d (placelessQuery q) (placeless q.table) ≡ source_of d q q.table
-unfolding source_of table_of isCalled placeless plainWord
-source-placeless d q = λ i. record {
+source_placeless : (d : Policy) (q : QueryForm) → source_of d (placeless_query q) (placeless q.table) ≡ source_of d q q.table
+unfolding source_of table_of is_called placeless plain_word
+source_placeless d q = λ i. record {
   table = or_zero (table_of d q.table);
-  named = (ap (columnsIn d (placeless q.table)) (refs-placeless q) ∙ columns-placeless d q.table (namedRefs q)) i;
-  withholding = (ap (columnsIn d (placeless q.table)) (withholding-placeless q) ∙ columns-placeless d q.table (withholdingRefs q)) i;
+  named = (ap (columns_in d (placeless q.table)) (refs_placeless q) ∙ columns_placeless d q.table (named_refs q)) i;
+  withholding = (ap (columns_in d (placeless q.table)) (withholding_placeless q) ∙ columns_placeless d q.table (withholding_refs q)) i;
 }
 
-pub resolved-placeless : (d : Policy) (q : QueryForm) → resolved d (placelessQuery q) ≡ resolved d q
-unfolding resolved placelessQuery purposeOf table_of columnsOf isCalled placeless plainWord
-resolved-placeless d q =
-    let cs : List Column = columnsOf d q.table in
+pub resolved_placeless : (d : Policy) (q : QueryForm) → resolved d (placeless_query q) ≡ resolved d q
+unfolding resolved placeless_query purpose_of table_of columns_of is_called placeless plain_word
+resolved_placeless d q =
+    let cs : List Column = columns_of d q.table in
     λ i. record {
-      purpose = or_zero (purposeOf d q.purpose);
-      source = source-placeless d q i;
-      wanted = wanted-placeless cs q.wanted i;
-      condition = condition-placeless cs q.condition i;
+      purpose = or_zero (purpose_of d q.purpose);
+      source = source_placeless d q i;
+      wanted = wanted_placeless cs q.wanted i;
+      condition = condition_placeless cs q.condition i;
     }

@@ -3,12 +3,12 @@ use Prim.Native.Nat.{ℕ}
 use mathlib.Core.List.{List}
 use mathlib.Core.Option.{Option, map, none-ne-some, some-injective, none, some}
 use mathlib.Core.Path.{◌≡◌, ap}
-use Rattle.query.specs.JoinForm.{JoinForm, Request, first_of, join_of, joined, one, requestOf}
-use Rattle.query.specs.QueryForm.{QueryForm, queryOf}
+use Rattle.query.specs.JoinForm.{JoinForm, Request, first_of, join_of, joined, one, request_of}
+use Rattle.query.specs.QueryForm.{QueryForm, query_of}
 
-pub query-request : (text : List ℕ) (q : QueryForm) → queryOf text ≡ some q → requestOf text ≡ some (one q)
-unfolding requestOf first_of
-query-request text q h = rw h
+pub query_request : (text : List ℕ) (q : QueryForm) → query_of text ≡ some q → request_of text ≡ some (one q)
+unfolding request_of first_of
+query_request text q h = rw h
 
 -- the form of a query of one table; a join has none
 one_of : Request → Option QueryForm
@@ -22,16 +22,16 @@ first_one q (some x) p e = ap one_of (some-injective (one x) (one q) e)
 first_one q none (some j) e = absurd (none-ne-some q (ap one_of (some-injective (joined j) (one q) e)))
 first_one q none none e = absurd (none-ne-some (one q) e)
 
-pub request-query : (text : List ℕ) (q : QueryForm) → requestOf text ≡ some (one q) → queryOf text ≡ some q
-unfolding requestOf
-request-query text q h = first_one q (queryOf text) (join_of text) h
+pub request_query : (text : List ℕ) (q : QueryForm) → request_of text ≡ some (one q) → query_of text ≡ some q
+unfolding request_of
+request_query text q h = first_one q (query_of text) (join_of text) h
 
 -- a text that is none is the join that it is, if it is one
-pub request-join : (text : List ℕ) (j : JoinForm) → queryOf text ≡ none → join_of text ≡ some j → requestOf text ≡ some (joined j)
-unfolding requestOf first_of
-request-join text j h k = rw (h, k)
+pub request_join : (text : List ℕ) (j : JoinForm) → query_of text ≡ none → join_of text ≡ some j → request_of text ≡ some (joined j)
+unfolding request_of first_of
+request_join text j h k = rw (h, k)
 
 -- and a text that is neither is no query at all
-pub request-none : (text : List ℕ) → queryOf text ≡ none → join_of text ≡ none → requestOf text ≡ none
-unfolding requestOf first_of
-request-none text h k = rw (h, k)
+pub request_none : (text : List ℕ) → query_of text ≡ none → join_of text ≡ none → request_of text ≡ none
+unfolding request_of first_of
+request_none text h k = rw (h, k)

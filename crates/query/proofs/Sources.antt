@@ -5,86 +5,86 @@ use mathlib.Core.Bool.{Bool, cond, false, true}
 use mathlib.Core.List.{List, [], ◌++◌, ◌∷◌, map, map-id}
 use mathlib.Core.Option.{Option, none, some}
 use mathlib.Core.Path.{◌∙◌, ◌≡◌, ap, refl, sym}
-use Rattle.condition.specs.Cond.{comparisonsIn}
+use Rattle.condition.specs.Cond.{comparisons_in}
 use Rattle.condition.specs.CondForm.{Compared, Ref}
-use Rattle.document.specs.Lookup.{columnOf, columnsOf, table_of}
+use Rattle.document.specs.Lookup.{column_of, columns_of, table_of}
 use Rattle.document.specs.Policy.{Policy}
-use Rattle.lists.proofs.ListLaws.{map-append, map-map}
+use Rattle.lists.proofs.ListLaws.{map_append, map_map}
 use Rattle.lists.specs.Lists.{found, keep, there}
-use Rattle.query.specs.Query.{columnsIn, source_of, sources}
-use Rattle.query.specs.QueryForm.{QueryForm, has_gaps, namedRefs, namedWords, plainRef, selectedRefs, selectedWords, testedRefs, withholdingRefs}
-use Rattle.text.proofs.NameLaws.{sameName-refl}
-use Rattle.text.specs.Words.{Word, isCalled}
+use Rattle.query.specs.Query.{columns_in, source_of, sources}
+use Rattle.query.specs.QueryForm.{QueryForm, has_gaps, named_refs, named_words, plain_ref, selected_refs, selected_words, tested_refs, withholding_refs}
+use Rattle.text.proofs.NameLaws.{same_name_refl}
+use Rattle.text.specs.Words.{Word, is_called}
 
 -- ---- the words
 
 -- the words that name columns are those of the selected columns, and then the condition's
-pub named-words-are : (q : QueryForm) → namedWords q ≡ selectedWords q ++ map (λ x. x.of) (comparisonsIn q.condition)
-unfolding namedWords namedRefs selectedRefs testedRefs
-named-words-are q =
-    map-append (λ (r : Ref). r.column) (selectedRefs q) (testedRefs q)
-    ∙ ap (λ ws. ws ++ map (λ (r : Ref). r.column) (testedRefs q)) (map-map (λ (r : Ref). r.column) (plainRef q) (selectedWords q) ∙ map-id (selectedWords q))
-    ∙ ap (λ ws. selectedWords q ++ ws) (map-map (λ (r : Ref). r.column) (λ (x : Compared). plainRef q x.of) (comparisonsIn q.condition))
+pub named_words_are : (q : QueryForm) → named_words q ≡ selected_words q ++ map (λ x. x.of) (comparisons_in q.condition)
+unfolding named_words named_refs selected_refs tested_refs
+named_words_are q =
+    map_append (λ (r : Ref). r.column) (selected_refs q) (tested_refs q)
+    ∙ ap (λ ws. ws ++ map (λ (r : Ref). r.column) (tested_refs q)) (map_map (λ (r : Ref). r.column) (plain_ref q) (selected_words q) ∙ map-id (selected_words q))
+    ∙ ap (λ ws. selected_words q ++ ws) (map_map (λ (r : Ref). r.column) (λ (x : Compared). plain_ref q x.of) (comparisons_in q.condition))
 
 -- the words that name columns which withhold
-unfoldable pub withholdingWords : QueryForm → List Word
-withholdingWords q = map (λ r. r.column) (withholdingRefs q)
+unfoldable pub withholding_words : QueryForm → List Word
+withholding_words q = map (λ r. r.column) (withholding_refs q)
 
 -- they are the condition's where gaps are left, and else all that name columns
-pub withholding-words-are : (q : QueryForm) → withholdingWords q ≡ cond (has_gaps q.wanted) (map (λ x. x.of) (comparisonsIn q.condition)) (namedWords q)
-unfolding withholdingWords withholdingRefs namedWords testedRefs
-withholding-words-are q = go (has_gaps q.wanted)
+pub withholding_words_are : (q : QueryForm) → withholding_words q ≡ cond (has_gaps q.wanted) (map (λ x. x.of) (comparisons_in q.condition)) (named_words q)
+unfolding withholding_words withholding_refs named_words tested_refs
+withholding_words_are q = go (has_gaps q.wanted)
   where
-    go : (b : Bool) → map (λ (r : Ref). r.column) (cond b (testedRefs q) (namedRefs q)) ≡ cond b (map (λ x. x.of) (comparisonsIn q.condition)) (namedWords q)
-    go true = map-map (λ (r : Ref). r.column) (λ (x : Compared). plainRef q x.of) (comparisonsIn q.condition)
+    go : (b : Bool) → map (λ (r : Ref). r.column) (cond b (tested_refs q) (named_refs q)) ≡ cond b (map (λ x. x.of) (comparisons_in q.condition)) (named_words q)
+    go true = map_map (λ (r : Ref). r.column) (λ (x : Compared). plain_ref q x.of) (comparisons_in q.condition)
     go false = refl
 
 -- each stands for a column of the query's table
-refs-plain : (q : QueryForm) → namedRefs q ≡ map (plainRef q) (namedWords q)
-unfolding namedRefs selectedRefs testedRefs
-refs-plain q = sym (
-    ap (map (plainRef q)) (named-words-are q)
-    ∙ map-append (plainRef q) (selectedWords q) (map (λ x. x.of) (comparisonsIn q.condition))
-    ∙ ap (λ rs. selectedRefs q ++ rs) (map-map (plainRef q) (λ (x : Compared). x.of) (comparisonsIn q.condition)))
+refs_plain : (q : QueryForm) → named_refs q ≡ map (plain_ref q) (named_words q)
+unfolding named_refs selected_refs tested_refs
+refs_plain q = sym (
+    ap (map (plain_ref q)) (named_words_are q)
+    ∙ map_append (plain_ref q) (selected_words q) (map (λ x. x.of) (comparisons_in q.condition))
+    ∙ ap (λ rs. selected_refs q ++ rs) (map_map (plain_ref q) (λ (x : Compared). x.of) (comparisons_in q.condition)))
 
-withholding-plain : (q : QueryForm) → withholdingRefs q ≡ map (plainRef q) (withholdingWords q)
-unfolding withholdingRefs testedRefs
-withholding-plain q = go (has_gaps q.wanted) ∙ ap (map (plainRef q)) (sym (withholding-words-are q))
+withholding_plain : (q : QueryForm) → withholding_refs q ≡ map (plain_ref q) (withholding_words q)
+unfolding withholding_refs tested_refs
+withholding_plain q = go (has_gaps q.wanted) ∙ ap (map (plain_ref q)) (sym (withholding_words_are q))
   where
-    go : (b : Bool) → cond b (testedRefs q) (namedRefs q) ≡ map (plainRef q) (cond b (map (λ x. x.of) (comparisonsIn q.condition)) (namedWords q))
-    go true = sym (map-map (plainRef q) (λ (x : Compared). x.of) (comparisonsIn q.condition))
-    go false = refs-plain q
+    go : (b : Bool) → cond b (tested_refs q) (named_refs q) ≡ map (plain_ref q) (cond b (map (λ x. x.of) (comparisons_in q.condition)) (named_words q))
+    go true = sym (map_map (plain_ref q) (λ (x : Compared). x.of) (comparisons_in q.condition))
+    go false = refs_plain q
 
 -- ---- the table
 
 -- what is found behind one that may be missing
-found-behind : (o : Option ℕ) (xs ys : List (Option ℕ)) → found xs ≡ found ys → found (o ∷ xs) ≡ found (o ∷ ys)
+found_behind : (o : Option ℕ) (xs ys : List (Option ℕ)) → found xs ≡ found ys → found (o ∷ xs) ≡ found (o ∷ ys)
 unfolding found
-found-behind none xs ys e = e
-found-behind (some n) xs ys e = ap (λ l. n ∷ l) e
+found_behind none xs ys e = e
+found_behind (some n) xs ys e = ap (λ l. n ∷ l) e
 
 module _ (d : Policy) (q : QueryForm) where
-  columns-plain : (ws : List Word) → columnsIn d q.table (map (plainRef q) ws) ≡ found (map (columnOf (columnsOf d q.table)) ws)
-  unfolding columnsIn keep isCalled
-  columns-plain [] = refl
-  columns-plain (w ∷ ws) = rw (sameName-refl q.table.bytes) (found-behind (columnOf (columnsOf d q.table) w) _ _ (columns-plain ws))
+  columns_plain : (ws : List Word) → columns_in d q.table (map (plain_ref q) ws) ≡ found (map (column_of (columns_of d q.table)) ws)
+  unfolding columns_in keep is_called
+  columns_plain [] = refl
+  columns_plain (w ∷ ws) = rw (same_name_refl q.table.bytes) (found_behind (column_of (columns_of d q.table) w) _ _ (columns_plain ws))
 
   -- the columns named in the query's table are those that its words name there
-  pub named-columns : (source_of d q q.table).named ≡ found (map (columnOf (columnsOf d q.table)) (namedWords q))
+  pub named_columns : (source_of d q q.table).named ≡ found (map (column_of (columns_of d q.table)) (named_words q))
   unfolding source_of
-  named-columns = ap (columnsIn d q.table) (refs-plain q) ∙ columns-plain (namedWords q)
+  named_columns = ap (columns_in d q.table) (refs_plain q) ∙ columns_plain (named_words q)
 
   -- and so are those that withhold
-  pub withholding-columns : (source_of d q q.table).withholding ≡ found (map (columnOf (columnsOf d q.table)) (withholdingWords q))
+  pub withholding_columns : (source_of d q q.table).withholding ≡ found (map (column_of (columns_of d q.table)) (withholding_words q))
   unfolding source_of
-  withholding-columns = ap (columnsIn d q.table) (withholding-plain q) ∙ columns-plain (withholdingWords q)
+  withholding_columns = ap (columns_in d q.table) (withholding_plain q) ∙ columns_plain (withholding_words q)
 
   -- the query reads no table, where the document does not know its own
-  pub sources-unknown : there (table_of d q.table) ≡ false → sources d q ≡ []
+  pub sources_unknown : there (table_of d q.table) ≡ false → sources d q ≡ []
   unfolding sources keep
-  sources-unknown h = ap (λ b. map (source_of d q) (cond b (q.table ∷ []) [])) h
+  sources_unknown h = ap (λ b. map (source_of d q) (cond b (q.table ∷ []) [])) h
 
   -- and else that one
-  pub sources-known : there (table_of d q.table) ≡ true → sources d q ≡ source_of d q q.table ∷ []
+  pub sources_known : there (table_of d q.table) ≡ true → sources d q ≡ source_of d q q.table ∷ []
   unfolding sources keep
-  sources-known h = ap (λ b. map (source_of d q) (cond b (q.table ∷ []) [])) h
+  sources_known h = ap (λ b. map (source_of d q) (cond b (q.table ∷ []) [])) h

@@ -3,5 +3,5 @@ use Rattle.query.specs.Authority.{Clock}
 use Rattle.query.specs.declared.clock.Clock as host
 
 -- the clock that the code was given
-unfoldable pub clockOf : host.Clock → Clock
-clockOf c = record { year = c.year; day = c.day; hour = c.hour }
+unfoldable pub clock_of : host.Clock → Clock
+clock_of c = record { year = c.year; day = c.day; hour = c.hour }

@@ -3,10 +3,10 @@
 use Rattle.std.specs.Prelude.{ℕ, leb, Bool, ◌&&◌, List, ◌≡◌}
 use Rattle.std.proofs.Math.Option.{Option, none, some}
 use Rattle.condition.specs.Cond.{Cond}
-use Rattle.condition.specs.CondForm.{Compared, conditionInForm}
+use Rattle.condition.specs.CondForm.{Compared, condition_in_form}
 use Rattle.query.specs.JoinForm.{JoinForm}
-use Rattle.query.specs.QueryPlaces.{HeadWithin, Selects, TestWithin, Within, chosenCount, comparisonCount, conditionAt, formAt, selectedFrom}
-use Rattle.query.specs.QueryForm.{QueryForm, columnList}
+use Rattle.query.specs.QueryPlaces.{HeadWithin, Selects, TestWithin, Within, chosen_count, comparison_count, condition_at, form_at, selected_from}
+use Rattle.query.specs.QueryForm.{QueryForm, column_list}
 use Rattle.text.specs.Brackets.{next, optional}
 use Rattle.text.specs.Reader.{Left, Reader, ◌>>=◌, from}
 use Rattle.text.specs.Words.{Word, name, word_of}
@@ -25,8 +25,8 @@ abbrev pub AfterHead : Type 0 → Type 0
 AfterHead A = Word → Word → Word → Word → Reader A
 
 -- the four words, and then what comes behind them
-unfoldable pub headThen : {A : Type 0} → AfterHead A → Reader A
-headThen K = do
+unfoldable pub head_then : {A : Type 0} → AfterHead A → Reader A
+head_then K = do
   u ← next name
   r ← next name
   p ← next name
@@ -34,9 +34,9 @@ headThen K = do
   K u r p t
 
 -- the same by the code's answer for the four words
-unfoldable pub headTo : {A : Type 0} → List ℕ → AfterHead A → Headed → Option (A × Left)
-headTo s K headed.Refused = none
-headTo s K (headed.At h e) = K (word_of s h.user) (word_of s h.role) (word_of s h.purpose) (word_of s h.table) (from s e)
+unfoldable pub head_to : {A : Type 0} → List ℕ → AfterHead A → Headed → Option (A × Left)
+head_to s K headed.Refused = none
+head_to s K (headed.At h e) = K (word_of s h.user) (word_of s h.role) (word_of s h.purpose) (word_of s h.table) (from s e)
 
 -- their places lie in the text
 unfoldable pub HeadedWithin : List ℕ → Headed → Type 0
@@ -45,14 +45,14 @@ HeadedWithin s (headed.At h e) = HeadWithin s h
 
 -- the code's answer r stands for the four words, whatever comes behind them, in a query of one table or in a join
 pub record ReadsHead (s : List ℕ) (at : ℕ) (r : Headed) : Type 0 where
-  pub is : (K : AfterHead QueryForm) → headThen K (from s at) ≡ headTo s K r
-  pub joins : (K : AfterHead JoinForm) → headThen K (from s at) ≡ headTo s K r
+  pub is : (K : AfterHead QueryForm) → head_then K (from s at) ≡ head_to s K r
+  pub joins : (K : AfterHead JoinForm) → head_then K (from s at) ≡ head_to s K r
   pub within : HeadedWithin s r
 
 -- the columns of a select, by the code's answer
 unfoldable pub listed_at : List ℕ → Listed → Option (List Word × Left)
 listed_at s listed.Refused = none
-listed_at s (listed.At p n e) = some (selectedFrom s p, from s e)
+listed_at s (listed.At p n e) = some (selected_from s p, from s e)
 
 -- their place and their number
 unfoldable pub ListedWithin : List ℕ → Listed → Type 0
@@ -61,13 +61,13 @@ ListedWithin s (listed.At p n e) = Selects s p n
 
 -- the code's answer r stands for the column bracket
 pub record ReadsColumns (s : List ℕ) (at : ℕ) (r : Listed) : Type 0 where
-  pub is : next columnList (from s at) ≡ listed_at s r
+  pub is : next column_list (from s at) ≡ listed_at s r
   pub within : ListedWithin s r
 
 -- the condition that may be absent, by the code's answer
-unfoldable pub testedAt : List ℕ → Tested → Option (Option (Cond Compared) × Left)
-testedAt s tested.Refused = none
-testedAt s (tested.At t e) = some (conditionAt s t, from s e)
+unfoldable pub tested_at : List ℕ → Tested → Option (Option (Cond Compared) × Left)
+tested_at s tested.Refused = none
+tested_at s (tested.At t e) = some (condition_at s t, from s e)
 
 -- its place and its number of comparisons
 unfoldable pub TestedWithin : List ℕ → Tested → Type 0
@@ -76,13 +76,13 @@ TestedWithin s (tested.At t e) = TestWithin s t
 
 -- the code's answer r stands for the condition that may be absent
 pub record ReadsTest (s : List ℕ) (at : ℕ) (r : Tested) : Type 0 where
-  pub is : optional conditionInForm (from s at) ≡ testedAt s r
+  pub is : optional condition_in_form (from s at) ≡ tested_at s r
   pub within : TestedWithin s r
 
 -- what stands behind a keyword, by the code's answer
 unfoldable pub body_at : List ℕ → Body → Option (QueryForm × Left)
 body_at s body.Refused = none
-body_at s (body.At q e) = some (formAt s q, from s e)
+body_at s (body.At q e) = some (form_at s q, from s e)
 
 -- its places and numbers
 unfoldable pub BodyWithin : List ℕ → Body → Type 0
@@ -95,5 +95,5 @@ pub record ReadsBody (s : List ℕ) (o : Option (QueryForm × Left)) (r : Body) 
   pub within : BodyWithin s r
 
 -- the numbers of a question are within the bounds
-unfoldable pub isBounded : Question → Bool
-isBounded q = leb (chosenCount q.wanted) 16 && leb (comparisonCount q.test) 64
+unfoldable pub is_bounded : Question → Bool
+is_bounded q = leb (chosen_count q.wanted) 16 && leb (comparison_count q.test) 64

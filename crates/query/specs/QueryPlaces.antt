@@ -2,15 +2,15 @@
 -- that every place lies in the text, and that the query is within the bounds.
 use Rattle.std.specs.Prelude.{◌≤◌, ℕ, length, Bool, false, true, List, ◌∷◌, ◌≡◌}
 use Rattle.std.proofs.Math.Option.{Option, map, none, some}
-use Rattle.condition.specs.Answers.{comparisonsAt}
+use Rattle.condition.specs.Answers.{comparisons_at}
 use Rattle.condition.specs.Cond.{Cond}
-use Rattle.condition.specs.CondForm.{Compared, conditionInForm}
+use Rattle.condition.specs.CondForm.{Compared, condition_in_form}
 use Rattle.form.specs.Walks.{names_at}
 use Rattle.lists.specs.Lists.{there}
 use Rattle.query.specs.QueryForm as form
-use Rattle.query.specs.QueryForm.{QueryForm, queryOf}
+use Rattle.query.specs.QueryForm.{QueryForm, query_of}
 use Rattle.text.specs.Reader.{from}
-use Rattle.text.specs.Walking.{wordEndAt}
+use Rattle.text.specs.Walking.{word_end_at}
 use Rattle.text.specs.Words.{Word, word_of}
 use Rattle.query.specs.declared.reading.Asked.{Asked}
 use Rattle.query.specs.declared.reading.Asked.TheVariants as asked
@@ -24,56 +24,56 @@ use Rattle.query.specs.declared.reading.Wanted.{Wanted}
 use Rattle.query.specs.declared.reading.Wanted.TheVariants as wanted
 
 -- the condition, if there is one
-unfoldable pub conditionAt : List ℕ → Test → Option (Cond Compared)
-conditionAt s test.Always = none
-conditionAt s (test.When t n) = map (λ x. x.0) (conditionInForm (from s t))
+unfoldable pub condition_at : List ℕ → Test → Option (Cond Compared)
+condition_at s test.Always = none
+condition_at s (test.When t n) = map (λ x. x.0) (condition_in_form (from s t))
 
 -- the columns that are selected, the first of them standing at a position
-unfoldable pub selectedFrom : List ℕ → ℕ → List Word
-selectedFrom s p = word_of s p ∷ names_at s (wordEndAt s p)
+unfoldable pub selected_from : List ℕ → ℕ → List Word
+selected_from s p = word_of s p ∷ names_at s (word_end_at s p)
 
 -- how rows are asked for
-unfoldable pub verbOf : Verb → form.Verb
-verbOf verb.Select = form.select
-verbOf verb.Blank = form.blank
-verbOf verb.Sure = form.surely
-verbOf verb.Possible = form.possibly
+unfoldable pub verb_of : Verb → form.Verb
+verb_of verb.Select = form.select
+verb_of verb.Blank = form.blank
+verb_of verb.Sure = form.surely
+verb_of verb.Possible = form.possibly
 
 -- what is asked for
-unfoldable pub wantedAt : List ℕ → Wanted → form.Wanted Word
-wantedAt s (wanted.Rows v p n) = form.rows_of (verbOf v) (selectedFrom s p)
-wantedAt s wanted.Count = form.countsOnly
+unfoldable pub wanted_at : List ℕ → Wanted → form.Wanted Word
+wanted_at s (wanted.Rows v p n) = form.rows_of (verb_of v) (selected_from s p)
+wanted_at s wanted.Count = form.counts_only
 
 -- the query that a question stands for
-unfoldable pub formAt : List ℕ → Question → QueryForm
-formAt s q = record {
+unfoldable pub form_at : List ℕ → Question → QueryForm
+form_at s q = record {
   user = word_of s q.head.user;
   role = word_of s q.head.role;
   purpose = word_of s q.head.purpose;
   table = word_of s q.head.table;
-  wanted = wantedAt s q.wanted;
-  condition = conditionAt s q.test;
+  wanted = wanted_at s q.wanted;
+  condition = condition_at s q.test;
 }
 
 -- whether rows are asked for
-unfoldable pub asksRows : Wanted → Bool
-asksRows (wanted.Rows v p n) = true
-asksRows wanted.Count = false
+unfoldable pub asks_rows : Wanted → Bool
+asks_rows (wanted.Rows v p n) = true
+asks_rows wanted.Count = false
 
 -- how rows are asked for; a count withholds as a select does
-unfoldable pub verbIn : Wanted → Verb
-verbIn (wanted.Rows v p n) = v
-verbIn wanted.Count = verb.Select
+unfoldable pub verb_in : Wanted → Verb
+verb_in (wanted.Rows v p n) = v
+verb_in wanted.Count = verb.Select
 
 -- how many columns are selected
-unfoldable pub chosenCount : Wanted → ℕ
-chosenCount (wanted.Rows v p n) = n
-chosenCount wanted.Count = 0
+unfoldable pub chosen_count : Wanted → ℕ
+chosen_count (wanted.Rows v p n) = n
+chosen_count wanted.Count = 0
 
 -- how many comparisons the condition has
-unfoldable pub comparisonCount : Test → ℕ
-comparisonCount test.Always = 0
-comparisonCount (test.When t n) = n
+unfoldable pub comparison_count : Test → ℕ
+comparison_count test.Always = 0
+comparison_count (test.When t n) = n
 
 -- the four words lie in the text
 pub record HeadWithin (s : List ℕ) (h : Head) : Type 0 where
@@ -85,8 +85,8 @@ pub record HeadWithin (s : List ℕ) (h : Head) : Type 0 where
 -- the bracket of a condition lies in the text, and the condition has as many comparisons as the code says
 pub record Tests (s : List ℕ) (t n : ℕ) : Type 0 where
   pub place : t ≤ length s
-  pub reads : there (conditionInForm (from s t)) ≡ true
-  pub number : length (comparisonsAt s t) ≡ n
+  pub reads : there (condition_in_form (from s t)) ≡ true
+  pub number : length (comparisons_at s t) ≡ n
 
 -- the same for a condition that may be absent
 unfoldable pub TestWithin : List ℕ → Test → Type 0
@@ -96,7 +96,7 @@ TestWithin s (test.When t n) = Tests s t n
 -- the first selected column lies in the text, and there are as many columns as the code says
 pub record Selects (s : List ℕ) (p n : ℕ) : Type 0 where
   pub place : p ≤ length s
-  pub number : length (selectedFrom s p) ≡ n
+  pub number : length (selected_from s p) ≡ n
 
 -- the same for columns that may not be asked for
 unfoldable pub WantedWithin : List ℕ → Wanted → Type 0
@@ -111,16 +111,16 @@ pub record Within (s : List ℕ) (q : Question) : Type 0 where
 
 -- at most 16 columns and 64 comparisons
 pub record Few (q : Question) : Type 0 where
-  pub columns : chosenCount q.wanted ≤ 16
-  pub tests : comparisonCount q.test ≤ 64
+  pub columns : chosen_count q.wanted ≤ 16
+  pub tests : comparison_count q.test ≤ 64
 
 -- the question stands for the query that the text is; its places lie in the text, and it is within the bounds
 pub record IsQuery (s : List ℕ) (q : Question) : Type 0 where
-  pub is : queryOf s ≡ some (formAt s q)
+  pub is : query_of s ≡ some (form_at s q)
   pub within : Within s q
   pub few : Few q
 
 -- THE QUERY: the code's answer is the question that stands for the text's query, or says that the text is none
 unfoldable pub ReadsQuery : List ℕ → Asked → Type 0
-ReadsQuery s asked.Wrong = queryOf s ≡ none
+ReadsQuery s asked.Wrong = query_of s ≡ none
 ReadsQuery s (asked.Query q) = IsQuery s q

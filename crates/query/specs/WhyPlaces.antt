@@ -11,15 +11,15 @@ use Rattle.query.specs.declared.why.Line.TheVariants as line
 use Rattle.query.specs.declared.why.Why.{Why}
 
 -- the line that the places stand for
-unfoldable pub whyAt : List ℕ → Why → WhyForm
-whyAt s w = record { purpose = word_of s w.purpose; table = word_of s w.table; row = word_of s w.row; column = word_of s w.column }
+unfoldable pub why_at : List ℕ → Why → WhyForm
+why_at s w = record { purpose = word_of s w.purpose; table = word_of s w.table; row = word_of s w.row; column = word_of s w.column }
 
 -- the same, if the text is one
-unfoldable pub whyLine : List ℕ → Line → Option WhyForm
-whyLine s line.Wrong = none
-whyLine s (line.Is w) = some (whyAt s w)
+unfoldable pub why_line : List ℕ → Line → Option WhyForm
+why_line s line.Wrong = none
+why_line s (line.Is w) = some (why_at s w)
 
 -- what stands behind the keyword, by the code's answer
-unfoldable pub whyTo : List ℕ → Body → Option (WhyForm × Left)
-whyTo s body.Refused = none
-whyTo s (body.At w e) = some (whyAt s w, from s e)
+unfoldable pub why_to : List ℕ → Body → Option (WhyForm × Left)
+why_to s body.Refused = none
+why_to s (body.At w e) = some (why_at s w, from s e)

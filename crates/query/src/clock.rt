@@ -1,6 +1,6 @@
 // The host's clock, and its range.
 ghost use Rattle.std.specs.Prelude.{◌≡◌};
-ghost use Rattle.query.specs.HostClock.{clockOf};
+ghost use Rattle.query.specs.HostClock.{clock_of};
 ghost use Rattle.query.specs.Authority.{in_range};
 
 use calendar::dates::days_in;
@@ -15,7 +15,7 @@ pub struct Clock {
 
 // Whether the clock is in range: year 1 to 9999, day 1 to 365 or 366, hour 0 to 23.
 pub fn in_range(c: Clock) -> bool
-    ensures { result ≡ in_range (clockOf c) }
+    ensures { result ≡ in_range (clock_of c) }
 {
     let year = c.year;
     let day = c.day;

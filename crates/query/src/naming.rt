@@ -2,7 +2,7 @@
 ghost use Rattle.std.specs.Prelude.{length};
 ghost use Rattle.query.specs.Naming.{ComparedStored, NamesPlaced, PlacesStored, TestStored};
 ghost use Rattle.query.specs.QueryForm.{selected};
-ghost use Rattle.query.specs.QueryPlaces.{IsQuery, selectedFrom, wantedAt};
+ghost use Rattle.query.specs.QueryPlaces.{IsQuery, selected_from, wanted_at};
 
 use crate::reading::{Question, Test, Wanted};
 use condition::conditions::read_places;
@@ -12,7 +12,7 @@ use text::words::word_end;
 
 // Stores where the selected columns stand, the first of them at p, as many as have room. Gives how many.
 fn store_selected(s: &[u8], p: usize, out: &mut [usize]) -> usize
-    ensures { PlacesStored s.now (selectedFrom s.now p) result out.old out.new }
+    ensures { PlacesStored s.now (selected_from s.now p) result out.old out.new }
 {
     let mut at = p;
     let mut k = 0;
@@ -30,7 +30,7 @@ fn store_selected(s: &[u8], p: usize, out: &mut [usize]) -> usize
 
 // The same for columns that may not be asked for.
 fn store_wanted(s: &[u8], w: Wanted, out: &mut [usize]) -> usize
-    ensures { PlacesStored s.now (selected (wantedAt s.now w)) result out.old out.new }
+    ensures { PlacesStored s.now (selected (wanted_at s.now w)) result out.old out.new }
 {
     match w {
         Wanted::Rows(_, p, _) => store_selected(s, p, out),

@@ -1,11 +1,11 @@
 // Reading a line of the explaining tool: where its words stand (02, Q-7).
 ghost use Rattle.std.specs.Prelude.{◌≡◌};
-ghost use Rattle.query.specs.WhyForm.{whyBody, whyOf};
-ghost use Rattle.query.specs.WhyPlaces.{whyLine, whyTo};
-ghost use Rattle.text.specs.CodeEnds.{wordEnd};
+ghost use Rattle.query.specs.WhyForm.{why_body, why_of};
+ghost use Rattle.query.specs.WhyPlaces.{why_line, why_to};
+ghost use Rattle.text.specs.CodeEnds.{word_end};
 ghost use Rattle.text.specs.Numbers.{is_number};
 ghost use Rattle.text.specs.Reader.{from};
-ghost use Rattle.text.specs.Words.{wordThat};
+ghost use Rattle.text.specs.Words.{word_that};
 
 use text::brackets::spaced_name_end;
 use text::bytes::byte_at;
@@ -37,7 +37,7 @@ enum Body {
 
 // The end of the number that stands at a position.
 fn number_end(s: &[u8], at: usize) -> End
-    ensures { result ≡ wordEnd (wordThat is_number (from s.now at)) }
+    ensures { result ≡ word_end (word_that is_number (from s.now at)) }
 {
     let k = read_number(s, at);
     match k {
@@ -48,7 +48,7 @@ fn number_end(s: &[u8], at: usize) -> End
 
 // `P T ROW COL`, each behind a space.
 fn why_body(s: &[u8], at: usize) -> Body
-    ensures { whyBody (from s.now at) ≡ whyTo s.now result }
+    ensures { why_body (from s.now at) ≡ why_to s.now result }
 {
     let p = spaced_name_end(s, at);
     let End::At(e) = p else {
@@ -82,7 +82,7 @@ fn why_body(s: &[u8], at: usize) -> Body
 
 // The why line that a text is: one bracket with nothing behind it, of any length.
 pub fn read_why(s: &[u8]) -> Line
-    ensures { whyOf s.now ≡ whyLine s.now result }
+    ensures { why_of s.now ≡ why_line s.now result }
 {
     if byte_at(s, 0) != b'(' {
         return Line::Wrong;

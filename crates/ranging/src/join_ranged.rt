@@ -1,6 +1,6 @@
 // Ranges in the columns that a join names (27): every row of either table counts, be it withheld or not.
 ghost use Rattle.std.specs.Prelude.{◌≤◌, ℕ, List, ◌≡◌};
-ghost use Rattle.answer.specs.Ranged.{hasRange};
+ghost use Rattle.answer.specs.Ranged.{has_range};
 ghost use Rattle.document.specs.Policy.{Doc};
 ghost use Rattle.query.specs.JoinForm.{JoinForm};
 ghost use Rattle.ranging.specs.Promises.{FirstRangedRefPromise, RangedJoinPromise};
@@ -22,7 +22,7 @@ fn is_ref_ranged(
     p: TwoTables,
     c: usize,
 ) -> bool
-    ensures { (d : Doc) (s : List ℕ) (k : ℕ) (j : JoinForm) → KnowsTables text.now tables.now k s p d.policy j → Rows text.now rows.now count d.rows → result ≡ through d.policy p (hasRange d) c }
+    ensures { (d : Doc) (s : List ℕ) (k : ℕ) (j : JoinForm) → KnowsTables text.now tables.now k s p d.policy j → Rows text.now rows.now count d.rows → result ≡ through d.policy p (has_range d) c }
 {
     let width = table_width(tables, p.first);
     if c < width {

@@ -1,10 +1,10 @@
 // Ranges in the columns that a query names (27): every row of the table counts, be it withheld or not.
 ghost use Rattle.std.specs.Prelude.{◌<◌, ◌≤◌, eqb, ◌&&◌, List, ◌≡◌};
-ghost use Rattle.answer.specs.Ranged.{rangedAt};
-ghost use Rattle.answer.specs.Seen.{rowsIn};
+ghost use Rattle.answer.specs.Ranged.{ranged_at};
+ghost use Rattle.answer.specs.Seen.{rows_in};
 ghost use Rattle.document.specs.Policy.{Row};
 ghost use Rattle.lists.specs.Lists.{any_of};
-ghost use Rattle.relations.specs.Rows.{Rows, row_in, valueCountIn};
+ghost use Rattle.relations.specs.Rows.{Rows, row_in, value_count_in};
 ghost use Rattle.ranging.specs.Promises.{FirstRangedPromise, RangedColumnPromise};
 
 use condition::ranges::is_range;
@@ -16,7 +16,7 @@ use workspace::layout::ROW_CELLS;
 
 // Whether row r lies in table t and has a range in column c.
 fn row_ranged(text: &[u8], rows: &[usize; ROW_CELLS], r: usize, t: usize, c: usize) -> bool
-    ensures { r < 1024 → valueCountIn rows.now r ≤ 16 → result ≡ (eqb (row_in text.now rows.now r).table t && rangedAt c (row_in text.now rows.now r)) }
+    ensures { r < 1024 → value_count_in rows.now r ≤ 16 → result ≡ (eqb (row_in text.now rows.now r).table t && ranged_at c (row_in text.now rows.now r)) }
 {
     if row_table(rows, r) != t {
         return false;
@@ -33,7 +33,7 @@ pub(crate) fn column_ranged(
     t: usize,
     c: usize,
 ) -> bool
-    ensures { (rs : List Row) → Rows text.now rows.now count rs → result ≡ any_of (rangedAt c) (rowsIn t rs) }
+    ensures { (rs : List Row) → Rows text.now rows.now count rs → result ≡ any_of (ranged_at c) (rows_in t rs) }
 {
     let mut r = 0;
     while r < count {

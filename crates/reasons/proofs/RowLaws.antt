@@ -7,26 +7,26 @@ use mathlib.Core.Option.{Option, none-ne-some, some-injective, none, some}
 use mathlib.Core.Path.{◌∙◌, ◌≡◌, ap, refl, sym}
 use native.Mathlib.Omega.{arith}
 use Rattle.lists.specs.Lists.{keep}
-use Rattle.reasons.specs.Explaining.{leftBehind}
+use Rattle.reasons.specs.Explaining.{left_behind}
 
 -- ---- one row passed
 
 module _ (b : Bool) (n : ℕ) where
-  pub pass-other : b ≡ false → some n ≡ leftBehind b n
-  unfolding leftBehind
-  pass-other e = sym (ap (λ (x : Bool). leftBehind x n) e)
+  pub pass_other : b ≡ false → some n ≡ left_behind b n
+  unfolding left_behind
+  pass_other e = sym (ap (λ (x : Bool). left_behind x n) e)
 
-  pub pass-last : b ≡ true → n ≡ 0 → none ≡ leftBehind b n
-  unfolding leftBehind
-  pass-last e z = sym (λ i. leftBehind (e i) (z i))
+  pub pass_last : b ≡ true → n ≡ 0 → none ≡ left_behind b n
+  unfolding left_behind
+  pass_last e z = sym (λ i. left_behind (e i) (z i))
 
-left_one : (n : ℕ) → (n ≡ 0 → ⊥) → some (n - 1) ≡ leftBehind true n
-unfolding leftBehind
+left_one : (n : ℕ) → (n ≡ 0 → ⊥) → some (n - 1) ≡ left_behind true n
+unfolding left_behind
 left_one zero z = absurd (z refl)
 left_one (suc n) z = let e : suc n - 1 ≡ n = omega arith in ap some e
 
-pub pass-one : (b : Bool) (n : ℕ) → b ≡ true → (n ≡ 0 → ⊥) → some (n - 1) ≡ leftBehind b n
-pass-one b n e z = left_one n z ∙ sym (ap (λ (x : Bool). leftBehind x n) e)
+pub pass_one : (b : Bool) (n : ℕ) → b ≡ true → (n ≡ 0 → ⊥) → some (n - 1) ≡ left_behind b n
+pass_one b n e z = left_one n z ∙ sym (ap (λ (x : Bool). left_behind x n) e)
 
 -- ---- the row that is sought
 
@@ -46,24 +46,24 @@ module _ {A : Type 0} (f : A → Bool) (xs : List A) (n : ℕ) where
   kept_at r x e = ap (keep f) (drop_at xs r x e)
 
   -- it is this one
-  pub sought-here : (r m : ℕ) (x : A) → get_elem? xs r ≡ some x → leftBehind (f x) m ≡ none → Sought r m → get_elem? xs r ≡ get_elem? (keep f xs) n
-  sought-here r m x e h s = e ∙ go (f x) m h (ap (λ (ys : List A). get_elem? ys m) (sym (kept_at r x e)) ∙ s)
+  pub sought_here : (r m : ℕ) (x : A) → get_elem? xs r ≡ some x → left_behind (f x) m ≡ none → Sought r m → get_elem? xs r ≡ get_elem? (keep f xs) n
+  sought_here r m x e h s = e ∙ go (f x) m h (ap (λ (ys : List A). get_elem? ys m) (sym (kept_at r x e)) ∙ s)
     where
-      go : (b : Bool) (m : ℕ) → leftBehind b m ≡ none → get_elem? (cond b (x ∷ keep f (drop (r + 1) xs)) (keep f (drop (r + 1) xs))) m ≡ get_elem? (keep f xs) n → some x ≡ get_elem? (keep f xs) n
+      go : (b : Bool) (m : ℕ) → left_behind b m ≡ none → get_elem? (cond b (x ∷ keep f (drop (r + 1) xs)) (keep f (drop (r + 1) xs))) m ≡ get_elem? (keep f xs) n → some x ≡ get_elem? (keep f xs) n
       go true zero k s = s
-      go true (suc m) k s = unfold leftBehind in absurd (none-ne-some _ (sym k))
-      go false m k s = unfold leftBehind in absurd (none-ne-some _ (sym k))
+      go true (suc m) k s = unfold left_behind in absurd (none-ne-some _ (sym k))
+      go false m k s = unfold left_behind in absurd (none-ne-some _ (sym k))
 
   -- it is one behind it
-  pub sought-on : (r m l : ℕ) (x : A) → get_elem? xs r ≡ some x → leftBehind (f x) m ≡ some l → Sought r m → Sought (r + 1) l
-  sought-on r m l x e h s = go (f x) m h (ap (λ (ys : List A). get_elem? ys m) (sym (kept_at r x e)) ∙ s)
+  pub sought_on : (r m l : ℕ) (x : A) → get_elem? xs r ≡ some x → left_behind (f x) m ≡ some l → Sought r m → Sought (r + 1) l
+  sought_on r m l x e h s = go (f x) m h (ap (λ (ys : List A). get_elem? ys m) (sym (kept_at r x e)) ∙ s)
     where
-      go : (b : Bool) (m : ℕ) → leftBehind b m ≡ some l → get_elem? (cond b (x ∷ keep f (drop (r + 1) xs)) (keep f (drop (r + 1) xs))) m ≡ get_elem? (keep f xs) n → get_elem? (keep f (drop (r + 1) xs)) l ≡ get_elem? (keep f xs) n
-      go true zero k s = unfold leftBehind in absurd (none-ne-some _ k)
-      go true (suc m) k s = let e : some m ≡ some l = unfold leftBehind in k in ap (get_elem? (keep f (drop (r + 1) xs))) (sym (some-injective _ _ e)) ∙ s
-      go false m k s = let e : some m ≡ some l = unfold leftBehind in k in ap (get_elem? (keep f (drop (r + 1) xs))) (sym (some-injective _ _ e)) ∙ s
+      go : (b : Bool) (m : ℕ) → left_behind b m ≡ some l → get_elem? (cond b (x ∷ keep f (drop (r + 1) xs)) (keep f (drop (r + 1) xs))) m ≡ get_elem? (keep f xs) n → get_elem? (keep f (drop (r + 1) xs)) l ≡ get_elem? (keep f xs) n
+      go true zero k s = unfold left_behind in absurd (none-ne-some _ k)
+      go true (suc m) k s = let e : some m ≡ some l = unfold left_behind in k in ap (get_elem? (keep f (drop (r + 1) xs))) (sym (some-injective _ _ e)) ∙ s
+      go false m k s = let e : some m ≡ some l = unfold left_behind in k in ap (get_elem? (keep f (drop (r + 1) xs))) (sym (some-injective _ _ e)) ∙ s
 
   -- there is none
-  pub sought-none : (r m : ℕ) → length xs ≤ r → Sought r m → none ≡ get_elem? (keep f xs) n
+  pub sought_none : (r m : ℕ) → length xs ≤ r → Sought r m → none ≡ get_elem? (keep f xs) n
   unfolding keep
-  sought-none r m h s = ap (λ (ys : List A). get_elem? (keep f ys) m) (sym (drop_of_length-le xs h)) ∙ s
+  sought_none r m h s = ap (λ (ys : List A). get_elem? (keep f ys) m) (sym (drop_of_length-le xs h)) ∙ s

@@ -2,11 +2,11 @@
 ghost use Rattle.std.specs.Prelude.{◌<◌, ℕ, eqb, get_or, List, ◌≡◌};
 ghost use Rattle.std.proofs.Math.ListN.{get_elem?};
 ghost use Rattle.std.proofs.Math.Option.{bind, some};
-ghost use Rattle.answer.specs.Seen.{rowsIn};
+ghost use Rattle.answer.specs.Seen.{rows_in};
 ghost use Rattle.document.specs.Policy.{Row};
 ghost use Rattle.relations.specs.Rows.{Rows};
-ghost use Rattle.workspace.specs.Found.{FoundBelow, foundAs};
-ghost use Rattle.reasons.specs.Explaining.{leftBehind};
+ghost use Rattle.workspace.specs.Found.{FoundBelow, found_as};
+ghost use Rattle.reasons.specs.Explaining.{left_behind};
 ghost use Rattle.reasons.specs.Promises.{CellCausePromise, MeantLabelPromise, UnlabelledPromise};
 
 use crate::explained::Cause;
@@ -22,7 +22,7 @@ use workspace::layout::{LABELS, PURPOSE_CELLS, ROW_CELLS, SET_WORDS, TABLE_CELLS
 
 // How many rows of table t are left to pass behind row r, of `left` before it; nothing where it is the one that is sought.
 fn pass_row(rows: &[usize; ROW_CELLS], r: usize, t: usize, left: usize) -> Found
-    ensures { r < 1024 → foundAs result ≡ leftBehind (eqb (get_or rows.now r 0) t) left }
+    ensures { r < 1024 → found_as result ≡ left_behind (eqb (get_or rows.now r 0) t) left }
 {
     if row_table(rows, r) != t {
         return Found::At(left);
@@ -35,7 +35,7 @@ fn pass_row(rows: &[usize; ROW_CELLS], r: usize, t: usize, left: usize) -> Found
 
 // The row of table t, among so many rows, before which n of its rows stand.
 pub(crate) fn nth_row(rows: &[usize; ROW_CELLS], count: usize, t: usize, n: usize) -> Found
-    ensures { ((text : List ℕ) (rs : List Row) → Rows text rows.now count rs → bind (foundAs result) (get_elem? rs) ≡ get_elem? (rowsIn t rs) n) × FoundBelow result count }
+    ensures { ((text : List ℕ) (rs : List Row) → Rows text rows.now count rs → bind (found_as result) (get_elem? rs) ≡ get_elem? (rows_in t rs) n) × FoundBelow result count }
 {
     let mut r: usize = 0;
     let mut left = n;
@@ -52,7 +52,7 @@ pub(crate) fn nth_row(rows: &[usize; ROW_CELLS], count: usize, t: usize, n: usiz
 
 // Label m of row r, if the row has one.
 fn row_mark(rows: &[usize; ROW_CELLS], r: usize, m: usize) -> Found
-    ensures { (text : List ℕ) (k : ℕ) (rs : List Row) (x : Row) → Rows text rows.now k rs → get_elem? rs r ≡ some x → foundAs result ≡ get_elem? x.labels m }
+    ensures { (text : List ℕ) (k : ℕ) (rs : List Row) (x : Row) → Rows text rows.now k rs → get_elem? rs r ≡ some x → found_as result ≡ get_elem? x.labels m }
 {
     if m < row_labels(rows, r) {
         return Found::At(row_label(rows, r, m));

@@ -1,7 +1,7 @@
 // What the explaining tool finds for a line.
 ghost use Rattle.std.specs.Prelude.{◌≡◌, ℕ, List};
-ghost use Rattle.reasons.specs.Explaining.{explainedAs};
-ghost use Rattle.text.specs.Reasons.{reasonNumber};
+ghost use Rattle.reasons.specs.Explaining.{explained_as};
+ghost use Rattle.text.specs.Reasons.{reason_number};
 ghost use Rattle.text.specs.Refusal.{pointing, query, refused};
 ghost use Rattle.text.specs.Words.{word_of};
 
@@ -27,7 +27,7 @@ pub enum Explained {
 
 // The refusal that hands back the word at a place of the line.
 pub(crate) fn refused_at(line: &[u8], reason: Reason, at: usize) -> Explained
-    ensures { (text : List ℕ) → explainedAs text result ≡ refused (pointing (reasonNumber reason) query (word_of line.now «at»)) }
+    ensures { (text : List ℕ) → explained_as text result ≡ refused (pointing (reason_number reason) query (word_of line.now «at»)) }
 {
     let e = word_end(line, at);
     Explained::Refused(Refusal {

@@ -2,7 +2,7 @@
 ghost use Rattle.std.specs.Prelude.{ℕ, ◌≡◌};
 ghost use Rattle.lists.specs.Lists.{holds_of, member};
 ghost use Rattle.purpose.specs.Members.{members};
-ghost use Rattle.workspace.specs.Found.{foundAs};
+ghost use Rattle.workspace.specs.Found.{found_as};
 ghost use Rattle.reasons.specs.Promises.{FirstNearPromise, LabelCausePromise};
 
 use crate::explained::Cause;
@@ -19,7 +19,7 @@ use workspace::layout::{LABELS, PURPOSE_CELLS, SET_WORDS};
 
 // Whether a purpose that was looked up is ancestor or descendant of the one whose closure is given; one that is not known is neither.
 fn is_near(closure: Closure, f: Found) -> bool
-    ensures { result ≡ holds_of (λ n. member n (members closure.relatives)) (foundAs f) }
+    ensures { result ≡ holds_of (λ n. member n (members closure.relatives)) (found_as f) }
 {
     match f {
         Found::At(n) => {

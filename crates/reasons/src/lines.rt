@@ -1,9 +1,9 @@
 // Lines of the explaining tool over a document that the arrays hold: 11, 23, 24 and 26 in this order, and then the reason.
 ghost use Rattle.std.specs.Prelude.{◌≡◌};
 ghost use Rattle.document.specs.Policy.{Doc};
-ghost use Rattle.query.specs.WhyPlaces.{whyAt};
+ghost use Rattle.query.specs.WhyPlaces.{why_at};
 ghost use Rattle.answer.specs.Why.{explain};
-ghost use Rattle.reasons.specs.Explaining.{Known, explainLine, explainedAs};
+ghost use Rattle.reasons.specs.Explaining.{Known, explain_line, explained_as};
 ghost use Rattle.reasons.specs.Promises.{ExplainRowPromise, RowSoughtPromise};
 
 use crate::cells::{cell_cause, nth_row};
@@ -71,7 +71,7 @@ fn explain_words(
     line: &[u8],
     w: Why,
 ) -> Explained
-    ensures { (d : Doc) → Known text.now purposes.now labels.now sets.now tables.now rows.now c d → explainedAs text.now result ≡ explain d (whyAt line.now w) }
+    ensures { (d : Doc) → Known text.now purposes.now labels.now sets.now tables.now rows.now c d → explained_as text.now result ≡ explain d (why_at line.now w) }
 {
     let purpose = find_purpose(text, purposes, c.purposes, line, w.purpose);
     let Found::At(p) = purpose else {
@@ -101,7 +101,7 @@ pub fn explain_line(
     c: Counts,
     line: &[u8],
 ) -> Explained
-    ensures { (d : Doc) → Known text.now purposes.now labels.now sets.now tables.now rows.now c d → explainedAs text.now result ≡ explainLine d line.now }
+    ensures { (d : Doc) → Known text.now purposes.now labels.now sets.now tables.now rows.now c d → explained_as text.now result ≡ explain_line d line.now }
 {
     let a = read_why(line);
     let Line::Is(w) = a else {

@@ -4,15 +4,15 @@ ghost use Rattle.std.specs.Prelude.{◌+◌, ◌<◌, ◌≤◌, ℕ, drop, get_
 ghost use Rattle.std.proofs.Math.ListN.{get_elem?};
 ghost use Rattle.std.proofs.Math.Seq.{paste};
 ghost use Rattle.std.proofs.Math.Option.{some};
-ghost use Rattle.document.specs.Open.{marksAt};
+ghost use Rattle.document.specs.Open.{marks_at};
 ghost use Rattle.document.specs.Policy.{Label, Policy, tree_of};
-ghost use Rattle.workspace.specs.Found.{FoundBelow, foundAs};
-ghost use Rattle.relations.specs.Labels.{Labels, Said, SetHolds, SetStored, label_at, openedIn, setIn, verdictFor, verdictIn};
-ghost use Rattle.lists.specs.Lists.{findIndex};
+ghost use Rattle.workspace.specs.Found.{FoundBelow, found_as};
+ghost use Rattle.relations.specs.Labels.{Labels, Said, SetHolds, SetStored, label_at, opened_in, set_in, verdict_for, verdict_in};
+ghost use Rattle.lists.specs.Lists.{find_index};
 ghost use Rattle.purpose.specs.Meaning.{ClosureOf};
 ghost use Rattle.purpose.specs.Members.{words};
 ghost use Rattle.purpose.specs.Verdicts.{verdict};
-ghost use Rattle.text.specs.Words.{isCalled, word_at, word_of};
+ghost use Rattle.text.specs.Words.{is_called, word_at, word_of};
 
 use purpose::{Closure, Verdict, WORDS, verdict_of};
 use text::words::word_end;
@@ -29,7 +29,7 @@ pub fn find_label_to(
     u: usize,
     e: usize,
 ) -> Found
-    ensures { ((sets : List ℕ) (ls : List Label) → e ≡ u + length (word_at line.now u) → Labels text.now ws.now sets k ls → foundAs result ≡ findIndex (λ x. isCalled (word_of line.now u) x.name) ls) × FoundBelow result k }
+    ensures { ((sets : List ℕ) (ls : List Label) → e ≡ u + length (word_at line.now u) → Labels text.now ws.now sets k ls → found_as result ≡ find_index (λ x. is_called (word_of line.now u) x.name) ls) × FoundBelow result k }
 {
     if LABELS < k {
         return Found::Nothing;
@@ -39,7 +39,7 @@ pub fn find_label_to(
 
 // The label of the name at u of the line, among the first k.
 pub fn find_label(text: &[u8], ws: &[usize; LABELS], k: usize, line: &[u8], u: usize) -> Found
-    ensures { ((sets : List ℕ) (ls : List Label) → Labels text.now ws.now sets k ls → foundAs result ≡ findIndex (λ x. isCalled (word_of line.now u) x.name) ls) × FoundBelow result k }
+    ensures { ((sets : List ℕ) (ls : List Label) → Labels text.now ws.now sets k ls → found_as result ≡ find_index (λ x. is_called (word_of line.now u) x.name) ls) × FoundBelow result k }
 {
     find_label_to(text, ws, k, line, u, word_end(line, u))
 }
@@ -67,7 +67,7 @@ fn load_words(sets: &[u64], at: usize) -> [u64; WORDS]
 
 // Set i; the empty set where there can be none.
 pub fn load_set(sets: &[u64; SET_WORDS], i: usize) -> [u64; WORDS]
-    ensures { i < 128 → result ≡ setIn sets.now i }
+    ensures { i < 128 → result ≡ set_in sets.now i }
 {
     if i < 2 * LABELS {
         return load_words(sets, WORDS * i);
@@ -137,7 +137,7 @@ fn label_verdict(closure: Closure, sets: &[u64; SET_WORDS], i: usize) -> Verdict
 
 // What label i, one of k, says of the purpose whose closure is given; one that is not there says nothing.
 pub fn verdict_there(closure: Closure, sets: &[u64; SET_WORDS], k: usize, i: usize) -> Verdict
-    ensures { (text ws : List ℕ) (d : Policy) (p : ℕ) → Labels text ws sets.now k d.labels → ClosureOf (tree_of d.purposes) p closure → result ≡ verdict (tree_of d.purposes) (marksAt d (some i)) p }
+    ensures { (text ws : List ℕ) (d : Policy) (p : ℕ) → Labels text ws sets.now k d.labels → ClosureOf (tree_of d.purposes) p closure → result ≡ verdict (tree_of d.purposes) (marks_at d (some i)) p }
 {
     if i < k {
         return label_verdict(closure, sets, i);
@@ -171,7 +171,7 @@ pub fn say_labels(closure: Closure, sets: &[u64; SET_WORDS], k: usize, said: &mu
 
 // What label l says, by what was stored of each label; one that has no place says nothing.
 pub fn said_at(said: &[bool; VERDICTS], l: usize) -> Verdict
-    ensures { result ≡ verdictIn said.now l }
+    ensures { result ≡ verdict_in said.now l }
 {
     if l < LABELS {
         return Verdict {
@@ -187,7 +187,7 @@ pub fn said_at(said: &[bool; VERDICTS], l: usize) -> Verdict
 
 // What a label says that may be none, which says nothing.
 pub fn said_of(said: &[bool; VERDICTS], f: Found) -> Verdict
-    ensures { result ≡ verdictFor said.now (foundAs f) }
+    ensures { result ≡ verdict_for said.now (found_as f) }
 {
     match f {
         Found::At(l) => said_at(said, l),
@@ -200,7 +200,7 @@ pub fn said_of(said: &[bool; VERDICTS], f: Found) -> Verdict
 
 // Whether label l is open, by what was stored of each label; one that is not there is closed.
 pub fn opened_at(said: &[bool; VERDICTS], l: usize) -> bool
-    ensures { result ≡ openedIn said.now l }
+    ensures { result ≡ opened_in said.now l }
 {
     let v = said_at(said, l);
     if v.allowed {

@@ -1,11 +1,11 @@
 // What later lines say of a table: that it is public, its weak label and its strong one.
 // A store goes through the array as a slice: of a slice the proof knows the length.
 ghost use Rattle.std.specs.Prelude.{◌<◌, ◌≡◌};
-ghost use Rattle.document.specs.Lookup.{strongIn, weakIn};
+ghost use Rattle.document.specs.Lookup.{strong_in, weak_in};
 ghost use Rattle.form.specs.Form.{strong, weak};
-ghost use Rattle.relations.specs.Notes.{labelOfCell, noteIn, publicIn};
+ghost use Rattle.relations.specs.Notes.{label_of_cell, note_in, public_in};
 ghost use Rattle.relations.specs.Tables.{LabelNoted, PublicStored};
-ghost use Rattle.workspace.specs.Found.{foundAs};
+ghost use Rattle.workspace.specs.Found.{found_as};
 
 use workspace::found::Found;
 use workspace::layout::{LABELS, TABLE_CELLS, TABLE_NOTES, TABLE_STRONG, TABLE_WEAK, TABLES};
@@ -22,7 +22,7 @@ pub fn set_public(ws: &mut [usize; TABLE_CELLS], t: usize)
 
 // Whether table t is declared public.
 pub fn is_public(ws: &[usize; TABLE_CELLS], t: usize) -> bool
-    ensures { t < 8 → result ≡ publicIn ws.now t }
+    ensures { t < 8 → result ≡ public_in ws.now t }
 {
     if t < TABLES {
         return ws[TABLE_NOTES + t] == 1;
@@ -32,7 +32,7 @@ pub fn is_public(ws: &[usize; TABLE_CELLS], t: usize) -> bool
 
 // The label that a number of the array stands for.
 fn label_of_cell(n: usize) -> Found
-    ensures { foundAs result ≡ labelOfCell n }
+    ensures { found_as result ≡ label_of_cell n }
 {
     if n == 0 {
         return Found::Nothing;
@@ -42,7 +42,7 @@ fn label_of_cell(n: usize) -> Found
 
 // The weak label of table t.
 pub fn weak_label(ws: &[usize; TABLE_CELLS], t: usize) -> Found
-    ensures { t < 8 → foundAs result ≡ labelOfCell (noteIn ws.now 1 t) }
+    ensures { t < 8 → found_as result ≡ label_of_cell (note_in ws.now 1 t) }
 {
     if t < TABLES {
         return label_of_cell(ws[TABLE_WEAK + t]);
@@ -52,7 +52,7 @@ pub fn weak_label(ws: &[usize; TABLE_CELLS], t: usize) -> Found
 
 // The strong label of table t.
 pub fn strong_label(ws: &[usize; TABLE_CELLS], t: usize) -> Found
-    ensures { t < 8 → foundAs result ≡ labelOfCell (noteIn ws.now 2 t) }
+    ensures { t < 8 → found_as result ≡ label_of_cell (note_in ws.now 2 t) }
 {
     if t < TABLES {
         return label_of_cell(ws[TABLE_STRONG + t]);
@@ -62,7 +62,7 @@ pub fn strong_label(ws: &[usize; TABLE_CELLS], t: usize) -> Found
 
 // Gives table t this weak label.
 pub fn set_weak(ws: &mut [usize; TABLE_CELLS], t: usize, l: usize)
-    ensures { l < 64 → LabelNoted ws.old ws.new t (weak l) weakIn }
+    ensures { l < 64 → LabelNoted ws.old ws.new t (weak l) weak_in }
 {
     if t < TABLES {
         if l < LABELS {
@@ -74,7 +74,7 @@ pub fn set_weak(ws: &mut [usize; TABLE_CELLS], t: usize, l: usize)
 
 // Gives table t this strong label.
 pub fn set_strong(ws: &mut [usize; TABLE_CELLS], t: usize, l: usize)
-    ensures { l < 64 → LabelNoted ws.old ws.new t (strong l) strongIn }
+    ensures { l < 64 → LabelNoted ws.old ws.new t (strong l) strong_in }
 {
     if t < TABLES {
         if l < LABELS {

@@ -3,7 +3,7 @@
 ghost use Rattle.std.specs.Prelude.{◌+◌, ◌<◌, ℕ, get_or, eqb, List, ◌++◌, ◌∷◌, [], ◌≡◌};
 ghost use Rattle.lists.specs.Lists.{any_of};
 ghost use Rattle.document.specs.Policy.{Row};
-ghost use Rattle.relations.specs.Rows.{FillingRow, LabelStored, Rows, ValueStored, labelCountIn, labelRoom, rowLabelIn, valueCountIn, valuePlaceIn};
+ghost use Rattle.relations.specs.Rows.{FillingRow, LabelStored, Rows, ValueStored, label_count_in, label_room, row_label_in, value_count_in, value_place_in};
 ghost use Rattle.relations.specs.Tables.{Cut};
 ghost use Rattle.text.specs.Numbers.{Value};
 
@@ -56,7 +56,7 @@ pub fn row_table(ws: &[usize; ROW_CELLS], r: usize) -> usize
 
 // How many values row r has, and how many labels.
 pub fn row_values(ws: &[usize; ROW_CELLS], r: usize) -> usize
-    ensures { Cut 16 r 1024 (valueCountIn ws.now r) result }
+    ensures { Cut 16 r 1024 (value_count_in ws.now r) result }
 {
     if r < ROWS {
         let n = ws[ROW_WIDTHS + r];
@@ -68,7 +68,7 @@ pub fn row_values(ws: &[usize; ROW_CELLS], r: usize) -> usize
 }
 
 pub fn row_labels(ws: &[usize; ROW_CELLS], r: usize) -> usize
-    ensures { Cut labelRoom r 1024 (labelCountIn ws.now r) result }
+    ensures { Cut label_room r 1024 (label_count_in ws.now r) result }
 {
     if r < ROWS {
         let n = ws[ROW_MARKS + r];
@@ -81,7 +81,7 @@ pub fn row_labels(ws: &[usize; ROW_CELLS], r: usize) -> usize
 
 // The position of value c of row r.
 pub fn row_value(ws: &[usize; ROW_CELLS], r: usize, c: usize) -> usize
-    ensures { r < 1024 → c < 16 → result ≡ valuePlaceIn ws.now r c }
+    ensures { r < 1024 → c < 16 → result ≡ value_place_in ws.now r c }
 {
     if r < ROWS {
         if c < COLUMNS {
@@ -93,7 +93,7 @@ pub fn row_value(ws: &[usize; ROW_CELLS], r: usize, c: usize) -> usize
 
 // Label m of row r.
 pub fn row_label(ws: &[usize; ROW_CELLS], r: usize, m: usize) -> usize
-    ensures { r < 1024 → m < labelRoom → result ≡ rowLabelIn ws.now r m }
+    ensures { r < 1024 → m < label_room → result ≡ row_label_in ws.now r m }
 {
     if r < ROWS {
         if m < LABEL_ROOM {

@@ -2,14 +2,14 @@
 // A store goes through the array as a slice: of a slice the proof knows the length.
 ghost use Rattle.std.specs.Prelude.{◌+◌, ◌<◌, ℕ, length, List, ◌≡◌};
 ghost use Rattle.condition.specs.Answers.{kind_of};
-ghost use Rattle.document.specs.Lookup.{columnOf};
-ghost use Rattle.document.specs.NoteFaults.{isNested};
+ghost use Rattle.document.specs.Lookup.{column_of};
+ghost use Rattle.document.specs.NoteFaults.{is_nested};
 ghost use Rattle.document.specs.Policy.{Table};
-ghost use Rattle.form.specs.Form.{hasBrackets, leadsLabel};
-ghost use Rattle.workspace.specs.Found.{FoundBelow, foundAs};
-ghost use Rattle.relations.specs.Tables.{ColumnStored, Cut, TableAdded, Tables, columnCountIn, columnKindIn, columnLabelIn, columnLabelsIn, columnsIn, schemeBy, schemeIn, schemeOfCell, tableLabelIn};
-ghost use Rattle.lists.specs.Lists.{findIndex};
-ghost use Rattle.text.specs.Words.{isCalled, word_at, word_of};
+ghost use Rattle.form.specs.Form.{has_brackets, leads_label};
+ghost use Rattle.workspace.specs.Found.{FoundBelow, found_as};
+ghost use Rattle.relations.specs.Tables.{ColumnStored, Cut, TableAdded, Tables, column_count_in, column_kind_in, column_label_in, column_labels_in, columns_in, scheme_by, scheme_in, scheme_of_cell, table_label_in};
+ghost use Rattle.lists.specs.Lists.{find_index};
+ghost use Rattle.text.specs.Words.{is_called, word_at, word_of};
 
 use condition::kinds::Kind;
 use form::lines::Scheme;
@@ -23,7 +23,7 @@ use workspace::store::{kind_by, kind_cell};
 
 // The number of a scheme.
 fn scheme_cell(s: Scheme) -> usize
-    ensures { (l : ℕ) (ls : List ℕ) → schemeOfCell result l ls ≡ schemeBy s l ls }
+    ensures { (l : ℕ) (ls : List ℕ) → scheme_of_cell result l ls ≡ scheme_by s l ls }
 {
     match s {
         Scheme::Unlabelled => 0,
@@ -83,7 +83,7 @@ pub fn add_table(
 
 // How many columns table t has.
 pub fn table_width(ws: &[usize; TABLE_CELLS], t: usize) -> usize
-    ensures { Cut 16 t 8 (columnCountIn ws.now t) result }
+    ensures { Cut 16 t 8 (column_count_in ws.now t) result }
 {
     if t < TABLES {
         let n = ws[TABLE_WIDTHS + t];
@@ -96,7 +96,7 @@ pub fn table_width(ws: &[usize; TABLE_CELLS], t: usize) -> usize
 
 // The scheme of table t.
 pub fn table_scheme(ws: &[usize; TABLE_CELLS], t: usize) -> Scheme
-    ensures { t < 8 → schemeIn ws.now t ≡ schemeBy result (tableLabelIn ws.now t) (columnLabelsIn ws.now t) }
+    ensures { t < 8 → scheme_in ws.now t ≡ scheme_by result (table_label_in ws.now t) (column_labels_in ws.now t) }
 {
     if t < TABLES {
         let n = ws[TABLE_SCHEMES + t];
@@ -115,7 +115,7 @@ pub fn table_scheme(ws: &[usize; TABLE_CELLS], t: usize) -> Scheme
 
 // Whether a row of the scheme leads with a label for itself.
 pub fn leads_label(s: Scheme) -> bool
-    ensures { (l : ℕ) (ls : List ℕ) → result ≡ leadsLabel (schemeBy s l ls) }
+    ensures { (l : ℕ) (ls : List ℕ) → result ≡ leads_label (scheme_by s l ls) }
 {
     match s {
         Scheme::Unlabelled => false,
@@ -129,7 +129,7 @@ pub fn leads_label(s: Scheme) -> bool
 
 // Whether a row of the scheme has each value in brackets with its label.
 pub fn has_brackets(s: Scheme) -> bool
-    ensures { (l : ℕ) (ls : List ℕ) → result ≡ hasBrackets (schemeBy s l ls) }
+    ensures { (l : ℕ) (ls : List ℕ) → result ≡ has_brackets (scheme_by s l ls) }
 {
     match s {
         Scheme::Unlabelled => false,
@@ -143,7 +143,7 @@ pub fn has_brackets(s: Scheme) -> bool
 
 // Whether the scheme is nest.
 pub fn is_nested(s: Scheme) -> bool
-    ensures { (l : ℕ) (ls : List ℕ) → result ≡ isNested (schemeBy s l ls) }
+    ensures { (l : ℕ) (ls : List ℕ) → result ≡ is_nested (scheme_by s l ls) }
 {
     match s {
         Scheme::Unlabelled => false,
@@ -157,14 +157,14 @@ pub fn is_nested(s: Scheme) -> bool
 
 // The label of table t.
 pub fn table_label(ws: &[usize; TABLE_CELLS], t: usize) -> usize
-    ensures { t < 8 → result ≡ tableLabelIn ws.now t }
+    ensures { t < 8 → result ≡ table_label_in ws.now t }
 {
     if t < TABLES { ws[TABLE_LABELS + t] } else { 0 }
 }
 
 // The type of column c of table t.
 pub fn column_kind(ws: &[usize; TABLE_CELLS], t: usize, c: usize) -> Kind
-    ensures { t < 8 → c < 16 → kind_of result ≡ columnKindIn ws.now t c }
+    ensures { t < 8 → c < 16 → kind_of result ≡ column_kind_in ws.now t c }
 {
     if t < TABLES {
         if c < COLUMNS {
@@ -177,7 +177,7 @@ pub fn column_kind(ws: &[usize; TABLE_CELLS], t: usize, c: usize) -> Kind
 
 // The label of column c of table t.
 pub fn column_label(ws: &[usize; TABLE_CELLS], t: usize, c: usize) -> usize
-    ensures { t < 8 → c < 16 → result ≡ columnLabelIn ws.now t c }
+    ensures { t < 8 → c < 16 → result ≡ column_label_in ws.now t c }
 {
     if t < TABLES {
         if c < COLUMNS {
@@ -196,7 +196,7 @@ pub fn find_table_to(
     i: usize,
     e: usize,
 ) -> Found
-    ensures { ((ts : List Table) → e ≡ i + length (word_at line.now i) → Tables text.now ws.now k ts → foundAs result ≡ findIndex (λ x. isCalled (word_of line.now i) x.name) ts) × FoundBelow result k }
+    ensures { ((ts : List Table) → e ≡ i + length (word_at line.now i) → Tables text.now ws.now k ts → found_as result ≡ find_index (λ x. is_called (word_of line.now i) x.name) ts) × FoundBelow result k }
 {
     if TABLES < k {
         return Found::Nothing;
@@ -206,14 +206,14 @@ pub fn find_table_to(
 
 // The table of the name at i of the line, among the first k.
 pub fn find_table(text: &[u8], ws: &[usize; TABLE_CELLS], k: usize, line: &[u8], i: usize) -> Found
-    ensures { ((ts : List Table) → Tables text.now ws.now k ts → foundAs result ≡ findIndex (λ x. isCalled (word_of line.now i) x.name) ts) × FoundBelow result k }
+    ensures { ((ts : List Table) → Tables text.now ws.now k ts → found_as result ≡ find_index (λ x. is_called (word_of line.now i) x.name) ts) × FoundBelow result k }
 {
     find_table_to(text, ws, k, line, i, word_end(line, i))
 }
 
 // The column of the name at i of the line, among those of table t.
 pub fn find_column(text: &[u8], ws: &[usize; TABLE_CELLS], t: usize, line: &[u8], i: usize) -> Found
-    ensures { ((k : ℕ) (ts : List Table) → Tables text.now ws.now k ts → t < k → foundAs result ≡ columnOf (columnsIn text.now ws.now t) (word_of line.now i)) × FoundBelow result 16 }
+    ensures { ((k : ℕ) (ts : List Table) → Tables text.now ws.now k ts → t < k → found_as result ≡ column_of (columns_in text.now ws.now t) (word_of line.now i)) × FoundBelow result 16 }
 {
     if t < TABLES {
         let n = table_width(ws, t);

@@ -1,20 +1,20 @@
 -- Contract: what is summed of a table's rows, and what has to stand in the workspace for it (02, Q-9).
 use Rattle.std.specs.Prelude.{◌+◌, ◌≤◌, ℕ, length, ◌≡◌}
 use mathlib.Core.List.{List, [], ◌++◌, ◌∷◌, flatten, map}
-use Rattle.answer.specs.Reserve.{wholeLine}
-use Rattle.answer.specs.Seen.{rowsIn}
+use Rattle.answer.specs.Reserve.{whole_line}
+use Rattle.answer.specs.Seen.{rows_in}
 use Rattle.document.specs.Policy.{Doc, Row}
-use Rattle.relations.specs.Rows.{Rows, row_in, valueCountIn}
+use Rattle.relations.specs.Rows.{Rows, row_in, value_count_in}
 use Rattle.reserve.specs.declared.sums.Sum.{Sum}
 
 -- the sum s is that of these rows: how many they are, and how long their lines are with all columns
 pub record Sums (rs : List Row) (s : Sum) : Type 0 where
   pub count : s.count ≡ length rs
-  pub bytes : s.bytes ≡ length (flatten (map (λ r. wholeLine r.values) rs))
+  pub bytes : s.bytes ≡ length (flatten (map (λ r. whole_line r.values) rs))
 
 -- the sum x is s with row r, where that lies in table t
 pub record Adds (text ws : List ℕ) (r t : ℕ) (s x : Sum) : Type 0 where
-  pub sums : (rs : List Row) → valueCountIn ws r ≤ 16 → Sums (rowsIn t rs) s → Sums (rowsIn t (rs ++ (row_in text ws r ∷ []))) x
+  pub sums : (rs : List Row) → value_count_in ws r ≤ 16 → Sums (rows_in t rs) s → Sums (rows_in t (rs ++ (row_in text ws r ∷ []))) x
   pub count : x.count ≤ s.count + 1
   pub bytes : x.bytes ≤ s.bytes + 960022
 

@@ -1,8 +1,8 @@
 // The length of the longest answer among the tables, each with all its columns and all rows passed.
 ghost use Rattle.std.specs.Prelude.{◌≤◌, length, List, ◌≡◌};
-ghost use Rattle.answer.specs.Reserve.{greatest, reserveOf, wholeLength, wholeLengths};
+ghost use Rattle.answer.specs.Reserve.{greatest, reserve_of, whole_length, whole_lengths};
 ghost use Rattle.answer.specs.Reserve as meant;
-ghost use Rattle.answer.specs.Seen.{rowsIn};
+ghost use Rattle.answer.specs.Seen.{rows_in};
 ghost use Rattle.document.specs.Policy.{Doc, Row};
 ghost use Rattle.relations.specs.Rows.{Rows};
 ghost use Rattle.reserve.specs.Sums.{HoldsRows};
@@ -26,7 +26,7 @@ fn decimal_length(n: usize) -> usize
 // How long the answer is that gives all rows of table t, among the first count, with all their columns.
 fn table_length(text: &[u8], rows: &[usize; ROW_CELLS], count: usize, t: usize) -> usize
     requires { (length text.now ≤ 60000) × (count ≤ 1024) }
-    ensures { (rs : List Row) → Rows text.now rows.now count rs → result ≡ wholeLength (rowsIn t rs) }
+    ensures { (rs : List Row) → Rows text.now rows.now count rs → result ≡ whole_length (rows_in t rs) }
 {
     let s = table_sum(text, rows, count, t);
     let digits = decimal_length(s.count);
@@ -46,7 +46,7 @@ fn larger(a: usize, b: usize) -> usize
 // The longest among the first k tables.
 fn longest(text: &[u8], rows: &[usize; ROW_CELLS], count: usize, k: usize) -> usize
     requires { (length text.now ≤ 60000) × (count ≤ 1024) }
-    ensures { (rs : List Row) → Rows text.now rows.now count rs → result ≡ greatest (wholeLengths rs k) }
+    ensures { (rs : List Row) → Rows text.now rows.now count rs → result ≡ greatest (whole_lengths rs k) }
 {
     let mut best = 0;
     let mut t = 0;
@@ -60,7 +60,7 @@ fn longest(text: &[u8], rows: &[usize; ROW_CELLS], count: usize, k: usize) -> us
 // The reserve of a document of k tables and so many rows. One that the workspace holds passes the tests, which keep lengths from
 // wrapping.
 pub fn reserve(text: &[u8], rows: &[usize; ROW_CELLS], k: usize, count: usize) -> usize
-    ensures { (d : Doc) → HoldsRows text.now rows.now k count d → result ≡ reserveOf d }
+    ensures { (d : Doc) → HoldsRows text.now rows.now k count d → result ≡ reserve_of d }
 {
     if TEXT_BYTES < text.len() {
         return 0;

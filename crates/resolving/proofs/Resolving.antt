@@ -8,24 +8,24 @@ use mathlib.Core.Option.{none, some}
 use mathlib.Core.Path.{◌∙◌, ◌≡◌, ap, refl, subst, sym}
 use native.Mathlib.Numerals.{add-one}
 use native.Mathlib.Omega.{arith}
-use Rattle.document.specs.Lookup.{columnOf}
+use Rattle.document.specs.Lookup.{column_of}
 use Rattle.document.specs.Policy.{Column}
-use Rattle.lists.proofs.ListLaws.{map-append}
+use Rattle.lists.proofs.ListLaws.{map_append}
 use Rattle.lists.specs.Lists.{or_zero, there}
-use Rattle.query.specs.Naming.{wordsAt}
+use Rattle.query.specs.Naming.{words_at}
 use Rattle.resolving.specs.Resolved.{Resolves}
-use Rattle.text.proofs.OffendingLaws.{missing-here, missing-next, missing-nil}
+use Rattle.text.proofs.OffendingLaws.{missing_here, missing_next, missing_nil}
 use Rattle.text.specs.Offending.{missing}
 use Rattle.text.specs.Words.{Word, word_of}
 use Rattle.text.specs.declared.offending.Offending.TheVariants as offending
 
 -- one of the columns has this name
 abbrev has : List Column → Word → Bool
-has cs w = there (columnOf cs w)
+has cs w = there (column_of cs w)
 
 -- the number of the column of this name
 abbrev number : List Column → Word → ℕ
-number cs w = or_zero (columnOf cs w)
+number cs w = or_zero (column_of cs w)
 
 -- the words from place i on
 abbrev pending : List ℕ → ℕ → List ℕ → ℕ → List Word
@@ -33,15 +33,15 @@ pending s n places i = map (word_of s) (drop i (take n places))
 
 -- i words are resolved: the first that is missing is the first from place i on, and the numbers of the others are stored
 pub record Resolving (cs : List Column) (s : List ℕ) (n : ℕ) (places numbers : List ℕ) (i : ℕ) : Type 0 where
-  pub rest : missing (has cs) (wordsAt s n places) ≡ missing (has cs) (pending s n places i)
-  pub front : take i numbers ≡ map (number cs) (wordsAt s i places)
+  pub rest : missing (has cs) (words_at s n places) ≡ missing (has cs) (pending s n places i)
+  pub front : take i numbers ≡ map (number cs) (words_at s i places)
 
-pub at-nothing : {p : ℕ} → offending.At p ≡ offending.Nothing → ⊥
-at-nothing e = let z : ◌≡◌ {A = ℕ} 0 1 = cc in omega arith
+pub at_nothing : {p : ℕ} → offending.At p ≡ offending.Nothing → ⊥
+at_nothing e = let z : ◌≡◌ {A = ℕ} 0 1 = cc in omega arith
 
 module _ (cs : List Column) (s : List ℕ) (n : ℕ) (places numbers : List ℕ) where
-  pub resolving-start : Resolving cs s n places numbers 0
-  resolving-start = record { rest = refl; front = refl }
+  pub resolving_start : Resolving cs s n places numbers 0
+  resolving_start = record { rest = refl; front = refl }
 
   module _ (i : ℕ) (r : Resolving cs s n places numbers i) where
     -- the word at place i is the first from there on
@@ -53,32 +53,32 @@ module _ (cs : List Column) (s : List ℕ) (n : ℕ) (places numbers : List ℕ)
 
     module _ (l : i < n) (fits : n ≤ length places) where
       -- it names a column, whose number is stored
-      pub resolving-more : n ≤ length numbers → (m : ℕ) → some m ≡ columnOf cs (word_of s (get_or places i 0)) → Resolving cs s n places (set numbers i m) (i + 1)
+      pub resolving_more : n ≤ length numbers → (m : ℕ) → some m ≡ column_of cs (word_of s (get_or places i 0)) → Resolving cs s n places (set numbers i m) (i + 1)
       unfolding or_zero there
-      resolving-more room m e = record {
-        rest = r.rest ∙ ap (missing (has cs)) (next l fits) ∙ missing-next (has cs) (word_of s (get_or places i 0)) (pending s n places (i + 1)) (ap there (sym e));
+      resolving_more room m e = record {
+        rest = r.rest ∙ ap (missing (has cs)) (next l fits) ∙ missing_next (has cs) (word_of s (get_or places i 0)) (pending s n places (i + 1)) (ap there (sym e));
         front =
             ap (λ (j : ℕ). take j (set numbers i m)) (add-one i)
             ∙ take-suc-set numbers i m (omega arith)
             ∙ ap (λ (xs : List ℕ). xs ++ (m ∷ [])) r.front
-            ∙ ap (λ (x : ℕ). map (number cs) (wordsAt s i places) ++ (x ∷ [])) (ap or_zero e)
-            ∙ sym (map-append (number cs) (wordsAt s i places) (word_of s (get_or places i 0) ∷ []))
-            ∙ ap (map (number cs)) (sym (map-append (word_of s) (take i places) (get_or places i 0 ∷ [])))
+            ∙ ap (λ (x : ℕ). map (number cs) (words_at s i places) ++ (x ∷ [])) (ap or_zero e)
+            ∙ sym (map_append (number cs) (words_at s i places) (word_of s (get_or places i 0) ∷ []))
+            ∙ ap (map (number cs)) (sym (map_append (word_of s) (take i places) (get_or places i 0 ∷ [])))
             ∙ ap (λ (xs : List ℕ). map (number cs) (map (word_of s) xs)) (sym (take-suc places i 0 (omega arith)))
-            ∙ ap (λ (j : ℕ). map (number cs) (wordsAt s j places)) (sym (add-one i));
+            ∙ ap (λ (j : ℕ). map (number cs) (words_at s j places)) (sym (add-one i));
       }
 
       -- it names none
-      pub resolving-stop : none ≡ columnOf cs (word_of s (get_or places i 0)) → Resolves cs s n places (offending.At (get_or places i 0)) numbers
+      pub resolving_stop : none ≡ column_of cs (word_of s (get_or places i 0)) → Resolves cs s n places (offending.At (get_or places i 0)) numbers
       unfolding there
-      resolving-stop e = record {
-        offends = sym (r.rest ∙ ap (missing (has cs)) (next l fits) ∙ missing-here (has cs) (word_of s (get_or places i 0)) (pending s n places (i + 1)) (ap there (sym e)));
-        numbered = λ h. absurd (at-nothing h);
+      resolving_stop e = record {
+        offends = sym (r.rest ∙ ap (missing (has cs)) (next l fits) ∙ missing_here (has cs) (word_of s (get_or places i 0)) (pending s n places (i + 1)) (ap there (sym e)));
+        numbered = λ h. absurd (at_nothing h);
       }
 
     -- all words are resolved
-    pub resolving-done : i ≡ n → n ≤ length places → Resolves cs s n places offending.Nothing numbers
-    resolving-done e fits = record {
-      offends = sym (r.rest ∙ ap (missing (has cs)) (ap (map (word_of s)) (ap (λ (j : ℕ). drop j (take n places)) (e ∙ sym (length-take-le n places fits)) ∙ drop-length (take n places))) ∙ missing-nil (has cs));
-      numbered = λ h. subst (λ (j : ℕ). take j numbers ≡ map (number cs) (wordsAt s j places)) e r.front;
+    pub resolving_done : i ≡ n → n ≤ length places → Resolves cs s n places offending.Nothing numbers
+    resolving_done e fits = record {
+      offends = sym (r.rest ∙ ap (missing (has cs)) (ap (map (word_of s)) (ap (λ (j : ℕ). drop j (take n places)) (e ∙ sym (length-take-le n places fits)) ∙ drop-length (take n places))) ∙ missing_nil (has cs));
+      numbered = λ h. subst (λ (j : ℕ). take j numbers ≡ map (number cs) (words_at s j places)) e r.front;
     }

@@ -6,7 +6,7 @@ use mathlib.Core.Option
 use mathlib.Core.Option.{some-injective, some}
 use mathlib.Core.Path.{◌∙◌, ◌≡◌, ap, refl, sym}
 use native.Mathlib.Omega.{arith}
-use Rattle.lists.proofs.ListLaws.{getElem?-map, map-map}
+use Rattle.lists.proofs.ListLaws.{get_elem?_map, map_map}
 
 -- what the first n have at a number
 pub taken_at : (xs : List ℕ) (n i : ℕ) → i < n → i < length xs → get_elem? (take n xs) i ≡ some (get_or xs i 0)
@@ -20,6 +20,6 @@ pub mapped_at : {A : Type 0} (f : A → ℕ) (g : ℕ → A) (xs ys : List ℕ) 
 mapped_at f g xs ys n i l a b e =
     some-injective _ _
     (sym (taken_at xs n i l a)
-    ∙ ap (λ zs. get_elem? zs i) (e ∙ map-map f g (take n ys))
-    ∙ getElem?-map (λ y. f (g y)) (take n ys) i
+    ∙ ap (λ zs. get_elem? zs i) (e ∙ map_map f g (take n ys))
+    ∙ get_elem?_map (λ y. f (g y)) (take n ys) i
     ∙ ap (Option.map (λ y. f (g y))) (taken_at ys n i l b))

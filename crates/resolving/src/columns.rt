@@ -1,6 +1,6 @@
 // The columns that a query names, by number (15).
 ghost use Rattle.std.specs.Prelude.{◌<◌, ◌≤◌, ℕ, length};
-ghost use Rattle.document.specs.Lookup.{columnsAt};
+ghost use Rattle.document.specs.Lookup.{columns_at};
 ghost use Rattle.document.specs.Policy.{Policy};
 ghost use Rattle.relations.specs.Tables.{Tables};
 ghost use Rattle.resolving.specs.Resolved.{Resolves};
@@ -24,7 +24,7 @@ fn resolve_in(
     n: usize,
     columns: &mut [usize],
 ) -> Offending
-    ensures { (d : Policy) (k : ℕ) → Tables text.now tables.now k d.tables → t < k → n ≤ length places.now → n ≤ length columns.old → Resolves (columnsAt d t) query.now n places.now result columns.new }
+    ensures { (d : Policy) (k : ℕ) → Tables text.now tables.now k d.tables → t < k → n ≤ length places.now → n ≤ length columns.old → Resolves (columns_at d t) query.now n places.now result columns.new }
 {
     let mut i = 0;
     while i < n {
@@ -55,7 +55,7 @@ pub fn resolve_columns(
     n: usize,
     columns: &mut [usize; NAMED],
 ) -> Offending
-    ensures { (d : Policy) (k : ℕ) → Tables text.now tables.now k d.tables → t < k → n ≤ 80 → Resolves (columnsAt d t) query.now n places.now result columns.new }
+    ensures { (d : Policy) (k : ℕ) → Tables text.now tables.now k d.tables → t < k → n ≤ 80 → Resolves (columns_at d t) query.now n places.now result columns.new }
 {
     resolve_in(text, tables, t, query, places, n, columns)
 }

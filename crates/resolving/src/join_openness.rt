@@ -1,12 +1,12 @@
 // What of a join's tables and columns is closed to a purpose (17).
 ghost use Rattle.std.specs.Prelude.{◌<◌, ◌≤◌, ℕ, List, ◌≡◌};
-ghost use Rattle.document.specs.Lookup.{labellingAt};
-ghost use Rattle.document.specs.Open.{columnOpen, openTo};
+ghost use Rattle.document.specs.Lookup.{labelling_at};
+ghost use Rattle.document.specs.Open.{column_open, open_to};
 ghost use Rattle.document.specs.Policy.{Policy};
 ghost use Rattle.query.specs.JoinForm.{JoinForm};
 ghost use Rattle.relations.specs.Labels.{Said};
 ghost use Rattle.relations.specs.Tables.{Tables};
-ghost use Rattle.resolving.specs.Joins.{KnowsTables, openColumn, through};
+ghost use Rattle.resolving.specs.Joins.{KnowsTables, open_column, through};
 ghost use Rattle.resolving.specs.Promises.{ClosedJoinPromise, FirstClosedRefPromise};
 
 use crate::joins::{JOINED, TwoTables};
@@ -23,7 +23,7 @@ fn is_column_open(
     said: &[bool; VERDICTS],
     c: usize,
 ) -> bool
-    ensures { (d : Policy) (text : List ℕ) (k p : ℕ) → Tables text tables.now k d.tables → t < k → Said d p said.now → result ≡ columnOpen (openTo d p) (labellingAt d t) c }
+    ensures { (d : Policy) (text : List ℕ) (k p : ℕ) → Tables text tables.now k d.tables → t < k → Said d p said.now → result ≡ column_open (open_to d p) (labelling_at d t) c }
 {
     let scheme = table_scheme(tables, t);
     match scheme {
@@ -43,7 +43,7 @@ fn is_ref_open(
     said: &[bool; VERDICTS],
     c: usize,
 ) -> bool
-    ensures { (d : Policy) (text s : List ℕ) (k q : ℕ) (j : JoinForm) → KnowsTables text tables.now k s p d j → Said d q said.now → result ≡ through d p (openColumn d q) c }
+    ensures { (d : Policy) (text s : List ℕ) (k q : ℕ) (j : JoinForm) → KnowsTables text tables.now k s p d j → Said d q said.now → result ≡ through d p (open_column d q) c }
 {
     let width = table_width(tables, p.first);
     if c < width {

@@ -1,12 +1,12 @@
 // What of a table is closed to a purpose (17).
 ghost use Rattle.std.specs.Prelude.{◌<◌, ℕ, length, List, ◌≡◌};
 ghost use Rattle.std.proofs.Math.ListN.{get_elem?};
-ghost use Rattle.document.specs.Lookup.{columnsAt, labellingAt};
-ghost use Rattle.document.specs.Open.{labelOpen, openTo, tableOpen};
+ghost use Rattle.document.specs.Lookup.{columns_at, labelling_at};
+ghost use Rattle.document.specs.Open.{label_open, open_to, table_open};
 ghost use Rattle.document.specs.Policy.{Policy};
 ghost use Rattle.relations.specs.Labels.{Said};
 ghost use Rattle.relations.specs.Notes.{Notes};
-ghost use Rattle.relations.specs.Tables.{Tables, columnLabelIn};
+ghost use Rattle.relations.specs.Tables.{Tables, column_label_in};
 ghost use Rattle.workspace.specs.Tabulated.{tabulated};
 ghost use Rattle.resolving.specs.Promises.{ClosedColumnPromise, ClosedPartPromise, FirstClosedPromise};
 
@@ -20,7 +20,7 @@ use workspace::layout::{TABLE_CELLS, VERDICTS};
 
 // Whether the table is open, as a whole: without labels it is where it is declared public.
 pub(crate) fn table_open(tables: &[usize; TABLE_CELLS], t: usize, said: &[bool; VERDICTS]) -> bool
-    ensures { (d : Policy) (text : List ℕ) (k p : ℕ) → Tables text tables.now k d.tables → Notes tables.now k d.notes → t < k → Said d p said.now → result ≡ tableOpen (openTo d p) (labellingAt d t) }
+    ensures { (d : Policy) (text : List ℕ) (k p : ℕ) → Tables text tables.now k d.tables → Notes tables.now k d.notes → t < k → Said d p said.now → result ≡ table_open (open_to d p) (labelling_at d t) }
 {
     let scheme = table_scheme(tables, t);
     match scheme {
@@ -40,7 +40,7 @@ pub(crate) fn column_open(
     said: &[bool; VERDICTS],
     c: usize,
 ) -> bool
-    ensures { (d : Policy) (text : List ℕ) (k p : ℕ) → Tables text tables.now k d.tables → t < k → Said d p said.now → result ≡ labelOpen d p (get_elem? (tabulated (columnLabelIn tables.now t) (length (columnsAt d t))) c) }
+    ensures { (d : Policy) (text : List ℕ) (k p : ℕ) → Tables text tables.now k d.tables → t < k → Said d p said.now → result ≡ label_open d p (get_elem? (tabulated (column_label_in tables.now t) (length (columns_at d t))) c) }
 {
     if c < table_width(tables, t) {
         return opened_at(said, column_label(tables, t, c));

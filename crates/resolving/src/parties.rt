@@ -3,7 +3,7 @@ ghost use Rattle.document.specs.Policy.{Policy};
 ghost use Rattle.principals.specs.Nodes.{Nodes};
 ghost use Rattle.principals.specs.Users.{Users};
 ghost use Rattle.purpose.specs.Members.{limit};
-ghost use Rattle.query.specs.QueryPlaces.{formAt};
+ghost use Rattle.query.specs.QueryPlaces.{form_at};
 ghost use Rattle.resolving.specs.Acting.{PartiesAre};
 
 use index::counts::Counts;
@@ -32,7 +32,7 @@ pub fn find_parties(
     query: &[u8],
     q: Question,
 ) -> Parties
-    ensures { (d : Policy) → Nodes limit text.now purposes.now c.purposes d.purposes → Nodes 64 text.now roles.now c.roles d.roles → Users d text.now users.now c.users d.users → PartiesAre d query.now (formAt query.now q) c result }
+    ensures { (d : Policy) → Nodes limit text.now purposes.now c.purposes d.purposes → Nodes 64 text.now roles.now c.roles d.roles → Users d text.now users.now c.users d.users → PartiesAre d query.now (form_at query.now q) c result }
 {
     let h = q.head;
     if !user_named(text, users, c.users, query, h.user) {

@@ -1,14 +1,14 @@
 -- The values of a row by the positions where they stand, for each shape of its items. Assumes nothing.
 use Prim.Native.Nat.{◌+◌, suc, zero, ℕ}
-use Rattle.document.specs.ValueFaults.{bracketValues, plainValues, shapedValues, valuesBehindLabel}
-use Rattle.form.proofs.WalkLaws.{item-onward, walk_more, walk-stop}
-use Rattle.form.proofs.WalkSteps.{item-bracket, item-plain, items_more, items-stop, place-bracket, place-plain}
+use Rattle.document.specs.ValueFaults.{bracket_values, plain_values, shaped_values, values_behind_label}
+use Rattle.form.proofs.WalkLaws.{item_onward, walk_more, walk_stop}
+use Rattle.form.proofs.WalkSteps.{item_bracket, item_plain, items_more, items_stop, place_bracket, place_plain}
 use Rattle.form.specs.Form.{Item, labelled, plain}
-use Rattle.form.specs.Walks.{firstIn, isLabelledAt, item_at, itemEndAt, itemsAt, listAt, listUpTo}
-use Rattle.lists.proofs.ListLaws.{map-inv}
+use Rattle.form.specs.Walks.{first_in, is_labelled_at, item_at, item_end_at, items_at, list_at, list_up_to}
+use Rattle.lists.proofs.ListLaws.{map_inv}
 use Rattle.lists.specs.Lists.{holds_of}
-use Rattle.rows.specs.RowWords.{itemValueAt, valuesAt}
-use Rattle.text.specs.Names.{isName}
+use Rattle.rows.specs.RowWords.{item_value_at, values_at}
+use Rattle.text.specs.Names.{is_name}
 use Rattle.text.specs.Words.{Word, written_of}
 use lib.Dec.{eqb}
 use lib.ListN.{get_or, length}
@@ -22,128 +22,128 @@ use native.Mathlib.Omega.{arith}
 
 module _ (s : List ℕ) (at : ℕ) where
   -- without a label, the value stands where the item stands
-  pub value-plain : isLabelledAt s at ≡ false → written_of s at ≡ itemValueAt s at
-  unfolding itemValueAt
-  value-plain e = ap (written_of s) (sym (place-plain s at e))
+  pub value_plain : is_labelled_at s at ≡ false → written_of s at ≡ item_value_at s at
+  unfolding item_value_at
+  value_plain e = ap (written_of s) (sym (place_plain s at e))
 
-  value-bracket : isLabelledAt s at ≡ true → written_of s (firstIn s at) ≡ itemValueAt s at
-  unfolding itemValueAt
-  value-bracket e = ap (written_of s) (sym (place-bracket s at e))
+  value_bracket : is_labelled_at s at ≡ true → written_of s (first_in s at) ≡ item_value_at s at
+  unfolding item_value_at
+  value_bracket e = ap (written_of s) (sym (place_bracket s at e))
 
   -- an item of the shape that is wanted adds its value
-  pub shaped-more : (b : Bool) (is : List Item) → isLabelledAt s at ≡ b → shapedValues b (item_at s at ∷ is) ≡ map (λ ws. itemValueAt s at ∷ ws) (shapedValues b is)
-  unfolding shapedValues bracketValues plainValues
-  shaped-more true is e = ap (λ i. bracketValues (i ∷ is)) (item-bracket s at e) ∙ ap (λ w. map (λ ws. w ∷ ws) (bracketValues is)) (value-bracket e)
-  shaped-more false is e = ap (λ i. plainValues (i ∷ is)) (item-plain s at e) ∙ ap (λ w. map (λ ws. w ∷ ws) (plainValues is)) (value-plain e)
+  pub shaped_more : (b : Bool) (is : List Item) → is_labelled_at s at ≡ b → shaped_values b (item_at s at ∷ is) ≡ map (λ ws. item_value_at s at ∷ ws) (shaped_values b is)
+  unfolding shaped_values bracket_values plain_values
+  shaped_more true is e = ap (λ i. bracket_values (i ∷ is)) (item_bracket s at e) ∙ ap (λ w. map (λ ws. w ∷ ws) (bracket_values is)) (value_bracket e)
+  shaped_more false is e = ap (λ i. plain_values (i ∷ is)) (item_plain s at e) ∙ ap (λ w. map (λ ws. w ∷ ws) (plain_values is)) (value_plain e)
 
   -- one of the other shape leaves none
-  pub shaped-wrong : (b : Bool) (is : List Item) → isLabelledAt s at ≡ not b → shapedValues b (item_at s at ∷ is) ≡ none
-  unfolding shapedValues bracketValues plainValues
-  shaped-wrong true is e = ap (λ i. bracketValues (i ∷ is)) (item-plain s at e)
-  shaped-wrong false is e = ap (λ i. plainValues (i ∷ is)) (item-bracket s at e)
+  pub shaped_wrong : (b : Bool) (is : List Item) → is_labelled_at s at ≡ not b → shaped_values b (item_at s at ∷ is) ≡ none
+  unfolding shaped_values bracket_values plain_values
+  shaped_wrong true is e = ap (λ i. bracket_values (i ∷ is)) (item_plain s at e)
+  shaped_wrong false is e = ap (λ i. plain_values (i ∷ is)) (item_bracket s at e)
 
 -- the shape that is wanted or the other, as the code says it
-pub fits-itself : (b : Bool) → cond b b (not b) ≡ true
-fits-itself true = refl
-fits-itself false = refl
+pub fits_itself : (b : Bool) → cond b b (not b) ≡ true
+fits_itself true = refl
+fits_itself false = refl
 
-pub fits-other : (b : Bool) → cond (not b) b (not b) ≡ false
-fits-other true = refl
-fits-other false = refl
+pub fits_other : (b : Bool) → cond (not b) b (not b) ≡ false
+fits_other true = refl
+fits_other false = refl
 
-pub shaped-nil : (b : Bool) → shapedValues b [] ≡ some []
-unfolding shapedValues bracketValues plainValues
-shaped-nil true = refl
-shaped-nil false = refl
+pub shaped_nil : (b : Bool) → shaped_values b [] ≡ some []
+unfolding shaped_values bracket_values plain_values
+shaped_nil true = refl
+shaped_nil false = refl
 
 -- ---- how many values there are
 
 -- n values before, and so many more
-abbrev pub countFits : ℕ → ℕ → Option (List Word) → Bool
-countFits n width o = holds_of (λ ws. eqb (n + length ws) width) o
+abbrev pub count_fits : ℕ → ℕ → Option (List Word) → Bool
+count_fits n width o = holds_of (λ ws. eqb (n + length ws) width) o
 
 -- there are values, and as many as this
 abbrev pub width_fits : ℕ → Option (List Word) → Bool
 width_fits width o = holds_of (λ ws. eqb (length ws) width) o
 
-pub count-start : (width : ℕ) (o : Option (List Word)) → holds_of (λ ws. eqb (length ws) width) o ≡ countFits 0 width o
+pub count_start : (width : ℕ) (o : Option (List Word)) → holds_of (λ ws. eqb (length ws) width) o ≡ count_fits 0 width o
 unfolding holds_of
-count-start width none = refl
-count-start width (some ws) = ap (λ k. eqb k width) (omega arith)
+count_start width none = refl
+count_start width (some ws) = ap (λ k. eqb k width) (omega arith)
 
-count-more : (n width : ℕ) (w : Word) (o : Option (List Word)) → countFits n width (map (λ ws. w ∷ ws) o) ≡ countFits (n + 1) width o
+count_more : (n width : ℕ) (w : Word) (o : Option (List Word)) → count_fits n width (map (λ ws. w ∷ ws) o) ≡ count_fits (n + 1) width o
 unfolding holds_of
-count-more n width w none = refl
-count-more n width w (some ws) = ap (λ k. eqb k width) (omega arith)
+count_more n width w none = refl
+count_more n width w (some ws) = ap (λ k. eqb k width) (omega arith)
 
 module _ (s : List ℕ) (i n width : ℕ) (b : Bool) where
-  pub fits_more : get_or s i 0 ≡ 32 → isLabelledAt s (i + 1) ≡ b → countFits n width (shapedValues b (itemsAt s i)) ≡ countFits (n + 1) width (shapedValues b (itemsAt s (itemEndAt s (i + 1))))
+  pub fits_more : get_or s i 0 ≡ 32 → is_labelled_at s (i + 1) ≡ b → count_fits n width (shaped_values b (items_at s i)) ≡ count_fits (n + 1) width (shaped_values b (items_at s (item_end_at s (i + 1))))
   fits_more h e =
-      ap (λ is. countFits n width (shapedValues b is)) (items_more s i h)
-      ∙ ap (countFits n width) (shaped-more s (i + 1) b (itemsAt s (itemEndAt s (i + 1))) e)
-      ∙ count-more n width (itemValueAt s (i + 1)) (shapedValues b (itemsAt s (itemEndAt s (i + 1))))
+      ap (λ is. count_fits n width (shaped_values b is)) (items_more s i h)
+      ∙ ap (count_fits n width) (shaped_more s (i + 1) b (items_at s (item_end_at s (i + 1))) e)
+      ∙ count_more n width (item_value_at s (i + 1)) (shaped_values b (items_at s (item_end_at s (i + 1))))
 
-  pub fits-wrong : get_or s i 0 ≡ 32 → isLabelledAt s (i + 1) ≡ not b → countFits n width (shapedValues b (itemsAt s i)) ≡ false
+  pub fits_wrong : get_or s i 0 ≡ 32 → is_labelled_at s (i + 1) ≡ not b → count_fits n width (shaped_values b (items_at s i)) ≡ false
   unfolding holds_of
-  fits-wrong h e =
-      ap (λ is. countFits n width (shapedValues b is)) (items_more s i h)
-      ∙ ap (countFits n width) (shaped-wrong s (i + 1) b (itemsAt s (itemEndAt s (i + 1))) e)
+  fits_wrong h e =
+      ap (λ is. count_fits n width (shaped_values b is)) (items_more s i h)
+      ∙ ap (count_fits n width) (shaped_wrong s (i + 1) b (items_at s (item_end_at s (i + 1))) e)
 
-  pub fits-stop : (get_or s i 0 ≡ 32 → ⊥) → countFits n width (shapedValues b (itemsAt s i)) ≡ eqb n width
+  pub fits_stop : (get_or s i 0 ≡ 32 → ⊥) → count_fits n width (shaped_values b (items_at s i)) ≡ eqb n width
   unfolding holds_of
-  fits-stop h =
-      ap (λ is. countFits n width (shapedValues b is)) (items-stop s i h)
-      ∙ ap (countFits n width) (shaped-nil b)
+  fits_stop h =
+      ap (λ is. count_fits n width (shaped_values b is)) (items_stop s i h)
+      ∙ ap (count_fits n width) (shaped_nil b)
       ∙ ap (λ k. eqb k width) (omega arith)
 
 -- ---- the values by position
 
 module _ (s : List ℕ) (at : ℕ) where
-  pub values-more : get_or s at 0 ≡ 32 → valuesAt s at ≡ itemValueAt s (at + 1) ∷ valuesAt s (itemEndAt s (at + 1))
-  unfolding valuesAt
-  values-more h = walk_more itemValueAt itemEndAt s (item-onward s) at h
+  pub values_more : get_or s at 0 ≡ 32 → values_at s at ≡ item_value_at s (at + 1) ∷ values_at s (item_end_at s (at + 1))
+  unfolding values_at
+  values_more h = walk_more item_value_at item_end_at s (item_onward s) at h
 
-  pub values-stop : (get_or s at 0 ≡ 32 → ⊥) → valuesAt s at ≡ []
-  unfolding valuesAt
-  values-stop h = walk-stop itemValueAt itemEndAt s (item-onward s) at h
+  pub values_stop : (get_or s at 0 ≡ 32 → ⊥) → values_at s at ≡ []
+  unfolding values_at
+  values_stop h = walk_stop item_value_at item_end_at s (item_onward s) at h
 
 -- items that are all of the shape have these values
-shaped-step : (b : Bool) (s : List ℕ) (p : ℕ) (is : List Item) (vs ws : List Word) → isLabelledAt s p ≡ b → shapedValues b (item_at s p ∷ is) ≡ some ws
-    → ((us : List Word) → shapedValues b is ≡ some us → vs ≡ us) → itemValueAt s p ∷ vs ≡ ws
-shaped-step b s p is vs ws e h rest =
-    let m = map-inv (λ us. itemValueAt s p ∷ us) (shapedValues b is) ws (sym (shaped-more s p b is e) ∙ h) in
-    ap (λ us. itemValueAt s p ∷ us) (rest m.0 m.1) ∙ sym m.2
+shaped_step : (b : Bool) (s : List ℕ) (p : ℕ) (is : List Item) (vs ws : List Word) → is_labelled_at s p ≡ b → shaped_values b (item_at s p ∷ is) ≡ some ws
+    → ((us : List Word) → shaped_values b is ≡ some us → vs ≡ us) → item_value_at s p ∷ vs ≡ ws
+shaped_step b s p is vs ws e h rest =
+    let m = map_inv (λ us. item_value_at s p ∷ us) (shaped_values b is) ws (sym (shaped_more s p b is e) ∙ h) in
+    ap (λ us. item_value_at s p ∷ us) (rest m.0 m.1) ∙ sym m.2
 
-shaped-up-to : (b : Bool) (s : List ℕ) (n at : ℕ) (ws : List Word) → shapedValues b (listUpTo item_at itemEndAt n s at) ≡ some ws → listUpTo itemValueAt itemEndAt n s at ≡ ws
-unfolding listUpTo
-shaped-up-to b s zero at ws h = some-injective _ _ (sym (shaped-nil b) ∙ h)
-shaped-up-to b s (suc n) at ws h = go (eqb (get_or s at 0) 32) (isLabelledAt s (at + 1)) refl b h (shaped-up-to b s n (itemEndAt s (at + 1)))
+shaped_up_to : (b : Bool) (s : List ℕ) (n at : ℕ) (ws : List Word) → shaped_values b (list_up_to item_at item_end_at n s at) ≡ some ws → list_up_to item_value_at item_end_at n s at ≡ ws
+unfolding list_up_to
+shaped_up_to b s zero at ws h = some-injective _ _ (sym (shaped_nil b) ∙ h)
+shaped_up_to b s (suc n) at ws h = go (eqb (get_or s at 0) 32) (is_labelled_at s (at + 1)) refl b h (shaped_up_to b s n (item_end_at s (at + 1)))
   where
-    go : (t o : Bool) → isLabelledAt s (at + 1) ≡ o → (b : Bool) → shapedValues b (cond t (item_at s (at + 1) ∷ listUpTo item_at itemEndAt n s (itemEndAt s (at + 1))) []) ≡ some ws
-        → ((vs : List Word) → shapedValues b (listUpTo item_at itemEndAt n s (itemEndAt s (at + 1))) ≡ some vs → listUpTo itemValueAt itemEndAt n s (itemEndAt s (at + 1)) ≡ vs)
-        → cond t (itemValueAt s (at + 1) ∷ listUpTo itemValueAt itemEndAt n s (itemEndAt s (at + 1))) [] ≡ ws
-    go false o e b h rest = some-injective _ _ (sym (shaped-nil b) ∙ h)
-    go true true e true h rest = shaped-step true s (at + 1) _ _ ws e h rest
-    go true false e false h rest = shaped-step false s (at + 1) _ _ ws e h rest
-    go true true e false h rest = absurd (none-ne-some _ (sym (shaped-wrong s (at + 1) false _ e) ∙ h))
-    go true false e true h rest = absurd (none-ne-some _ (sym (shaped-wrong s (at + 1) true _ e) ∙ h))
+    go : (t o : Bool) → is_labelled_at s (at + 1) ≡ o → (b : Bool) → shaped_values b (cond t (item_at s (at + 1) ∷ list_up_to item_at item_end_at n s (item_end_at s (at + 1))) []) ≡ some ws
+        → ((vs : List Word) → shaped_values b (list_up_to item_at item_end_at n s (item_end_at s (at + 1))) ≡ some vs → list_up_to item_value_at item_end_at n s (item_end_at s (at + 1)) ≡ vs)
+        → cond t (item_value_at s (at + 1) ∷ list_up_to item_value_at item_end_at n s (item_end_at s (at + 1))) [] ≡ ws
+    go false o e b h rest = some-injective _ _ (sym (shaped_nil b) ∙ h)
+    go true true e true h rest = shaped_step true s (at + 1) _ _ ws e h rest
+    go true false e false h rest = shaped_step false s (at + 1) _ _ ws e h rest
+    go true true e false h rest = absurd (none-ne-some _ (sym (shaped_wrong s (at + 1) false _ e) ∙ h))
+    go true false e true h rest = absurd (none-ne-some _ (sym (shaped_wrong s (at + 1) true _ e) ∙ h))
 
-pub shaped-at : (b : Bool) (s : List ℕ) (at : ℕ) (ws : List Word) → shapedValues b (itemsAt s at) ≡ some ws → valuesAt s at ≡ ws
-unfolding itemsAt valuesAt listAt
-shaped-at b s at ws h = shaped-up-to b s (length s) at ws h
+pub shaped_at : (b : Bool) (s : List ℕ) (at : ℕ) (ws : List Word) → shaped_values b (items_at s at) ≡ some ws → values_at s at ≡ ws
+unfolding items_at values_at list_at
+shaped_at b s at ws h = shaped_up_to b s (length s) at ws h
 
 -- ---- a row whose first item is its label
 
 -- what stands behind a first item has these values
-behind-item : (values : List Item → Option (List Word)) (i : Item) (is : List Item) (ws : List Word) → valuesBehindLabel values (i ∷ is) ≡ some ws → values is ≡ some ws
-unfolding valuesBehindLabel
-behind-item values (plain w) is ws h = go (isName w.bytes) h
+behind_item : (values : List Item → Option (List Word)) (i : Item) (is : List Item) (ws : List Word) → values_behind_label values (i ∷ is) ≡ some ws → values is ≡ some ws
+unfolding values_behind_label
+behind_item values (plain w) is ws h = go (is_name w.bytes) h
   where
     go : (t : Bool) → cond t (values is) none ≡ some ws → values is ≡ some ws
     go true h = h
     go false h = absurd (none-ne-some _ h)
-behind-item values (labelled v l) is ws h = absurd (none-ne-some _ h)
+behind_item values (labelled v l) is ws h = absurd (none-ne-some _ h)
 
 module _ (s : List ℕ) (at : ℕ) where
-  pub behind-values : get_or s at 0 ≡ 32 → (b : Bool) (ws : List Word) → valuesBehindLabel (shapedValues b) (itemsAt s at) ≡ some ws → valuesAt s (itemEndAt s (at + 1)) ≡ ws
-  behind-values e b ws h = shaped-at b s (itemEndAt s (at + 1)) ws (behind-item (shapedValues b) (item_at s (at + 1)) _ ws (ap (valuesBehindLabel (shapedValues b)) (sym (items_more s at e)) ∙ h))
+  pub behind_values : get_or s at 0 ≡ 32 → (b : Bool) (ws : List Word) → values_behind_label (shaped_values b) (items_at s at) ≡ some ws → values_at s (item_end_at s (at + 1)) ≡ ws
+  behind_values e b ws h = shaped_at b s (item_end_at s (at + 1)) ws (behind_item (shaped_values b) (item_at s (at + 1)) _ ws (ap (values_behind_label (shaped_values b)) (sym (items_more s at e)) ∙ h))

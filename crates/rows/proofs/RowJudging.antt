@@ -8,221 +8,221 @@ use mathlib.Core.List.{List, [], ◌∷◌}
 use mathlib.Core.Option.{Option, get_or, none, some}
 use mathlib.Core.Path.{◌∙◌, ◌≡◌, ap, refl, subst, sym}
 use native.Mathlib.Omega.{arith}
-use Rattle.document.specs.AmountFaults.{brokenRange, noSuchDate}
-use Rattle.document.specs.Bounds.{lateAttr, overBound, secondRoot}
-use Rattle.document.specs.Check.{checkForm}
-use Rattle.document.specs.Lookup.{columnsAt, columnsOf, label_of, schemeAt, schemeOf, table_of}
+use Rattle.document.specs.AmountFaults.{broken_range, no_such_date}
+use Rattle.document.specs.Bounds.{late_attr, over_bound, second_root}
+use Rattle.document.specs.Check.{check_form}
+use Rattle.document.specs.Lookup.{columns_at, columns_of, label_of, scheme_at, scheme_of, table_of}
 use Rattle.document.specs.Meaning.{add}
-use Rattle.document.specs.NameFaults.{rowLabels, taken, unknown}
+use Rattle.document.specs.NameFaults.{row_labels, taken, unknown}
 use Rattle.document.specs.NoteFaults.{misplaced}
 use Rattle.document.specs.Policy.{Doc}
-use Rattle.document.specs.TypeFaults.{mistypedValue, wrongType}
-use Rattle.document.specs.ValueFaults.{misfit, rowValues}
-use Rattle.stepping.proofs.Judging.{judge-bound, judge-date, judge-fine, judge-order, judge-type, judge-unknown, judge-values}
-use Rattle.rows.proofs.RowChecks.{firstBroken, firstUnreal}
+use Rattle.document.specs.TypeFaults.{mistyped_value, wrong_type}
+use Rattle.document.specs.ValueFaults.{misfit, row_values}
+use Rattle.stepping.proofs.Judging.{judge_bound, judge_date, judge_fine, judge_order, judge_type, judge_unknown, judge_values}
+use Rattle.rows.proofs.RowChecks.{first_broken, first_unreal}
 use Rattle.rows.proofs.RowItems.{width_fits}
-use Rattle.rows.specs.RowWords.{valuesAt}
-use Rattle.rows.specs.Promises.{DatesJudged, dateVerdict}
+use Rattle.rows.specs.RowWords.{values_at}
+use Rattle.rows.specs.Promises.{DatesJudged, date_verdict}
 use Rattle.form.specs.Form.{Item, Scheme, row}
 use Rattle.stepping.specs.Judged.{ReachesBy, RoomFor, judged}
 use Rattle.stepping.specs.Places.{Near}
 use Rattle.stepping.specs.declared.fault.Verdict.{Verdict}
-use Rattle.relations.proofs.TableLaws.{scheme-read, width_read}
-use Rattle.workspace.specs.Found.{FoundBelow, foundAs}
-use Rattle.relations.specs.Tables.{Cut, Tables, columnCountIn, columnLabelIn, columnLabelsIn, schemeBy, schemeIn, tableLabelIn}
+use Rattle.relations.proofs.TableLaws.{scheme_read_lem, width_read}
+use Rattle.workspace.specs.Found.{FoundBelow, found_as}
+use Rattle.relations.specs.Tables.{Cut, Tables, column_count_in, column_label_in, column_labels_in, scheme_by, scheme_in, table_label_in}
 use Rattle.workspace.specs.Tabulated.{tabulated}
 use Rattle.workspace.specs.declared.found.Found.{Found}
 use Rattle.workspace.specs.declared.found.Found.TheVariants as found
 use Rattle.text.specs.declared.offending.Offending.{Offending}
 use Rattle.text.specs.declared.offending.Offending.TheVariants as offending
 use Rattle.form.specs.declared.lines.Scheme as coded
-use Rattle.lists.proofs.ListLaws.{holdsOf-some}
+use Rattle.lists.proofs.ListLaws.{holds_of_some}
 use Rattle.lists.specs.Lists.{or_zero, there}
-use Rattle.text.proofs.OffendingLaws.{leftmost-fail, leftmost-on}
-use Rattle.text.specs.CodeEnds.{offendingOf, offendingValue}
+use Rattle.text.proofs.OffendingLaws.{leftmost_fail, leftmost_on}
+use Rattle.text.specs.CodeEnds.{offending_of, offending_value}
 use Rattle.text.specs.Offending.{leftmost, missing, unless}
-use Rattle.text.specs.Refusal.{accepted, document, pointing, pointingAll, refused}
+use Rattle.text.specs.Refusal.{accepted, document, pointing, pointing_all, refused}
 use Rattle.text.specs.Words.{Word, word_of, written_of}
 
 -- a number that was found is below k
-below_at : (r : Found) (x k : ℕ) → r ≡ found.At x → FoundBelow r k → x < k
-below_at r x k e b = subst (λ (f : Found). FoundBelow f k) e b
+below_at_lem : (r : Found) (x k : ℕ) → r ≡ found.At x → FoundBelow r k → x < k
+below_at_lem r x k e b = subst (λ (f : Found). FoundBelow f k) e b
 
 module _ (d : Doc) (line : List ℕ) (w : Word) (is : List Item) (k : ℕ) (counted : k ≡ length d.rows) where
-  pub row-over : 1024 ≤ k → checkForm d line (row w is) ≡ refused (pointingAll 3 document line)
-  unfolding overBound
-  row-over h = judge-bound d line (row w is) (le-leb 1024 (length d.rows) (omega (arith, h, counted)))
+  pub row_over : 1024 ≤ k → check_form d line (row w is) ≡ refused (pointing_all 3 document line)
+  unfolding over_bound
+  row_over h = judge_bound d line (row w is) (le-leb 1024 (length d.rows) (omega (arith, h, counted)))
 
   module _ (room : k < 1024) where
-    row_room : overBound d (row w is) ≡ false
-    unfolding overBound
+    row_room : over_bound d (row w is) ≡ false
+    unfolding over_bound
     row_room = lt-leb 1024 (length d.rows) (omega (arith, room, counted))
 
     row_new : taken d.policy (row w is) ≡ none
     unfolding taken
     row_new = refl
 
-    pub row-no-table : table_of d.policy w ≡ none → checkForm d line (row w is) ≡ refused (pointing 5 document w)
+    pub row_no_table : table_of d.policy w ≡ none → check_form d line (row w is) ≡ refused (pointing 5 document w)
     unfolding there unknown
-    row-no-table e = judge-unknown d line (row w is) row_room row_new w (none-there (missing (λ v. there (label_of d.policy v)) (rowLabels (schemeOf d.policy w) is)))
+    row_no_table e = judge_unknown d line (row w is) row_room row_new w (none_there (missing (λ v. there (label_of d.policy v)) (row_labels (scheme_of d.policy w) is)))
       where
-        none-there : (o : Option Word) → leftmost (unless (there (table_of d.policy w)) w ∷ o ∷ []) ≡ some w
-        none-there o = leftmost-fail (there (table_of d.policy w)) w (o ∷ []) (ap there e)
+        none_there : (o : Option Word) → leftmost (unless (there (table_of d.policy w)) w ∷ o ∷ []) ≡ some w
+        none_there o = leftmost_fail (there (table_of d.policy w)) w (o ∷ []) (ap there e)
 
     -- the table is known
-    module _ (x : ℕ) (e : table_of d.policy w ≡ some x) (scheme : Scheme ℕ) (s : schemeAt d.policy x ≡ scheme) where
-      scheme-is : schemeOf d.policy w ≡ scheme
-      unfolding schemeOf or_zero
-      scheme-is = ap (λ o. schemeAt d.policy (or_zero o)) e ∙ s
+    module _ (x : ℕ) (e : table_of d.policy w ≡ some x) (scheme : Scheme ℕ) (s : scheme_at d.policy x ≡ scheme) where
+      scheme_is : scheme_of d.policy w ≡ scheme
+      unfolding scheme_of or_zero
+      scheme_is = ap (λ o. scheme_at d.policy (or_zero o)) e ∙ s
 
-      columns-are : columnsOf d.policy w ≡ columnsAt d.policy x
-      unfolding columnsOf or_zero
-      columns-are = ap (λ o. columnsAt d.policy (or_zero o)) e
+      columns_are : columns_of d.policy w ≡ columns_at d.policy x
+      unfolding columns_of or_zero
+      columns_are = ap (λ o. columns_at d.policy (or_zero o)) e
 
-      unknown-is : unknown d.policy (row w is) ≡ missing (λ v. there (label_of d.policy v)) (rowLabels scheme is)
+      unknown_is : unknown d.policy (row w is) ≡ missing (λ v. there (label_of d.policy v)) (row_labels scheme is)
       unfolding unknown there
-      unknown-is =
-          leftmost-on (there (table_of d.policy w)) w (missing (λ v. there (label_of d.policy v)) (rowLabels (schemeOf d.policy w) is)) (ap there e)
-          ∙ ap (λ m. missing (λ v. there (label_of d.policy v)) (rowLabels m is)) scheme-is
+      unknown_is =
+          leftmost_on (there (table_of d.policy w)) w (missing (λ v. there (label_of d.policy v)) (row_labels (scheme_of d.policy w) is)) (ap there e)
+          ∙ ap (λ m. missing (λ v. there (label_of d.policy v)) (row_labels m is)) scheme_is
 
-      pub row-unknown : (v : Word) → missing (λ v. there (label_of d.policy v)) (rowLabels scheme is) ≡ some v → checkForm d line (row w is) ≡ refused (pointing 5 document v)
-      row-unknown v m = judge-unknown d line (row w is) row_room row_new v (unknown-is ∙ m)
+      pub row_unknown : (v : Word) → missing (λ v. there (label_of d.policy v)) (row_labels scheme is) ≡ some v → check_form d line (row w is) ≡ refused (pointing 5 document v)
+      row_unknown v m = judge_unknown d line (row w is) row_room row_new v (unknown_is ∙ m)
 
       -- its labels are known
-      module _ (l : missing (λ v. there (label_of d.policy v)) (rowLabels scheme is) ≡ none) where
-        one-root : secondRoot d.policy (row w is) ≡ false
-        unfolding secondRoot
-        one-root = refl
+      module _ (l : missing (λ v. there (label_of d.policy v)) (row_labels scheme is) ≡ none) where
+        one_root : second_root d.policy (row w is) ≡ false
+        unfolding second_root
+        one_root = refl
 
-        misfit-is : misfit d.policy (row w is) ≡ not (width_fits (length (columnsAt d.policy x)) (rowValues scheme is))
+        misfit_is : misfit d.policy (row w is) ≡ not (width_fits (length (columns_at d.policy x)) (row_values scheme is))
         unfolding misfit
-        misfit-is = λ j. not (width_fits (length (columns-are j)) (rowValues (scheme-is j) is))
+        misfit_is = λ j. not (width_fits (length (columns_are j)) (row_values (scheme_is j) is))
 
-        pub row-misfit : width_fits (length (columnsAt d.policy x)) (rowValues scheme is) ≡ false → checkForm d line (row w is) ≡ refused (pointingAll 7 document line)
-        row-misfit f = judge-values d line (row w is) row_room row_new (unknown-is ∙ l) one-root (misfit-is ∙ ap not f)
+        pub row_misfit : width_fits (length (columns_at d.policy x)) (row_values scheme is) ≡ false → check_form d line (row w is) ≡ refused (pointing_all 7 document line)
+        row_misfit f = judge_values d line (row w is) row_room row_new (unknown_is ∙ l) one_root (misfit_is ∙ ap not f)
 
         -- its values are as many as the columns
-        module _ (f : width_fits (length (columnsAt d.policy x)) (rowValues scheme is) ≡ true) (ws : List Word) (v : rowValues scheme is ≡ some ws) where
-          types_are : wrongType d.policy (row w is) ≡ mistypedValue (columnsAt d.policy x) ws
-          unfolding wrongType
-          types_are = (λ j. mistypedValue (columns-are j) (get_or (rowValues (scheme-is j) is) [])) ∙ ap (λ o. mistypedValue (columnsAt d.policy x) (get_or o [])) v
+        module _ (f : width_fits (length (columns_at d.policy x)) (row_values scheme is) ≡ true) (ws : List Word) (v : row_values scheme is ≡ some ws) where
+          types_are : wrong_type d.policy (row w is) ≡ mistyped_value (columns_at d.policy x) ws
+          unfolding wrong_type
+          types_are = (λ j. mistyped_value (columns_are j) (get_or (row_values (scheme_is j) is) [])) ∙ ap (λ o. mistyped_value (columns_at d.policy x) (get_or o [])) v
 
-          pub row-mistyped : (u : Word) → mistypedValue (columnsAt d.policy x) ws ≡ some u → checkForm d line (row w is) ≡ refused (pointing 8 document u)
-          row-mistyped u m = judge-type d line (row w is) row_room row_new (unknown-is ∙ l) one-root (misfit-is ∙ ap not f) u (types_are ∙ m)
+          pub row_mistyped : (u : Word) → mistyped_value (columns_at d.policy x) ws ≡ some u → check_form d line (row w is) ≡ refused (pointing 8 document u)
+          row_mistyped u m = judge_type d line (row w is) row_room row_new (unknown_is ∙ l) one_root (misfit_is ∙ ap not f) u (types_are ∙ m)
 
           -- they are typed right
-          module _ (m : mistypedValue (columnsAt d.policy x) ws ≡ none) where
-            order_is : brokenRange d.policy (row w is) ≡ firstBroken ws
-            unfolding brokenRange
-            order_is = ap (λ z. firstBroken (get_or (rowValues z is) [])) scheme-is ∙ ap (λ o. firstBroken (get_or o [])) v
+          module _ (m : mistyped_value (columns_at d.policy x) ws ≡ none) where
+            order_is : broken_range d.policy (row w is) ≡ first_broken ws
+            unfolding broken_range
+            order_is = ap (λ z. first_broken (get_or (row_values z is) [])) scheme_is ∙ ap (λ o. first_broken (get_or o [])) v
 
-            pub row-broken : (u : Word) → firstBroken ws ≡ some u → checkForm d line (row w is) ≡ refused (pointing 28 document u)
-            row-broken u o = judge-order d line (row w is) row_room row_new (unknown-is ∙ l) one-root (misfit-is ∙ ap not f) (types_are ∙ m) u (order_is ∙ o)
+            pub row_broken : (u : Word) → first_broken ws ≡ some u → check_form d line (row w is) ≡ refused (pointing 28 document u)
+            row_broken u o = judge_order d line (row w is) row_room row_new (unknown_is ∙ l) one_root (misfit_is ∙ ap not f) (types_are ∙ m) u (order_is ∙ o)
 
             -- and in order
-            module _ (o : firstBroken ws ≡ none) where
-              dates-are : noSuchDate d.policy (row w is) ≡ firstUnreal ws
-              unfolding noSuchDate
-              dates-are = ap (λ z. firstUnreal (get_or (rowValues z is) [])) scheme-is ∙ ap (λ q. firstUnreal (get_or q [])) v
+            module _ (o : first_broken ws ≡ none) where
+              dates_are : no_such_date d.policy (row w is) ≡ first_unreal ws
+              unfolding no_such_date
+              dates_are = ap (λ z. first_unreal (get_or (row_values z is) [])) scheme_is ∙ ap (λ q. first_unreal (get_or q [])) v
 
-              pub row-unreal : (u : Word) → firstUnreal ws ≡ some u → checkForm d line (row w is) ≡ refused (pointing 31 document u)
-              row-unreal u q = judge-date d line (row w is) row_room row_new (unknown-is ∙ l) one-root (misfit-is ∙ ap not f) (types_are ∙ m) (order_is ∙ o) u (dates-are ∙ q)
+              pub row_unreal : (u : Word) → first_unreal ws ≡ some u → check_form d line (row w is) ≡ refused (pointing 31 document u)
+              row_unreal u q = judge_date d line (row w is) row_room row_new (unknown_is ∙ l) one_root (misfit_is ∙ ap not f) (types_are ∙ m) (order_is ∙ o) u (dates_are ∙ q)
 
-              pub row_fine : firstUnreal ws ≡ none → checkForm d line (row w is) ≡ accepted (add d (row w is))
-              unfolding lateAttr misplaced
-              row_fine q = judge-fine d line (row w is) row_room row_new (unknown-is ∙ l) one-root (misfit-is ∙ ap not f) (types_are ∙ m) (order_is ∙ o) (dates-are ∙ q) late refl
+              pub row_fine : first_unreal ws ≡ none → check_form d line (row w is) ≡ accepted (add d (row w is))
+              unfolding late_attr misplaced
+              row_fine q = judge_fine d line (row w is) row_room row_new (unknown_is ∙ l) one_root (misfit_is ∙ ap not f) (types_are ∙ m) (order_is ∙ o) (dates_are ∙ q) late refl
                 where
-                  late : lateAttr d.policy (row w is) ≡ false
+                  late : late_attr d.policy (row w is) ≡ false
                   late = refl
 
 -- ---- what the code found of the table
 
 -- what is read of the labels and of the values by the scheme of the table of number x
 module _ (text tables line : List ℕ) (n k t : ℕ) (is : List Item) (d : Doc) (h : Tables text tables n d.policy.tables) (counted : k ≡ length d.rows) (room : k < 1024)
-    (r : Found) (lookup : foundAs r ≡ table_of d.policy (word_of line t)) (below : FoundBelow r n) (x : ℕ) (told : r ≡ found.At x)
-    (s : coded.Scheme) (reads : x < 8 → schemeIn tables x ≡ schemeBy s (tableLabelIn tables x) (columnLabelsIn tables x))
-    (u : Offending) (label : (l : ℕ) (ls : List ℕ) → offendingOf line u ≡ missing (λ w. there (label_of d.policy w)) (rowLabels (schemeBy s l ls) is)) where
-  abbrev schemeRead : Scheme ℕ
-  schemeRead = schemeBy s (tableLabelIn tables x) (tabulated (columnLabelIn tables x) (length (columnsAt d.policy x)))
+    (r : Found) (lookup : found_as r ≡ table_of d.policy (word_of line t)) (below : FoundBelow r n) (x : ℕ) (told : r ≡ found.At x)
+    (s : coded.Scheme) (reads : x < 8 → scheme_in tables x ≡ scheme_by s (table_label_in tables x) (column_labels_in tables x))
+    (u : Offending) (label : (l : ℕ) (ls : List ℕ) → offending_of line u ≡ missing (λ w. there (label_of d.policy w)) (row_labels (scheme_by s l ls) is)) where
+  abbrev scheme_read : Scheme ℕ
+  scheme_read = scheme_by s (table_label_in tables x) (tabulated (column_label_in tables x) (length (columns_at d.policy x)))
 
   inside : x < n
-  inside = below_at r x n told below
+  inside = below_at_lem r x n told below
 
   table_is : table_of d.policy (word_of line t) ≡ some x
-  table_is = sym lookup ∙ ap foundAs told
+  table_is = sym lookup ∙ ap found_as told
 
-  scheme-of : schemeAt d.policy x ≡ schemeRead
-  scheme-of = scheme-read text tables n x d.policy h inside s reads
+  scheme_of_lem : scheme_at d.policy x ≡ scheme_read
+  scheme_of_lem = scheme_read_lem text tables n x d.policy h inside s reads
 
-  label_is : offendingOf line u ≡ missing (λ w. there (label_of d.policy w)) (rowLabels schemeRead is)
-  label_is = label (tableLabelIn tables x) (tabulated (columnLabelIn tables x) (length (columnsAt d.policy x)))
+  label_is : offending_of line u ≡ missing (λ w. there (label_of d.policy w)) (row_labels scheme_read is)
+  label_is = label (table_label_in tables x) (tabulated (column_label_in tables x) (length (columns_at d.policy x)))
 
-  pub found-unknown : (p : ℕ) → u ≡ offending.At p → checkForm d line (row (word_of line t) is) ≡ refused (pointing 5 document (word_of line p))
-  found-unknown p e = row-unknown d line (word_of line t) is k counted room x table_is schemeRead scheme-of (word_of line p) (sym label_is ∙ ap (offendingOf line) e)
+  pub found_unknown : (p : ℕ) → u ≡ offending.At p → check_form d line (row (word_of line t) is) ≡ refused (pointing 5 document (word_of line p))
+  found_unknown p e = row_unknown d line (word_of line t) is k counted room x table_is scheme_read scheme_of_lem (word_of line p) (sym label_is ∙ ap (offending_of line) e)
 
-  module _ (none-unknown : u ≡ offending.Nothing) (width : ℕ) (wide : Cut 16 x 8 (columnCountIn tables x) width)
-      (b : Bool) (fits : (l : ℕ) (ls : List ℕ) → b ≡ width_fits width (rowValues (schemeBy s l ls) is)) where
-    labelled-all : missing (λ w. there (label_of d.policy w)) (rowLabels schemeRead is) ≡ none
-    labelled-all = sym label_is ∙ ap (offendingOf line) none-unknown
+  module _ (none_unknown : u ≡ offending.Nothing) (width : ℕ) (wide : Cut 16 x 8 (column_count_in tables x) width)
+      (b : Bool) (fits : (l : ℕ) (ls : List ℕ) → b ≡ width_fits width (row_values (scheme_by s l ls) is)) where
+    labelled_all : missing (λ w. there (label_of d.policy w)) (row_labels scheme_read is) ≡ none
+    labelled_all = sym label_is ∙ ap (offending_of line) none_unknown
 
-    fits-is : width_fits (length (columnsAt d.policy x)) (rowValues schemeRead is) ≡ b
-    fits-is =
-        sym (fits (tableLabelIn tables x) (tabulated (columnLabelIn tables x) (length (columnsAt d.policy x)))
-        ∙ ap (λ m. width_fits m (rowValues schemeRead is)) (width_read text tables n x d.policy h inside width wide))
+    fits_is : width_fits (length (columns_at d.policy x)) (row_values scheme_read is) ≡ b
+    fits_is =
+        sym (fits (table_label_in tables x) (tabulated (column_label_in tables x) (length (columns_at d.policy x)))
+        ∙ ap (λ m. width_fits m (row_values scheme_read is)) (width_read text tables n x d.policy h inside width wide))
 
-    pub found-misfit : b ≡ false → checkForm d line (row (word_of line t) is) ≡ refused (pointingAll 7 document line)
-    found-misfit e = row-misfit d line (word_of line t) is k counted room x table_is schemeRead scheme-of labelled-all (fits-is ∙ e)
+    pub found_misfit : b ≡ false → check_form d line (row (word_of line t) is) ≡ refused (pointing_all 7 document line)
+    found_misfit e = row_misfit d line (word_of line t) is k counted room x table_is scheme_read scheme_of_lem labelled_all (fits_is ∙ e)
 
-    module _ (fit : b ≡ true) (start : ℕ) (values : (l : ℕ) (ls : List ℕ) (ws : List Word) → rowValues (schemeBy s l ls) is ≡ some ws → valuesAt line start ≡ ws)
-        (m : Offending) (types : x < n → offendingValue line m ≡ mistypedValue (columnsAt d.policy x) (valuesAt line start)) where
-      found-values : (ws : List Word) × (rowValues schemeRead is ≡ some ws) × (eqb (length ws) (length (columnsAt d.policy x)) ≡ true)
-      found-values = holdsOf-some (λ ws. eqb (length ws) (length (columnsAt d.policy x))) (rowValues schemeRead is) (fits-is ∙ fit)
+    module _ (fit : b ≡ true) (start : ℕ) (values : (l : ℕ) (ls : List ℕ) (ws : List Word) → row_values (scheme_by s l ls) is ≡ some ws → values_at line start ≡ ws)
+        (m : Offending) (types : x < n → offending_value line m ≡ mistyped_value (columns_at d.policy x) (values_at line start)) where
+      found_values : (ws : List Word) × (row_values scheme_read is ≡ some ws) × (eqb (length ws) (length (columns_at d.policy x)) ≡ true)
+      found_values = holds_of_some (λ ws. eqb (length ws) (length (columns_at d.policy x))) (row_values scheme_read is) (fits_is ∙ fit)
 
-      values-are : valuesAt line start ≡ found-values.0
-      values-are = values (tableLabelIn tables x) (tabulated (columnLabelIn tables x) (length (columnsAt d.policy x))) found-values.0 found-values.1
+      values_are : values_at line start ≡ found_values.0
+      values_are = values (table_label_in tables x) (tabulated (column_label_in tables x) (length (columns_at d.policy x))) found_values.0 found_values.1
 
-      types_of : offendingValue line m ≡ mistypedValue (columnsAt d.policy x) found-values.0
-      types_of = types inside ∙ ap (mistypedValue (columnsAt d.policy x)) values-are
+      types_of : offending_value line m ≡ mistyped_value (columns_at d.policy x) found_values.0
+      types_of = types inside ∙ ap (mistyped_value (columns_at d.policy x)) values_are
 
-      pub found-mistyped : (p : ℕ) → m ≡ offending.At p → checkForm d line (row (word_of line t) is) ≡ refused (pointing 8 document (written_of line p))
-      found-mistyped p e =
-          row-mistyped d line (word_of line t) is k counted room x table_is schemeRead scheme-of labelled-all (fits-is ∙ fit) found-values.0 found-values.1 (written_of line p)
-          (sym types_of ∙ ap (offendingValue line) e)
+      pub found_mistyped : (p : ℕ) → m ≡ offending.At p → check_form d line (row (word_of line t) is) ≡ refused (pointing 8 document (written_of line p))
+      found_mistyped p e =
+          row_mistyped d line (word_of line t) is k counted room x table_is scheme_read scheme_of_lem labelled_all (fits_is ∙ fit) found_values.0 found_values.1 (written_of line p)
+          (sym types_of ∙ ap (offending_value line) e)
 
-      module _ (none-mistyped : m ≡ offending.Nothing) (o : Offending) (order : offendingValue line o ≡ firstBroken (valuesAt line start)) where
-        order-of : offendingValue line o ≡ firstBroken found-values.0
-        order-of = order ∙ ap firstBroken values-are
+      module _ (none_mistyped : m ≡ offending.Nothing) (o : Offending) (order : offending_value line o ≡ first_broken (values_at line start)) where
+        order_of : offending_value line o ≡ first_broken found_values.0
+        order_of = order ∙ ap first_broken values_are
 
-        typed-all : mistypedValue (columnsAt d.policy x) found-values.0 ≡ none
-        typed-all = sym types_of ∙ ap (offendingValue line) none-mistyped
+        typed_all : mistyped_value (columns_at d.policy x) found_values.0 ≡ none
+        typed_all = sym types_of ∙ ap (offending_value line) none_mistyped
 
-        pub found-broken : (p : ℕ) → o ≡ offending.At p → checkForm d line (row (word_of line t) is) ≡ refused (pointing 28 document (written_of line p))
-        found-broken p e =
-            row-broken d line (word_of line t) is k counted room x table_is schemeRead scheme-of labelled-all (fits-is ∙ fit) found-values.0 found-values.1 typed-all (written_of line p)
-            (sym order-of ∙ ap (offendingValue line) e)
+        pub found_broken : (p : ℕ) → o ≡ offending.At p → check_form d line (row (word_of line t) is) ≡ refused (pointing 28 document (written_of line p))
+        found_broken p e =
+            row_broken d line (word_of line t) is k counted room x table_is scheme_read scheme_of_lem labelled_all (fits_is ∙ fit) found_values.0 found_values.1 typed_all (written_of line p)
+            (sym order_of ∙ ap (offending_value line) e)
 
-        pub found-dated : o ≡ offending.Nothing → (r : Verdict) → DatesJudged line start r → checkForm d line (row (word_of line t) is) ≡ judged d line (row (word_of line t) is) r
-        found-dated e r j = go j.absent (sym (j.is ∙ ap firstUnreal values-are)) ∙ ap (judged d line (row (word_of line t) is)) (sym j.told)
+        pub found_dated : o ≡ offending.Nothing → (r : Verdict) → DatesJudged line start r → check_form d line (row (word_of line t) is) ≡ judged d line (row (word_of line t) is) r
+        found_dated e r j = go j.absent (sym (j.is ∙ ap first_unreal values_are)) ∙ ap (judged d line (row (word_of line t) is)) (sym j.told)
           where
-            go : (q : Offending) → firstUnreal found-values.0 ≡ offendingValue line q → checkForm d line (row (word_of line t) is) ≡ judged d line (row (word_of line t) is) (dateVerdict q)
+            go : (q : Offending) → first_unreal found_values.0 ≡ offending_value line q → check_form d line (row (word_of line t) is) ≡ judged d line (row (word_of line t) is) (date_verdict q)
             go (offending.At p) is_at =
-                row-unreal d line (word_of line t) is k counted room x table_is schemeRead scheme-of labelled-all (fits-is ∙ fit) found-values.0 found-values.1 typed-all
-                (sym order-of ∙ ap (offendingValue line) e) (written_of line p) is_at
+                row_unreal d line (word_of line t) is k counted room x table_is scheme_read scheme_of_lem labelled_all (fits_is ∙ fit) found_values.0 found_values.1 typed_all
+                (sym order_of ∙ ap (offending_value line) e) (written_of line p) is_at
             go offending.Nothing is_none =
-                row_fine d line (word_of line t) is k counted room x table_is schemeRead scheme-of labelled-all (fits-is ∙ fit) found-values.0 found-values.1 typed-all
-                (sym order-of ∙ ap (offendingValue line) e) is_none
+                row_fine d line (word_of line t) is k counted room x table_is scheme_read scheme_of_lem labelled_all (fits_is ∙ fit) found_values.0 found_values.1 typed_all
+                (sym order_of ∙ ap (offending_value line) e) is_none
 
 -- where the dates alone are to be judged: there is room if there was, and what is refused stands in the line
-pub dated-roomy : (line : List ℕ) (at : ℕ) (r : Verdict) (k room : ℕ) → DatesJudged line at r → k < room → RoomFor r k room
-dated-roomy line at r k room j l = subst (λ (v : Verdict). RoomFor v k room) (sym j.told) (go j.absent)
+pub dated_roomy : (line : List ℕ) (at : ℕ) (r : Verdict) (k room : ℕ) → DatesJudged line at r → k < room → RoomFor r k room
+dated_roomy line at r k room j l = subst (λ (v : Verdict). RoomFor v k room) (sym j.told) (go j.absent)
   where
-    go : (q : Offending) → RoomFor (dateVerdict q) k room
+    go : (q : Offending) → RoomFor (date_verdict q) k room
     go (offending.At p) = tt
     go offending.Nothing = l
 
-pub dated-reaches : (line : List ℕ) (at : ℕ) (r : Verdict) → DatesJudged line at r → ReachesBy line r
-dated-reaches line at r j = subst (ReachesBy line) (sym j.told) (go j.absent j.near)
+pub dated_reaches : (line : List ℕ) (at : ℕ) (r : Verdict) → DatesJudged line at r → ReachesBy line r
+dated_reaches line at r j = subst (ReachesBy line) (sym j.told) (go j.absent j.near)
   where
-    go : (q : Offending) → Near line q → ReachesBy line (dateVerdict q)
+    go : (q : Offending) → Near line q → ReachesBy line (date_verdict q)
     go (offending.At p) n = n
     go offending.Nothing n = tt

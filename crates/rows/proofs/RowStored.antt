@@ -1,30 +1,30 @@
 -- The row that is stored is what its line adds: its values fit its table, and its scheme says where its labels stand. Assumes nothing.
 use Prim.Native.Nat.{◌+◌, ◌<◌, ◌≤◌, ℕ}
-use Rattle.document.proofs.RowItems.{labels-by, values-by}
-use Rattle.document.specs.Bounds.{overBound}
-use Rattle.document.specs.Lookup.{columnsAt, columnsOf, label_of, schemeOf, table_of}
-use Rattle.document.specs.Meaning.{add, rowMeant, rowsGiven}
-use Rattle.document.specs.NameFaults.{bracketLabels, leadingName, rowLabels, unknown}
+use Rattle.document.proofs.RowItems.{labels_by, values_by}
+use Rattle.document.specs.Bounds.{over_bound}
+use Rattle.document.specs.Lookup.{columns_at, columns_of, label_of, scheme_of, table_of}
+use Rattle.document.specs.Meaning.{add, row_meant, rows_given}
+use Rattle.document.specs.NameFaults.{bracket_labels, leading_name, row_labels, unknown}
 use Rattle.document.specs.Policy.{Doc, Policy, Row, Table}
-use Rattle.document.specs.ValueFaults.{bracketValues, misfit, plainValues, rowValues, shapedValues, valuesBehindLabel}
-use Rattle.form.specs.Form.{Item, Scheme, hasBrackets, leadsLabel, row}
-use Rattle.form.specs.Walks.{cellsAt, itemsAt, plainAt}
+use Rattle.document.specs.ValueFaults.{bracket_values, misfit, plain_values, row_values, shaped_values, values_behind_label}
+use Rattle.form.specs.Form.{Item, Scheme, has_brackets, leads_label, row}
+use Rattle.form.specs.Walks.{cells_at, items_at, plain_at}
 use Rattle.form.specs.declared.lines.Scheme as coded
-use Rattle.lists.proofs.ListLaws.{findIndex-found, holdsOf-some, map-map, there-some}
+use Rattle.lists.proofs.ListLaws.{find_index_found, holds_of_some, map_map, there_some}
 use Rattle.lists.proofs.Tests.{not-false}
 use Rattle.lists.specs.Lists.{or_zero, there}
-use Rattle.relations.proofs.RowLaws.{row-empty, rows-counted}
-use Rattle.relations.proofs.TableLaws.{columns-at, scheme-read, tables-counted}
+use Rattle.relations.proofs.RowLaws.{row_empty, rows_counted}
+use Rattle.relations.proofs.TableLaws.{columns_at_lem, scheme_read_lem, tables_counted}
 use Rattle.relations.specs.Rows.{FillingRow, LabelStored, Rows}
-use Rattle.relations.specs.Tables.{Tables, columnCountIn, columnIn, columnLabelIn, columnLabelsIn, schemeBy, schemeIn, tableLabelIn}
-use Rattle.rows.proofs.StoredItems.{bracket-labels, bracket-values, leading, plain-values}
+use Rattle.relations.specs.Tables.{Tables, column_count_in, column_in, column_label_in, column_labels_in, scheme_by, scheme_in, table_label_in}
+use Rattle.rows.proofs.StoredItems.{bracket_labels_lem, bracket_values_lem, leading, plain_values_lem}
 use Rattle.stepping.proofs.PassLaws.{Passed, passed}
 use Rattle.stepping.specs.Stored.{Passes, RowFilled}
-use Rattle.text.proofs.OffendingLaws.{leftmost-head, unless-none}
+use Rattle.text.proofs.OffendingLaws.{leftmost_head, unless_none}
 use Rattle.text.specs.Numbers.{Value}
-use Rattle.text.specs.Walking.{wordEndAt}
-use Rattle.text.specs.Words.{Word, isCalled, word_at, word_of}
-use Rattle.workspace.proofs.TabulatedLaws.{length-tabulated}
+use Rattle.text.specs.Walking.{word_end_at}
+use Rattle.text.specs.Words.{Word, is_called, word_at, word_of}
+use Rattle.workspace.proofs.TabulatedLaws.{length_tabulated}
 use Rattle.workspace.specs.Tabulated.{tabulated}
 use borrow.Author.Tests.{eqb-true, leb-false}
 use lib.Dec.{eqb}
@@ -47,41 +47,41 @@ pub none_before : {text before after : List ℕ} {k n : ℕ} {vs : List Value} {
 none_before {text} {before} {after} {k} {n} {vs} {ls} f = record { kept = f.kept; filling = subst (λ m. FillingRow text after k n m vs ls) (let e : 0 + n ≡ n = omega arith in e) f.filling }
 
 module _ {text before mid after : List ℕ} {k table n : ℕ} (line : List ℕ) (is : ℕ) (rs : List Row) (ws : List Word) (N : Rows text before k rs) (small : k < 1024) (few : length ws ≤ 16) where
-  pub plain-stored : plainValues (itemsAt line is) ≡ some ws
-      → (length (plainAt line is) ≤ 16 → FillingRow text before k 0 0 [] [] → RowFilled text before mid k n 0 (map (λ w. w.bytes) (plainAt line is)) [])
+  pub plain_stored : plain_values (items_at line is) ≡ some ws
+      → (length (plain_at line is) ≤ 16 → FillingRow text before k 0 0 [] [] → RowFilled text before mid k n 0 (map (λ w. w.bytes) (plain_at line is)) [])
       → AddsRow text mid after k table n 0
       → Rows text after (k + 1) (rs ++ (record { table = table; values = map (λ w. w.bytes) ws; labels = [] } ∷ []))
-  plain-stored h filled more =
-      let e : ws ≡ plainAt line is = plain-values line is ws h in
-      let f = filled (subst (λ (xs : List Word). length xs ≤ 16) e few) (row-empty text before k) in
+  plain_stored h filled more =
+      let e : ws ≡ plain_at line is = plain_values_lem line is ws h in
+      let f = filled (subst (λ (xs : List Word). length xs ≤ 16) e few) (row_empty text before k) in
       subst (λ (xs : List Word). Rows text after (k + 1) (rs ++ (record { table = table; values = map (λ w. w.bytes) xs; labels = [] } ∷ []))) (sym e)
       (more rs _ _ (f.kept rs N) small f.filling)
 
-  pub cells-stored : (d : Policy) → bracketValues (itemsAt line is) ≡ some ws
-      → (length (cellsAt line is) ≤ 16 → RowFilled text before mid k n n (map (λ g. g.0.bytes) (cellsAt line is)) (map (λ g. or_zero (label_of d g.1)) (cellsAt line is)))
+  pub cells_stored : (d : Policy) → bracket_values (items_at line is) ≡ some ws
+      → (length (cells_at line is) ≤ 16 → RowFilled text before mid k n n (map (λ g. g.0.bytes) (cells_at line is)) (map (λ g. or_zero (label_of d g.1)) (cells_at line is)))
       → AddsRow text mid after k table n n
-      → Rows text after (k + 1) (rs ++ (record { table = table; values = map (λ w. w.bytes) ws; labels = map (λ w. or_zero (label_of d w)) (bracketLabels (itemsAt line is)) } ∷ []))
-  cells-stored d h filled more =
-      let e : ws ≡ map (λ (g : Word × Word). g.0) (cellsAt line is) = bracket-values line is ws h in
-      let f = filled (subst (λ m. m ≤ 16) (ap length e ∙ length-map (cellsAt line is) (λ (g : Word × Word). g.0)) few) in
+      → Rows text after (k + 1) (rs ++ (record { table = table; values = map (λ w. w.bytes) ws; labels = map (λ w. or_zero (label_of d w)) (bracket_labels (items_at line is)) } ∷ []))
+  cells_stored d h filled more =
+      let e : ws ≡ map (λ (g : Word × Word). g.0) (cells_at line is) = bracket_values_lem line is ws h in
+      let f = filled (subst (λ m. m ≤ 16) (ap length e ∙ length-map (cells_at line is) (λ (g : Word × Word). g.0)) few) in
       subst (λ (x : Row). Rows text after (k + 1) (rs ++ (x ∷ [])))
       (λ j. record {
         table = table;
-        values = sym (ap (map (λ (w : Word). w.bytes)) e ∙ map-map (λ (w : Word). w.bytes) (λ (g : Word × Word). g.0) (cellsAt line is)) j;
-        labels = sym (ap (map (λ (w : Word). or_zero (label_of d w))) (bracket-labels line is ws h) ∙ map-map (λ (w : Word). or_zero (label_of d w)) (λ (g : Word × Word). g.1) (cellsAt line is)) j;
+        values = sym (ap (map (λ (w : Word). w.bytes)) e ∙ map_map (λ (w : Word). w.bytes) (λ (g : Word × Word). g.0) (cells_at line is)) j;
+        labels = sym (ap (map (λ (w : Word). or_zero (label_of d w))) (bracket_labels_lem line is ws h) ∙ map_map (λ (w : Word). or_zero (label_of d w)) (λ (g : Word × Word). g.1) (cells_at line is)) j;
       })
       (more rs _ _ (f.kept rs N) small f.filling)
 
-  pub leading-stored : {marked : List ℕ} (d : Policy) (label e : ℕ) → valuesBehindLabel plainValues (itemsAt line is) ≡ some ws → get_or line is 0 ≡ 32 → label ≡ or_zero (label_of d (word_of line (is + 1)))
+  pub leading_stored : {marked : List ℕ} (d : Policy) (label e : ℕ) → values_behind_label plain_values (items_at line is) ≡ some ws → get_or line is 0 ≡ 32 → label ≡ or_zero (label_of d (word_of line (is + 1)))
       → LabelStored before marked k 0 label → e ≡ is + 1 + length (word_at line (is + 1))
-      → (length (plainAt line e) ≤ 16 → FillingRow text marked k 0 1 [] (label ∷ []) → RowFilled text marked mid k n 1 (map (λ w. w.bytes) (plainAt line e)) (label ∷ []))
+      → (length (plain_at line e) ≤ 16 → FillingRow text marked k 0 1 [] (label ∷ []) → RowFilled text marked mid k n 1 (map (λ w. w.bytes) (plain_at line e)) (label ∷ []))
       → AddsRow text mid after k table n 1
-      → Rows text after (k + 1) (rs ++ (record { table = table; values = map (λ w. w.bytes) ws; labels = map (λ w. or_zero (label_of d w)) (leadingName (itemsAt line is)) } ∷ []))
-  unfolding wordEndAt
-  leading-stored d label e h space named s ends filled more =
-      let g = leading plainValues line is ws h space in
-      let v : ws ≡ plainAt line e = plain-values line (wordEndAt line (is + 1)) ws g.behind ∙ ap (plainAt line) (sym ends) in
-      let f = filled (subst (λ (xs : List Word). length xs ≤ 16) v few) (s.grown text 0 [] [] small (omega arith) (row-empty text before k)) in
+      → Rows text after (k + 1) (rs ++ (record { table = table; values = map (λ w. w.bytes) ws; labels = map (λ w. or_zero (label_of d w)) (leading_name (items_at line is)) } ∷ []))
+  unfolding word_end_at
+  leading_stored d label e h space named s ends filled more =
+      let g = leading plain_values line is ws h space in
+      let v : ws ≡ plain_at line e = plain_values_lem line (word_end_at line (is + 1)) ws g.behind ∙ ap (plain_at line) (sym ends) in
+      let f = filled (subst (λ (xs : List Word). length xs ≤ 16) v few) (s.grown text 0 [] [] small (omega arith) (row_empty text before k)) in
       subst (λ (x : Row). Rows text after (k + 1) (rs ++ (x ∷ [])))
       (λ j. record {
         table = table;
@@ -90,27 +90,27 @@ module _ {text before mid after : List ℕ} {k table n : ℕ} (line : List ℕ) 
       })
       (more rs _ _ (f.kept rs (s.kept text k rs (omega arith) N)) small f.filling)
 
-  pub nested-stored : {marked : List ℕ} {m : ℕ} (d : Policy) (label e : ℕ) → valuesBehindLabel bracketValues (itemsAt line is) ≡ some ws → get_or line is 0 ≡ 32 → label ≡ or_zero (label_of d (word_of line (is + 1)))
+  pub nested_stored : {marked : List ℕ} {m : ℕ} (d : Policy) (label e : ℕ) → values_behind_label bracket_values (items_at line is) ≡ some ws → get_or line is 0 ≡ 32 → label ≡ or_zero (label_of d (word_of line (is + 1)))
       → LabelStored before marked k 0 label → e ≡ is + 1 + length (word_at line (is + 1))
-      → (length (cellsAt line e) ≤ 16 → FillingRow text marked k 0 1 [] (label ∷ []) → RowFilled text marked mid k n (1 + n) (map (λ g. g.0.bytes) (cellsAt line e)) (label ∷ map (λ g. or_zero (label_of d g.1)) (cellsAt line e)))
+      → (length (cells_at line e) ≤ 16 → FillingRow text marked k 0 1 [] (label ∷ []) → RowFilled text marked mid k n (1 + n) (map (λ g. g.0.bytes) (cells_at line e)) (label ∷ map (λ g. or_zero (label_of d g.1)) (cells_at line e)))
       → (n ≤ 16 → m ≡ n + 1) → AddsRow text mid after k table n m
-      → Rows text after (k + 1) (rs ++ (record { table = table; values = map (λ w. w.bytes) ws; labels = map (λ w. or_zero (label_of d w)) (leadingName (itemsAt line is) ++ bracketLabels (itemsAt line is)) } ∷ []))
-  unfolding wordEndAt
-  nested-stored {marked} {m} d label e h space named s ends filled counted more =
-      let g = leading bracketValues line is ws h space in
-      let b : bracketValues (itemsAt line e) ≡ some ws = ap (λ x. bracketValues (itemsAt line x)) ends ∙ g.behind in
-      let v : ws ≡ map (λ (g : Word × Word). g.0) (cellsAt line e) = bracket-values line e ws b in
-      let f = filled (subst (λ m. m ≤ 16) (ap length v ∙ length-map (cellsAt line e) (λ (g : Word × Word). g.0)) few) (s.grown text 0 [] [] small (omega arith) (row-empty text before k)) in
+      → Rows text after (k + 1) (rs ++ (record { table = table; values = map (λ w. w.bytes) ws; labels = map (λ w. or_zero (label_of d w)) (leading_name (items_at line is) ++ bracket_labels (items_at line is)) } ∷ []))
+  unfolding word_end_at
+  nested_stored {marked} {m} d label e h space named s ends filled counted more =
+      let g = leading bracket_values line is ws h space in
+      let b : bracket_values (items_at line e) ≡ some ws = ap (λ x. bracket_values (items_at line x)) ends ∙ g.behind in
+      let v : ws ≡ map (λ (g : Word × Word). g.0) (cells_at line e) = bracket_values_lem line e ws b in
+      let f = filled (subst (λ m. m ≤ 16) (ap length v ∙ length-map (cells_at line e) (λ (g : Word × Word). g.0)) few) (s.grown text 0 [] [] small (omega arith) (row_empty text before k)) in
       let same : 1 + n ≡ m = omega (arith, counted f.filling.few) in
       subst (λ (x : Row). Rows text after (k + 1) (rs ++ (x ∷ [])))
       (λ j. record {
         table = table;
-        values = sym (ap (map (λ (w : Word). w.bytes)) v ∙ map-map (λ (w : Word). w.bytes) (λ (g : Word × Word). g.0) (cellsAt line e)) j;
-        labels = (ap (λ m. m ∷ map (λ (g : Word × Word). or_zero (label_of d g.1)) (cellsAt line e)) named
-            ∙ sym ((λ i. map (λ (w : Word). or_zero (label_of d w)) (g.label i ++ (g.brackets ∙ ap (λ x. bracketLabels (itemsAt line x)) (sym ends) ∙ bracket-labels line e ws b) i))
-            ∙ ap (λ ls. or_zero (label_of d (word_of line (is + 1))) ∷ ls) (map-map (λ (w : Word). or_zero (label_of d w)) (λ (g : Word × Word). g.1) (cellsAt line e)))) j;
+        values = sym (ap (map (λ (w : Word). w.bytes)) v ∙ map_map (λ (w : Word). w.bytes) (λ (g : Word × Word). g.0) (cells_at line e)) j;
+        labels = (ap (λ m. m ∷ map (λ (g : Word × Word). or_zero (label_of d g.1)) (cells_at line e)) named
+            ∙ sym ((λ i. map (λ (w : Word). or_zero (label_of d w)) (g.label i ++ (g.brackets ∙ ap (λ x. bracket_labels (items_at line x)) (sym ends) ∙ bracket_labels_lem line e ws b) i))
+            ∙ ap (λ ls. or_zero (label_of d (word_of line (is + 1))) ∷ ls) (map_map (λ (w : Word). or_zero (label_of d w)) (λ (g : Word × Word). g.1) (cells_at line e)))) j;
       })
-      (more rs _ _ (f.kept rs (s.kept text k rs (omega arith) N)) small (subst (λ x. FillingRow text mid k n x (map (λ g. g.0.bytes) (cellsAt line e)) (label ∷ map (λ g. or_zero (label_of d g.1)) (cellsAt line e))) same f.filling))
+      (more rs _ _ (f.kept rs (s.kept text k rs (omega arith) N)) small (subst (λ x. FillingRow text mid k n x (map (λ g. g.0.bytes) (cells_at line e)) (label ∷ map (λ g. or_zero (label_of d g.1)) (cells_at line e))) same f.filling))
 
 -- ---- the row that its line adds
 
@@ -118,48 +118,48 @@ module _ {text before mid after : List ℕ} {k table n : ℕ} (line : List ℕ) 
 pub record RowFits (d : Doc) (t : Word) (items : List Item) (k : ℕ) (s : Scheme ℕ) : Type 0 where
   pub small : k < 1024
   pub words : List Word
-  pub values : rowValues s items ≡ some words
+  pub values : row_values s items ≡ some words
   pub few : length words ≤ 16
-  pub is : schemeOf d.policy t ≡ s
+  pub is : scheme_of d.policy t ≡ s
 
 module _ {text tables rows : List ℕ} {count k : ℕ} (d : Doc) (line : List ℕ) (t : Word) (items : List Item) (T : Tables text tables count d.policy.tables) (N : Rows text rows k d.rows) (ok : Passes d line (row t items)) where
   p : Passed d (row t items)
   p = passed d line (row t items) ok
 
-  table-there : or_zero (table_of d.policy t) < count
+  table_there : or_zero (table_of d.policy t) < count
   unfolding unknown table_of
-  table-there =
-      subst (λ n. or_zero (table_of d.policy t) < n) (tables-counted text tables count d.policy.tables T)
-      (findIndex-found (λ (x : Table). isCalled t x.name) d.policy.tables (or_zero (table_of d.policy t)) (there-some (table_of d.policy t) (unless-none (there (table_of d.policy t)) t (leftmost-head _ _ p.knows)))).1
+  table_there =
+      subst (λ n. or_zero (table_of d.policy t) < n) (tables_counted text tables count d.policy.tables T)
+      (find_index_found (λ (x : Table). is_called t x.name) d.policy.tables (or_zero (table_of d.policy t)) (there_some (table_of d.policy t) (unless_none (there (table_of d.policy t)) t (leftmost_head _ _ p.knows)))).1
 
-  pub row_fits : (n : ℕ) (r s : coded.Scheme) → n ≡ or_zero (table_of d.policy t) → r ≡ s → (n < 8 → schemeIn tables n ≡ schemeBy r (tableLabelIn tables n) (columnLabelsIn tables n))
-      → RowFits d t items k (schemeBy s (tableLabelIn tables (or_zero (table_of d.policy t))) (tabulated (columnLabelIn tables (or_zero (table_of d.policy t))) (length (columnsAt d.policy (or_zero (table_of d.policy t))))))
-  unfolding misfit overBound schemeOf columnsOf
+  pub row_fits : (n : ℕ) (r s : coded.Scheme) → n ≡ or_zero (table_of d.policy t) → r ≡ s → (n < 8 → scheme_in tables n ≡ scheme_by r (table_label_in tables n) (column_labels_in tables n))
+      → RowFits d t items k (scheme_by s (table_label_in tables (or_zero (table_of d.policy t))) (tabulated (column_label_in tables (or_zero (table_of d.policy t))) (length (columns_at d.policy (or_zero (table_of d.policy t))))))
+  unfolding misfit over_bound scheme_of columns_of
   row_fits n r s e same told =
       let m : ℕ = or_zero (table_of d.policy t) in
-      let q = holdsOf-some (λ (ws : List Word). eqb (length ws) (length (columnsOf d.policy t))) (rowValues (schemeOf d.policy t) items) (not-false _ p.fits) in
-      let scheme = scheme-read text tables count m d.policy T table-there s (subst (λ (x : ℕ × coded.Scheme). x.0 < 8 → schemeIn tables x.0 ≡ schemeBy x.1 (tableLabelIn tables x.0) (columnLabelsIn tables x.0)) (λ j. (e j, same j)) told) in
-      let wide : length q.0 ≡ length (columnsAt d.policy m) = eqb-true _ _ q.2 in
-      let counted : length (columnsAt d.policy m) ≡ columnCountIn tables m = ap length (columns-at text tables count m d.policy T table-there) ∙ length-tabulated (columnIn text tables m) (columnCountIn tables m) in
+      let q = holds_of_some (λ (ws : List Word). eqb (length ws) (length (columns_of d.policy t))) (row_values (scheme_of d.policy t) items) (not-false _ p.fits) in
+      let scheme = scheme_read_lem text tables count m d.policy T table_there s (subst (λ (x : ℕ × coded.Scheme). x.0 < 8 → scheme_in tables x.0 ≡ scheme_by x.1 (table_label_in tables x.0) (column_labels_in tables x.0)) (λ j. (e j, same j)) told) in
+      let wide : length q.0 ≡ length (columns_at d.policy m) = eqb-true _ _ q.2 in
+      let counted : length (columns_at d.policy m) ≡ column_count_in tables m = ap length (columns_at_lem text tables count m d.policy T table_there) ∙ length_tabulated (column_in text tables m) (column_count_in tables m) in
       record {
-        small = subst (λ i. i < 1024) (rows-counted text rows k d.rows N) (leb-false 1024 _ p.room);
+        small = subst (λ i. i < 1024) (rows_counted text rows k d.rows N) (leb-false 1024 _ p.room);
         words = q.0;
-        values = sym (ap (λ x. rowValues x items) scheme) ∙ q.1;
-        few = omega (arith, wide, counted, T.narrow m table-there);
+        values = sym (ap (λ x. row_values x items) scheme) ∙ q.1;
+        few = omega (arith, wide, counted, T.narrow m table_there);
         is = scheme;
       }
 
 -- with the labels that the scheme says
-pub row-stored : {text rows' : List ℕ} {k : ℕ} (d : Doc) (t : Word) (items : List Item) (s : Scheme ℕ) (n : ℕ) (f : RowFits d t items k s) → n ≡ or_zero (table_of d.policy t)
-    → Rows text rows' (k + 1) (d.rows ++ (record { table = n; values = map (λ w. w.bytes) f.words; labels = map (λ w. or_zero (label_of d.policy w)) (rowLabels s items) } ∷ []))
+pub row_stored : {text rows' : List ℕ} {k : ℕ} (d : Doc) (t : Word) (items : List Item) (s : Scheme ℕ) (n : ℕ) (f : RowFits d t items k s) → n ≡ or_zero (table_of d.policy t)
+    → Rows text rows' (k + 1) (d.rows ++ (record { table = n; values = map (λ w. w.bytes) f.words; labels = map (λ w. or_zero (label_of d.policy w)) (row_labels s items) } ∷ []))
     → Rows text rows' (k + 1) (add d (row t items)).rows
-unfolding add rowsGiven rowMeant
-row-stored {text} {rows'} {k} d t items s n f e h =
+unfolding add rows_given row_meant
+row_stored {text} {rows'} {k} d t items s n f e h =
     subst (λ (x : Row). Rows text rows' (k + 1) (d.rows ++ (x ∷ [])))
     (λ j. record {
       table = e j;
-      values = map (λ (w : Word). w.bytes) (sym (ap (λ o. Option.get_or o []) (ap (λ x. rowValues x items) f.is ∙ f.values)) j);
-      labels = map (λ (w : Word). or_zero (label_of d.policy w)) (rowLabels (sym f.is j) items);
+      values = map (λ (w : Word). w.bytes) (sym (ap (λ o. Option.get_or o []) (ap (λ x. row_values x items) f.is ∙ f.values)) j);
+      labels = map (λ (w : Word). or_zero (label_of d.policy w)) (row_labels (sym f.is j) items);
     })
     h
 
@@ -170,17 +170,17 @@ abbrev pub Added : (text rows' : List ℕ) (k : ℕ) (d : Doc) (n : ℕ) (ws ls 
 Added text rows' k d n ws ls = Rows text rows' (k + 1) (d.rows ++ (record { table = n; values = map (λ w. w.bytes) ws; labels = map (λ w. or_zero (label_of d.policy w)) ls } ∷ []))
 
 -- with a label in front and none behind it
-pub led-alone : {text rows' : List ℕ} (k n : ℕ) (d : Doc) (items : List Item) (ws : List Word) → Added text rows' k d n ws (leadingName items) → Added text rows' k d n ws (leadingName items ++ [])
-led-alone {text} {rows'} k n d items ws h = subst (λ (ls : List Word). Added text rows' k d n ws ls) (sym (append-nil (leadingName items))) h
+pub led_alone : {text rows' : List ℕ} (k n : ℕ) (d : Doc) (items : List Item) (ws : List Word) → Added text rows' k d n ws (leading_name items) → Added text rows' k d n ws (leading_name items ++ [])
+led_alone {text} {rows'} k n d items ws h = subst (λ (ls : List Word). Added text rows' k d n ws ls) (sym (append-nil (leading_name items))) h
 
 module _ {text tables rows : List ℕ} {count k : ℕ} (d : Doc) (line : List ℕ) (t : Word) (items : List Item) (T : Tables text tables count d.policy.tables) (N : Rows text rows k d.rows) (ok : Passes d line (row t items)) where
-  pub shape-stored : {rows' : List ℕ} {a b : Bool} (n : ℕ) (r : coded.Scheme) → n ≡ or_zero (table_of d.policy t) → (n < 8 → schemeIn tables n ≡ schemeBy r (tableLabelIn tables n) (columnLabelsIn tables n))
-      → ((l : ℕ) (ls : List ℕ) → leadsLabel (schemeBy r l ls) ≡ a) → ((l : ℕ) (ls : List ℕ) → hasBrackets (schemeBy r l ls) ≡ b)
-      → ((ws : List Word) → k < 1024 → cond a (valuesBehindLabel (shapedValues b) items) (shapedValues b items) ≡ some ws → length ws ≤ 16 → Added text rows' k d n ws (cond a (leadingName items) [] ++ cond b (bracketLabels items) []))
+  pub shape_stored : {rows' : List ℕ} {a b : Bool} (n : ℕ) (r : coded.Scheme) → n ≡ or_zero (table_of d.policy t) → (n < 8 → scheme_in tables n ≡ scheme_by r (table_label_in tables n) (column_labels_in tables n))
+      → ((l : ℕ) (ls : List ℕ) → leads_label (scheme_by r l ls) ≡ a) → ((l : ℕ) (ls : List ℕ) → has_brackets (scheme_by r l ls) ≡ b)
+      → ((ws : List Word) → k < 1024 → cond a (values_behind_label (shaped_values b) items) (shaped_values b items) ≡ some ws → length ws ≤ 16 → Added text rows' k d n ws (cond a (leading_name items) [] ++ cond b (bracket_labels items) []))
       → Rows text rows' (k + 1) (add d (row t items)).rows
-  shape-stored {rows'} n r e told p q stored =
-      let s : Scheme ℕ = schemeBy r (tableLabelIn tables (or_zero (table_of d.policy t))) (tabulated (columnLabelIn tables (or_zero (table_of d.policy t))) (length (columnsAt d.policy (or_zero (table_of d.policy t))))) in
+  shape_stored {rows'} n r e told p q stored =
+      let s : Scheme ℕ = scheme_by r (table_label_in tables (or_zero (table_of d.policy t))) (tabulated (column_label_in tables (or_zero (table_of d.policy t))) (length (columns_at d.policy (or_zero (table_of d.policy t))))) in
       let f : RowFits d t items k s = row_fits d line t items T N ok n r r e refl told in
-      row-stored d t items s n f e
-      (subst (λ (ls : List Word). Added text rows' k d n f.words ls) (sym (labels-by s (p _ _) (q _ _) items))
-      (stored f.words f.small (sym (values-by s (p _ _) (q _ _) items) ∙ f.values) f.few))
+      row_stored d t items s n f e
+      (subst (λ (ls : List Word). Added text rows' k d n f.words ls) (sym (labels_by s (p _ _) (q _ _) items))
+      (stored f.words f.small (sym (values_by s (p _ _) (q _ _) items) ∙ f.values) f.few))

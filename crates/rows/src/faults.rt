@@ -1,25 +1,25 @@
 // What is wrong with a row form.
 ghost use Rattle.std.specs.Prelude.{◌<◌, ℕ, eqb, length, cond, List, [], ◌∷◌, ◌≡◌};
 ghost use Rattle.std.proofs.Math.Option.{some};
-ghost use Rattle.calendar.specs.DateText.{dateOf};
+ghost use Rattle.calendar.specs.DateText.{date_of};
 ghost use Rattle.condition.specs.Answers.{kind_of};
-ghost use Rattle.document.specs.AmountFaults.{dateExists, inOrder};
-ghost use Rattle.document.specs.Lookup.{columnsAt, label_of};
-ghost use Rattle.document.specs.NameFaults.{bracketLabels, leadingName, rowLabels};
+ghost use Rattle.document.specs.AmountFaults.{date_exists, in_order};
+ghost use Rattle.document.specs.Lookup.{columns_at, label_of};
+ghost use Rattle.document.specs.NameFaults.{bracket_labels, leading_name, row_labels};
 ghost use Rattle.document.specs.Policy.{Policy};
-ghost use Rattle.document.specs.TypeFaults.{cellHasKind, mistypedValue};
-ghost use Rattle.document.specs.ValueFaults.{rowValues};
-ghost use Rattle.form.specs.Form.{hasBrackets, leadsLabel};
+ghost use Rattle.document.specs.TypeFaults.{cell_has_kind, mistyped_value};
+ghost use Rattle.document.specs.ValueFaults.{row_values};
+ghost use Rattle.form.specs.Form.{has_brackets, leads_label};
 ghost use Rattle.stepping.specs.Places.{Near};
-ghost use Rattle.rows.specs.RowWords.{label_at, valuesAt};
-ghost use Rattle.form.specs.Walks.{item_at, itemsAt};
+ghost use Rattle.rows.specs.RowWords.{label_at, values_at};
+ghost use Rattle.form.specs.Walks.{item_at, items_at};
 ghost use Rattle.relations.specs.Labels.{Labels};
-ghost use Rattle.relations.specs.Tables.{Tables, schemeBy};
+ghost use Rattle.relations.specs.Tables.{Tables, scheme_by};
 ghost use Rattle.lists.specs.Lists.{holds_of, there};
-ghost use Rattle.text.specs.Amounts.{isRange, range_of};
+ghost use Rattle.text.specs.Amounts.{is_range, range_of};
 ghost use Rattle.text.specs.Offending.{missing, unless};
-ghost use Rattle.text.specs.Words.{Word, writtenAt};
-ghost use Rattle.text.specs.CodeEnds.{offendingOf, offendingValue};
+ghost use Rattle.text.specs.Words.{Word, written_at};
+ghost use Rattle.text.specs.CodeEnds.{offending_of, offending_value};
 ghost use Rattle.rows.specs.Promises.{DatesJudged, RowFaultPromise};
 
 use crate::items::{behind_first, leads, led_values_fit, values_fit};
@@ -42,7 +42,7 @@ use workspace::layout::{LABELS, ROWS, TABLE_CELLS};
 
 // Whether the items from a position on are shaped for the scheme, with as many values as this.
 fn row_fits(scheme: Scheme, line: &[u8], at: usize, width: usize) -> bool
-    ensures { (l : ℕ) (ls : List ℕ) → result ≡ holds_of (λ ws. eqb (length ws) width) (rowValues (schemeBy scheme l ls) (itemsAt line.now at)) }
+    ensures { (l : ℕ) (ls : List ℕ) → result ≡ holds_of (λ ws. eqb (length ws) width) (row_values (scheme_by scheme l ls) (items_at line.now at)) }
 {
     let bracketed = has_brackets(scheme);
     if leads_label(scheme) {
@@ -53,7 +53,7 @@ fn row_fits(scheme: Scheme, line: &[u8], at: usize, width: usize) -> bool
 
 // Where the items that have the values begin, of those from a position on.
 pub fn values_start(scheme: Scheme, line: &[u8], at: usize) -> usize
-    ensures { (l : ℕ) (ls : List ℕ) (ws : List Word) → rowValues (schemeBy scheme l ls) (itemsAt line.now at) ≡ some ws → valuesAt line.now result ≡ ws }
+    ensures { (l : ℕ) (ls : List ℕ) (ws : List Word) → row_values (scheme_by scheme l ls) (items_at line.now at) ≡ some ws → values_at line.now result ≡ ws }
 {
     if leads_label(scheme) {
         return behind_first(line, at);
@@ -63,7 +63,7 @@ pub fn values_start(scheme: Scheme, line: &[u8], at: usize) -> usize
 
 // Whether a range stands at a position.
 fn is_range(line: &[u8], at: usize) -> bool
-    ensures { result ≡ isRange (writtenAt line.now at) }
+    ensures { result ≡ is_range (written_at line.now at) }
 {
     let k = range_end(line, at);
     match k {
@@ -74,7 +74,7 @@ fn is_range(line: &[u8], at: usize) -> bool
 
 // Whether the value at a position is of the type: numbers take a range as well, and dates nothing but a date.
 fn typed(line: &[u8], at: usize, kind: Kind) -> bool
-    ensures { result ≡ cellHasKind (kind_of kind) (writtenAt line.now at) }
+    ensures { result ≡ cell_has_kind (kind_of kind) (written_at line.now at) }
 {
     if byte_at(line, at) != b'(' {
         return has_kind(line, at, kind);
@@ -88,7 +88,7 @@ fn typed(line: &[u8], at: usize, kind: Kind) -> bool
 
 // Whether the value at a position is in order: a range has LOW at most HIGH.
 fn in_order(line: &[u8], at: usize) -> bool
-    ensures { result ≡ inOrder (range_of (writtenAt line.now at)) }
+    ensures { result ≡ in_order (range_of (written_at line.now at)) }
 {
     let k = read_range(line, at);
     match k {
@@ -99,7 +99,7 @@ fn in_order(line: &[u8], at: usize) -> bool
 
 // Whether the value at a position exists, if it is a date.
 fn date_exists(line: &[u8], at: usize) -> bool
-    ensures { result ≡ dateExists (dateOf (writtenAt line.now at)) }
+    ensures { result ≡ date_exists (date_of (written_at line.now at)) }
 {
     let d = read_date(line, at);
     match d {
@@ -111,7 +111,7 @@ fn date_exists(line: &[u8], at: usize) -> bool
 
 // The first value of the items from a position on that is not of its column's type.
 fn first_mistyped(tables: &[usize; TABLE_CELLS], t: usize, line: &[u8], at: usize) -> Offending
-    ensures { ((text : List ℕ) (k : ℕ) (d : Policy) → Tables text tables.now k d.tables → t < k → offendingValue line.now result ≡ mistypedValue (columnsAt d t) (valuesAt line.now at)) × Near line.now result }
+    ensures { ((text : List ℕ) (k : ℕ) (d : Policy) → Tables text tables.now k d.tables → t < k → offending_value line.now result ≡ mistyped_value (columns_at d t) (values_at line.now at)) × Near line.now result }
 {
     let n = table_width(tables, t);
     let mut c = 0;
@@ -133,7 +133,7 @@ fn first_mistyped(tables: &[usize; TABLE_CELLS], t: usize, line: &[u8], at: usiz
 
 // The first value of the items from a position on that is a range with LOW above HIGH.
 fn first_broken(line: &[u8], at: usize) -> Offending
-    ensures { (offendingValue line.now result ≡ missing (λ w. inOrder (range_of w.bytes)) (valuesAt line.now at)) × Near line.now result }
+    ensures { (offending_value line.now result ≡ missing (λ w. in_order (range_of w.bytes)) (values_at line.now at)) × Near line.now result }
 {
     let mut i = at;
     while byte_at(line, i) == b' ' {
@@ -148,7 +148,7 @@ fn first_broken(line: &[u8], at: usize) -> Offending
 
 // The first value of the items from a position on that is a date that does not exist.
 fn first_missing_date(line: &[u8], at: usize) -> Offending
-    ensures { (offendingValue line.now result ≡ missing (λ w. dateExists (dateOf w.bytes)) (valuesAt line.now at)) × Near line.now result }
+    ensures { (offending_value line.now result ≡ missing (λ w. date_exists (date_of w.bytes)) (values_at line.now at)) × Near line.now result }
 {
     let mut i = at;
     while byte_at(line, i) == b' ' {
@@ -174,7 +174,7 @@ fn date_fault(line: &[u8], at: usize) -> Verdict
 
 // Whether the label of the item at a position is known; where it has none, there is nothing to know.
 fn label_known(text: &[u8], labels: &[usize; LABELS], k: usize, line: &[u8], at: usize) -> bool
-    ensures { (sets : List ℕ) (d : Policy) → Labels text.now labels.now sets k d.labels → missing (λ w. there (label_of d w)) (bracketLabels (item_at line.now at ∷ [])) ≡ unless result (label_at line.now at) }
+    ensures { (sets : List ℕ) (d : Policy) → Labels text.now labels.now sets k d.labels → missing (λ w. there (label_of d w)) (bracket_labels (item_at line.now at ∷ [])) ≡ unless result (label_at line.now at) }
 {
     if !is_labelled(line, at) {
         return true;
@@ -194,7 +194,7 @@ fn first_unknown_label(
     line: &[u8],
     at: usize,
 ) -> Offending
-    ensures { ((sets : List ℕ) (d : Policy) → Labels text.now labels.now sets k d.labels → offendingOf line.now result ≡ missing (λ w. there (label_of d w)) (bracketLabels (itemsAt line.now at))) × Near line.now result }
+    ensures { ((sets : List ℕ) (d : Policy) → Labels text.now labels.now sets k d.labels → offending_of line.now result ≡ missing (λ w. there (label_of d w)) (bracket_labels (items_at line.now at))) × Near line.now result }
 {
     let mut i = at;
     while byte_at(line, i) == b' ' {
@@ -214,7 +214,7 @@ fn leading_unknown(
     line: &[u8],
     at: usize,
 ) -> Offending
-    ensures { ((sets : List ℕ) (d : Policy) → Labels text.now labels.now sets k d.labels → offendingOf line.now result ≡ missing (λ w. there (label_of d w)) (leadingName (itemsAt line.now at))) × Near line.now result }
+    ensures { ((sets : List ℕ) (d : Policy) → Labels text.now labels.now sets k d.labels → offending_of line.now result ≡ missing (λ w. there (label_of d w)) (leading_name (items_at line.now at))) × Near line.now result }
 {
     if !leads(line, at) {
         return Offending::Nothing;
@@ -235,7 +235,7 @@ fn unknown_lead(
     line: &[u8],
     at: usize,
 ) -> Offending
-    ensures { ((sets : List ℕ) (d : Policy) (l : ℕ) (ls : List ℕ) → Labels text.now labels.now sets k d.labels → offendingOf line.now result ≡ missing (λ w. there (label_of d w)) (cond (leadsLabel (schemeBy scheme l ls)) (leadingName (itemsAt line.now at)) [])) × Near line.now result }
+    ensures { ((sets : List ℕ) (d : Policy) (l : ℕ) (ls : List ℕ) → Labels text.now labels.now sets k d.labels → offending_of line.now result ≡ missing (λ w. there (label_of d w)) (cond (leads_label (scheme_by scheme l ls)) (leading_name (items_at line.now at)) [])) × Near line.now result }
 {
     if leads_label(scheme) {
         return leading_unknown(text, labels, k, line, at);
@@ -252,7 +252,7 @@ fn unknown_bracket(
     line: &[u8],
     at: usize,
 ) -> Offending
-    ensures { ((sets : List ℕ) (d : Policy) (l : ℕ) (ls : List ℕ) → Labels text.now labels.now sets k d.labels → offendingOf line.now result ≡ missing (λ w. there (label_of d w)) (cond (hasBrackets (schemeBy scheme l ls)) (bracketLabels (itemsAt line.now at)) [])) × Near line.now result }
+    ensures { ((sets : List ℕ) (d : Policy) (l : ℕ) (ls : List ℕ) → Labels text.now labels.now sets k d.labels → offending_of line.now result ≡ missing (λ w. there (label_of d w)) (cond (has_brackets (scheme_by scheme l ls)) (bracket_labels (items_at line.now at)) [])) × Near line.now result }
 {
     if has_brackets(scheme) {
         return first_unknown_label(text, labels, k, line, at);
@@ -269,7 +269,7 @@ fn unknown_label(
     line: &[u8],
     at: usize,
 ) -> Offending
-    ensures { ((sets : List ℕ) (d : Policy) (l : ℕ) (ls : List ℕ) → Labels text.now labels.now sets k d.labels → offendingOf line.now result ≡ missing (λ w. there (label_of d w)) (rowLabels (schemeBy scheme l ls) (itemsAt line.now at))) × Near line.now result }
+    ensures { ((sets : List ℕ) (d : Policy) (l : ℕ) (ls : List ℕ) → Labels text.now labels.now sets k d.labels → offending_of line.now result ≡ missing (λ w. there (label_of d w)) (row_labels (scheme_by scheme l ls) (items_at line.now at))) × Near line.now result }
 {
     let first = unknown_lead(scheme, text, labels, k, line, at);
     match first {

@@ -1,13 +1,13 @@
 // The items of a row, by their places in the line: whether they are shaped for a scheme, and how many there are.
 ghost use Rattle.std.specs.Prelude.{◌+◌, eqb, get_or, length, Bool, cond, false, not, true, List, [], ◌≡◌};
 ghost use Rattle.std.proofs.Math.Option.{Option, none, some};
-ghost use Rattle.document.specs.NameFaults.{leadingName};
-ghost use Rattle.document.specs.ValueFaults.{shapedValues, valuesBehindLabel};
-ghost use Rattle.rows.specs.RowWords.{valuesAt};
+ghost use Rattle.document.specs.NameFaults.{leading_name};
+ghost use Rattle.document.specs.ValueFaults.{shaped_values, values_behind_label};
+ghost use Rattle.rows.specs.RowWords.{values_at};
 ghost use Rattle.form.specs.Form.{Item};
-ghost use Rattle.form.specs.Walks.{isLabelledAt, itemsAt};
+ghost use Rattle.form.specs.Walks.{is_labelled_at, items_at};
 ghost use Rattle.lists.specs.Lists.{holds_of};
-ghost use Rattle.text.specs.Names.{isName};
+ghost use Rattle.text.specs.Names.{is_name};
 ghost use Rattle.text.specs.Words.{Word, word_at};
 
 use form::walks::{is_labelled, item_end_at};
@@ -16,7 +16,7 @@ use text::words::{End, name_end, word_end};
 
 // Whether the item at a position is `(v L)`, where such are wanted, and else is none.
 fn item_fits(line: &[u8], at: usize, bracketed: bool) -> bool
-    ensures { isLabelledAt line.now at ≡ cond result bracketed (not bracketed) }
+    ensures { is_labelled_at line.now at ≡ cond result bracketed (not bracketed) }
 {
     if is_labelled(line, at) {
         bracketed
@@ -27,7 +27,7 @@ fn item_fits(line: &[u8], at: usize, bracketed: bool) -> bool
 
 // Whether the items from a position on are all shaped so, and as many as this.
 pub(crate) fn values_fit(line: &[u8], at: usize, bracketed: bool, width: usize) -> bool
-    ensures { result ≡ holds_of (λ ws. eqb (length ws) width) (shapedValues bracketed (itemsAt line.now at)) }
+    ensures { result ≡ holds_of (λ ws. eqb (length ws) width) (shaped_values bracketed (items_at line.now at)) }
 {
     let mut n = 0;
     let mut i = at;
@@ -43,7 +43,7 @@ pub(crate) fn values_fit(line: &[u8], at: usize, bracketed: bool, width: usize) 
 
 // Whether the first item from a position on is a name without a bracket.
 pub(crate) fn leads(line: &[u8], at: usize) -> bool
-    ensures { (result ≡ true → (get_or line.now at 0 ≡ 32) × (get_or line.now (at + 1) 0 ≡ 40 → ⊥) × (isName (word_at line.now (at + 1)) ≡ true)) × (result ≡ false → (leadingName (itemsAt line.now at) ≡ []) × ((values : List Item → Option (List Word)) → valuesBehindLabel values (itemsAt line.now at) ≡ none)) }
+    ensures { (result ≡ true → (get_or line.now at 0 ≡ 32) × (get_or line.now (at + 1) 0 ≡ 40 → ⊥) × (is_name (word_at line.now (at + 1)) ≡ true)) × (result ≡ false → (leading_name (items_at line.now at) ≡ []) × ((values : List Item → Option (List Word)) → values_behind_label values (items_at line.now at) ≡ none)) }
 {
     if byte_at(line, at) != b' ' {
         return false;
@@ -60,7 +60,7 @@ pub(crate) fn leads(line: &[u8], at: usize) -> bool
 
 // Whether the first item is a name without a bracket, and those behind it are all shaped so, and as many as this.
 pub(crate) fn led_values_fit(line: &[u8], at: usize, bracketed: bool, width: usize) -> bool
-    ensures { result ≡ holds_of (λ ws. eqb (length ws) width) (valuesBehindLabel (shapedValues bracketed) (itemsAt line.now at)) }
+    ensures { result ≡ holds_of (λ ws. eqb (length ws) width) (values_behind_label (shaped_values bracketed) (items_at line.now at)) }
 {
     if leads(line, at) {
         return values_fit(line, word_end(line, at + 1), bracketed, width);
@@ -70,7 +70,7 @@ pub(crate) fn led_values_fit(line: &[u8], at: usize, bracketed: bool, width: usi
 
 // Where the items behind the first begin.
 pub fn behind_first(line: &[u8], at: usize) -> usize
-    ensures { (b : Bool) (ws : List Word) → valuesBehindLabel (shapedValues b) (itemsAt line.now at) ≡ some ws → valuesAt line.now result ≡ ws }
+    ensures { (b : Bool) (ws : List Word) → values_behind_label (shaped_values b) (items_at line.now at) ≡ some ws → values_at line.now result ≡ ws }
 {
     if byte_at(line, at) == b' ' {
         return item_end_at(line, at + 1);

@@ -2,8 +2,8 @@
 ghost use Rattle.std.specs.Prelude.{◌+◌, ◌<◌, ◌≤◌, ℕ, length, List, [], ◌++◌, ◌∷◌, map, ◌≡◌};
 ghost use Rattle.std.proofs.Math.Option.{some};
 ghost use Rattle.document.specs.Policy.{Row};
-ghost use Rattle.document.specs.ValueFaults.{plainValues};
-ghost use Rattle.form.specs.Walks.{itemsAt, plainAt};
+ghost use Rattle.document.specs.ValueFaults.{plain_values};
+ghost use Rattle.form.specs.Walks.{items_at, plain_at};
 ghost use Rattle.relations.specs.Rows.{FillingRow, Rows};
 ghost use Rattle.stepping.specs.Stored.{LineAt, RowFilled};
 ghost use Rattle.text.specs.Words.{Word};
@@ -27,7 +27,7 @@ fn store_values(
     line: &[u8],
     is: usize,
 ) -> usize
-    ensures { (m : ℕ) (ls : List ℕ) → LineAt text.now at line.now → k < 1024 → length (plainAt line.now is) ≤ 16 → FillingRow text.now rows.old k 0 m [] ls → RowFilled text.now rows.old rows.new k result m (map (λ w. w.bytes) (plainAt line.now is)) ls }
+    ensures { (m : ℕ) (ls : List ℕ) → LineAt text.now at line.now → k < 1024 → length (plain_at line.now is) ≤ 16 → FillingRow text.now rows.old k 0 m [] ls → RowFilled text.now rows.old rows.new k result m (map (λ w. w.bytes) (plain_at line.now is)) ls }
 {
     let mut c: usize = 0;
     let mut j = is;
@@ -82,7 +82,7 @@ fn store_plain(
     table: usize,
     is: usize,
 )
-    ensures { (rs : List Row) (ws : List Word) → LineAt text.now at line.now → Rows text.now rows.old k rs → k < 1024 → plainValues (itemsAt line.now is) ≡ some ws → length ws ≤ 16 → Rows text.now rows.new (k + 1) (rs ++ (record { table = table; values = map (λ w. w.bytes) ws; labels = [] } ∷ [])) }
+    ensures { (rs : List Row) (ws : List Word) → LineAt text.now at line.now → Rows text.now rows.old k rs → k < 1024 → plain_values (items_at line.now is) ≡ some ws → length ws ≤ 16 → Rows text.now rows.new (k + 1) (rs ++ (record { table = table; values = map (λ w. w.bytes) ws; labels = [] } ∷ [])) }
 {
     let n = store_values(text, rows, k, at, line, is);
     add_row(rows, k, table, n, 0);

@@ -10,18 +10,18 @@ use mathlib.Core.Path.{◌∙◌, ◌≡◌, ap, refl, subst, sym}
 use native.Mathlib.Omega.{arith}
 use denote.Enum.Declared.{tag_of}
 use Rattle.authority.specs.Authorities.{Authorities}
-use Rattle.document.specs.Lookup.{purposeOf}
+use Rattle.document.specs.Lookup.{purpose_of}
 use Rattle.document.specs.Policy.{Doc, Node, Policy, tree_of}
-use Rattle.workspace.proofs.TabulatedLaws.{length-tabulated}
+use Rattle.workspace.proofs.TabulatedLaws.{length_tabulated}
 use Rattle.relations.specs.Labels.{Said}
-use Rattle.principals.specs.Nodes.{Nodes, nodeIn}
+use Rattle.principals.specs.Nodes.{Nodes, node_in}
 use Rattle.lists.specs.Lists.{or_zero}
 use Rattle.purpose.specs.Compliance.{in_tree}
 use Rattle.purpose.specs.Members.{limit}
-use Rattle.query.specs.QueryForm.{queryOf}
-use Rattle.query.specs.QueryPlaces.{IsQuery, ReadsQuery, formAt}
+use Rattle.query.specs.QueryForm.{query_of}
+use Rattle.query.specs.QueryPlaces.{IsQuery, ReadsQuery, form_at}
 use Rattle.resolving.specs.Acting.{PartiesAre, PartiesKnown, RoleMissing}
-use Rattle.query.specs.Query.{unknownParty}
+use Rattle.query.specs.Query.{unknown_party}
 use Rattle.query.specs.QueryForm.{QueryForm}
 use Rattle.text.specs.Words.{word_of}
 use Rattle.stages.specs.Stages.{Granted, Standing}
@@ -39,48 +39,48 @@ module _ {text ps rs bs us cs gs ms ts ws : List ℕ} {c : Counts} {d : Doc} (h 
   authorities = record { formed = h.formed; roles = h.indexed.roles; attributes = h.indexed.attributes; users = h.indexed.users; conds = h.indexed.conds; grants = h.indexed.grants }
 
   -- so much as the answer needs
-  pub granted : {os : List Bool} {s : List ℕ} {q : Question} {p : ℕ} → IsQuery s q → purposeOf d.policy (formAt s q).purpose ≡ some p → Said d.policy p os → Granted text ts ws c os s q d
+  pub granted : {os : List Bool} {s : List ℕ} {q : Question} {p : ℕ} → IsQuery s q → purpose_of d.policy (form_at s q).purpose ≡ some p → Said d.policy p os → Granted text ts ws c os s q d
   unfolding or_zero
   granted {os} i e o = record { small = h.small; tables = h.indexed.tables; notes = h.indexed.notes; rows = h.indexed.rows; said = subst (λ n. Said d.policy n os) (sym (ap or_zero e)) o; query = i }
 
 -- the number of a purpose that was found lies in the tree
-pub in-tree : {text ws : List ℕ} {k p : ℕ} {ns : List Node} → Nodes limit text ws k ns → p < k → in_tree (tree_of ns) p ≡ true
+pub in_tree_lem : {text ws : List ℕ} {k p : ℕ} {ns : List Node} → Nodes limit text ws k ns → p < k → in_tree (tree_of ns) p ≡ true
 unfolding tree_of
-in-tree {text} {ws} {k} {p} {ns} h b = lt-ltb p _ (subst (λ n. p < n) (sym (length-map ns (λ (x : Node). x.parent) ∙ ap length (sym h.are) ∙ length-tabulated (nodeIn limit text ws) k)) b)
+in_tree_lem {text} {ws} {k} {p} {ns} h b = lt-ltb p _ (subst (λ n. p < n) (sym (length-map ns (λ (x : Node). x.parent) ∙ ap length (sym h.are) ∙ length_tabulated (node_in limit text ws) k)) b)
 
 -- the number of the purpose is the one that its word names
-pub purpose-number : {o : Option ℕ} {p : ℕ} → o ≡ some p → p ≡ or_zero o
+pub purpose_number : {o : Option ℕ} {p : ℕ} → o ≡ some p → p ≡ or_zero o
 unfolding or_zero
-purpose-number e = sym (ap or_zero e)
+purpose_number e = sym (ap or_zero e)
 
 -- ---- what reading and looking up answered
 
 module _ (s : List ℕ) {a : Asked} (r : ReadsQuery s a) where
-  pub wrong-read : a ≡ asked.Wrong → queryOf s ≡ none
+  pub wrong_read : a ≡ asked.Wrong → query_of s ≡ none
   unfolding ReadsQuery
-  wrong-read e = subst (ReadsQuery s) e r
+  wrong_read e = subst (ReadsQuery s) e r
 
-  pub query-read : {q : Question} → a ≡ asked.Query q → IsQuery s q
+  pub query_read : {q : Question} → a ≡ asked.Query q → IsQuery s q
   unfolding ReadsQuery
-  query-read e = subst (ReadsQuery s) e r
+  query_read e = subst (ReadsQuery s) e r
 
 module _ (d : Policy) (s : List ℕ) (q : QueryForm) (c : Counts) {x : who.Parties} (h : PartiesAre d s q c x) where
-  pub party-unknown : {at : ℕ} → x ≡ parties.Unknown at → unknownParty d q ≡ some (word_of s at)
+  pub party_unknown : {at : ℕ} → x ≡ parties.Unknown at → unknown_party d q ≡ some (word_of s at)
   unfolding PartiesAre
-  party-unknown e = subst (PartiesAre d s q c) e h
+  party_unknown e = subst (PartiesAre d s q c) e h
 
-  pub role-missing : x ≡ parties.NotGiven → RoleMissing d q
+  pub role_missing : x ≡ parties.NotGiven → RoleMissing d q
   unfolding PartiesAre
-  role-missing e = subst (PartiesAre d s q c) e h
+  role_missing e = subst (PartiesAre d s q c) e h
 
-  pub parties-known : {p u : ℕ} → x ≡ parties.Known p u → PartiesKnown d q c p u
+  pub parties_known : {p u : ℕ} → x ≡ parties.Known p u → PartiesKnown d q c p u
   unfolding PartiesAre
-  parties-known e = subst (PartiesAre d s q c) e h
+  parties_known e = subst (PartiesAre d s q c) e h
 
 -- who is neither known nor unknown has no such role
-pub not-given : (x : who.Parties) → (tag_of the_type x ≡ 0) ⊎ (tag_of the_type x ≡ 2) → (tag_of the_type x ≡ 1) ⊎ (tag_of the_type x ≡ 2) → x ≡ parties.NotGiven
-not-given parties.NotGiven g h = refl
-not-given (parties.Known p u) g (inl e) = absurd (omega (arith, e))
-not-given (parties.Known p u) g (inr e) = absurd (omega (arith, e))
-not-given (parties.Unknown at) (inl e) h = absurd (omega (arith, e))
-not-given (parties.Unknown at) (inr e) h = absurd (omega (arith, e))
+pub not_given : (x : who.Parties) → (tag_of the_type x ≡ 0) ⊎ (tag_of the_type x ≡ 2) → (tag_of the_type x ≡ 1) ⊎ (tag_of the_type x ≡ 2) → x ≡ parties.NotGiven
+not_given parties.NotGiven g h = refl
+not_given (parties.Known p u) g (inl e) = absurd (omega (arith, e))
+not_given (parties.Known p u) g (inr e) = absurd (omega (arith, e))
+not_given (parties.Unknown at) (inl e) h = absurd (omega (arith, e))
+not_given (parties.Unknown at) (inr e) h = absurd (omega (arith, e))

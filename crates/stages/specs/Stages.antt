@@ -1,15 +1,15 @@
 -- Contract: what the functions know of the document and of the query, from one stage of asking to the next.
 use Rattle.std.specs.Prelude.{◌<◌, ◌≤◌, ℕ, length, take, Bool, true, List, map, ◌≡◌}
 use Rattle.document.specs.Invariants.{Formed}
-use Rattle.document.specs.Lookup.{columnOf, columnsAt, purposeOf, table_of}
+use Rattle.document.specs.Lookup.{column_of, columns_at, purpose_of, table_of}
 use Rattle.document.specs.Policy.{Doc, Policy}
 use Rattle.index.specs.Workspace.{Indexed}
 use Rattle.index.specs.declared.counts.Counts.{Counts}
 use Rattle.judging.specs.declared.marking.Marking.{Marking}
 use Rattle.judging.specs.declared.sought.Sought.{Sought}
 use Rattle.lists.specs.Lists.{all_of, or_zero, there}
-use Rattle.query.specs.QueryForm.{QueryForm, namedWords}
-use Rattle.query.specs.QueryPlaces.{IsQuery, asksRows, chosenCount, comparisonCount, formAt, verbIn}
+use Rattle.query.specs.QueryForm.{QueryForm, named_words}
+use Rattle.query.specs.QueryPlaces.{IsQuery, asks_rows, chosen_count, comparison_count, form_at, verb_in}
 use Rattle.query.specs.declared.reading.Question.{Question}
 use Rattle.relations.specs.Labels.{Said}
 use Rattle.relations.specs.Notes.{Notes}
@@ -31,7 +31,7 @@ pub record Granted (text ts ws : List ℕ) (c : Counts) (os : List Bool) (s : Li
   pub tables : Tables text ts c.tables d.policy.tables
   pub notes : Notes ts c.tables d.policy.notes
   pub rows : Rows text ws c.rows d.rows
-  pub said : Said d.policy (or_zero (purposeOf d.policy (formAt s q).purpose)) os
+  pub said : Said d.policy (or_zero (purpose_of d.policy (form_at s q).purpose)) os
   pub query : IsQuery s q
 
 -- t is the query's table, of k
@@ -42,17 +42,17 @@ pub record InTable (d : Policy) (q : QueryForm) (t k : ℕ) : Type 0 where
 -- table t has all the columns that the query names, and these are their numbers
 pub record ColumnsKnown (d : Policy) (q : QueryForm) (t : ℕ) (numbers : List ℕ) : Type 0 where
   pub number : ℕ
-  pub numbered : take number numbers ≡ map (λ w. or_zero (columnOf (columnsAt d t) w)) (namedWords q)
-  pub allThere : all_of (λ w. there (columnOf (columnsAt d t) w)) (namedWords q) ≡ true
+  pub numbered : take number numbers ≡ map (λ w. or_zero (column_of (columns_at d t) w)) (named_words q)
+  pub all_there : all_of (λ w. there (column_of (columns_at d t) w)) (named_words q) ≡ true
 
 -- what the question asks of the rows of table t, which is marked so
-unfoldable pub soughtIn : Question → ℕ → Marking → Sought
-soughtIn q t m = record {
+unfoldable pub sought_in : Question → ℕ → Marking → Sought
+sought_in q t m = record {
   table = t;
   marking = m;
   test = q.test;
-  tests = comparisonCount q.test;
-  lines = asksRows q.wanted;
-  verb = verbIn q.wanted;
-  chosen = chosenCount q.wanted;
+  tests = comparison_count q.test;
+  lines = asks_rows q.wanted;
+  verb = verb_in q.wanted;
+  chosen = chosen_count q.wanted;
 }

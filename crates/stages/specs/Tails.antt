@@ -1,100 +1,100 @@
 -- Contract: the tails of asking: what is left of it from one of the refusals 10 to 17, 27 and 31 on, the lent buffer's length aside.
 use Rattle.std.specs.Prelude.{ℕ, not, List, ◌≡◌}
-use Rattle.answer.specs.Answer.{answerTo}
+use Rattle.answer.specs.Answer.{answer_to}
 use Rattle.answer.specs.Ask.{Answered, Outcome}
-use Rattle.answer.specs.Ranged.{rangedColumn}
-use Rattle.answer.specs.Seen.{seenRows}
-use Rattle.answering.specs.Answering.{bufferAfter}
-use Rattle.document.specs.Lookup.{purposeOf, userOf}
+use Rattle.answer.specs.Ranged.{ranged_column}
+use Rattle.answer.specs.Seen.{seen_rows}
+use Rattle.answering.specs.Answering.{buffer_after}
+use Rattle.document.specs.Lookup.{purpose_of, user_of}
 use Rattle.document.specs.Policy.{Doc}
-use Rattle.stages.specs.Figures.{answeredAs, inFigures}
+use Rattle.stages.specs.Figures.{answered_as, in_figures}
 use Rattle.lists.specs.Lists.{or_zero}
-use Rattle.query.specs.Authority.{Clock, firstGrant, in_range}
-use Rattle.query.specs.Query.{closedPart, missingDate, mistypedQuery, resolved, unknownColumn, unknownParty}
-use Rattle.query.specs.QueryForm.{QueryForm, queryOf}
-use Rattle.text.specs.Refusal.{Refusal, ◌>>=◌, ◌>>◌, accepted, need, pointing, pointingAll, pointingNowhere, query, refuseAt, refuseIf, refused}
+use Rattle.query.specs.Authority.{Clock, first_grant, in_range}
+use Rattle.query.specs.Query.{closed_part, missing_date, mistyped_query, resolved, unknown_column, unknown_party}
+use Rattle.query.specs.QueryForm.{QueryForm, query_of}
+use Rattle.text.specs.Refusal.{Refusal, ◌>>=◌, ◌>>◌, accepted, need, pointing, pointing_all, pointing_nowhere, query, refuse_at, refuse_if, refused}
 use Rattle.text.specs.Words.{word_of, written_of}
 use Rattle.stages.specs.declared.answered.Answered as code
 
 -- the answer to the query, under the grant of number g
-unfoldable pub answerUnder : Doc → QueryForm → ℕ → Answered
-answerUnder d q g = record { answer = answerTo (resolved d.policy q) (seenRows d (resolved d.policy q)); grant = g }
+unfoldable pub answer_under : Doc → QueryForm → ℕ → Answered
+answer_under d q g = record { answer = answer_to (resolved d.policy q) (seen_rows d (resolved d.policy q)); grant = g }
 
 -- 17 on
-unfoldable pub ifOpen : Doc → QueryForm → ℕ → Outcome
-ifOpen d q g = do
-  refuseAt 17 query (closedPart d.policy q)
-  accepted (answerUnder d q g)
+unfoldable pub if_open : Doc → QueryForm → ℕ → Outcome
+if_open d q g = do
+  refuse_at 17 query (closed_part d.policy q)
+  accepted (answer_under d q g)
 
 -- 31 on
-unfoldable pub ifDated : Doc → QueryForm → ℕ → Outcome
-ifDated d q g = do
-  refuseAt 31 query (missingDate q)
-  ifOpen d q g
+unfoldable pub if_dated : Doc → QueryForm → ℕ → Outcome
+if_dated d q g = do
+  refuse_at 31 query (missing_date q)
+  if_open d q g
 
 -- 27 on
-unfoldable pub ifPlain : Doc → QueryForm → ℕ → Outcome
-ifPlain d q g = do
-  refuseAt 27 query (rangedColumn d q)
-  ifDated d q g
+unfoldable pub if_plain : Doc → QueryForm → ℕ → Outcome
+if_plain d q g = do
+  refuse_at 27 query (ranged_column d q)
+  if_dated d q g
 
 -- 16 on
-unfoldable pub ifTyped : Doc → QueryForm → ℕ → Outcome
-ifTyped d q g = do
-  refuseAt 16 query (mistypedQuery d.policy q)
-  ifPlain d q g
+unfoldable pub if_typed : Doc → QueryForm → ℕ → Outcome
+if_typed d q g = do
+  refuse_at 16 query (mistyped_query d.policy q)
+  if_plain d q g
 
 -- 15 on
-unfoldable pub ifKnown : Doc → QueryForm → ℕ → Outcome
-ifKnown d q g = do
-  refuseAt 15 query (unknownColumn d.policy q)
-  ifTyped d q g
+unfoldable pub if_known : Doc → QueryForm → ℕ → Outcome
+if_known d q g = do
+  refuse_at 15 query (unknown_column d.policy q)
+  if_typed d q g
 
 -- 14 on, for the user form of number u
-unfoldable pub ifGranted : Doc → Clock → QueryForm → ℕ → Outcome
-ifGranted d c q u = do
-  g ← need (firstGrant d.policy c u (or_zero (purposeOf d.policy q.purpose))) (pointing 14 query q.purpose)
-  ifKnown d q g
+unfoldable pub if_granted : Doc → Clock → QueryForm → ℕ → Outcome
+if_granted d c q u = do
+  g ← need (first_grant d.policy c u (or_zero (purpose_of d.policy q.purpose))) (pointing 14 query q.purpose)
+  if_known d q g
 
 -- 13 on
-unfoldable pub ifActing : Doc → Clock → QueryForm → Outcome
-ifActing d c q = do
-  u ← need (userOf d.policy q.user q.role) (pointing 13 query q.role)
-  ifGranted d c q u
+unfoldable pub if_acting : Doc → Clock → QueryForm → Outcome
+if_acting d c q = do
+  u ← need (user_of d.policy q.user q.role) (pointing 13 query q.role)
+  if_granted d c q u
 
 -- 12 on
-unfoldable pub ifParties : Doc → Clock → QueryForm → Outcome
-ifParties d c q = do
-  refuseAt 12 query (unknownParty d.policy q)
-  ifActing d c q
+unfoldable pub if_parties : Doc → Clock → QueryForm → Outcome
+if_parties d c q = do
+  refuse_at 12 query (unknown_party d.policy q)
+  if_acting d c q
 
 -- 11 on
-unfoldable pub ifRead : Doc → Clock → List ℕ → Outcome
-ifRead d c text = do
-  q ← need (queryOf text) (pointingAll 11 query text)
-  ifParties d c q
+unfoldable pub if_read : Doc → Clock → List ℕ → Outcome
+if_read d c text = do
+  q ← need (query_of text) (pointing_all 11 query text)
+  if_parties d c q
 
 -- 10 on
-unfoldable pub ifTimed : Doc → Clock → List ℕ → Outcome
-ifTimed d c text = do
-  refuseIf (not (in_range c)) (pointingNowhere 10 query)
-  ifRead d c text
+unfoldable pub if_timed : Doc → Clock → List ℕ → Outcome
+if_timed d c text = do
+  refuse_if (not (in_range c)) (pointing_nowhere 10 query)
+  if_read d c text
 
 -- the refusal that hands back the word at a place of the query
-unfoldable pub refusedAt : ℕ → List ℕ → ℕ → Refusal
-refusedAt n s at = pointing n query (word_of s at)
+unfoldable pub refused_at : ℕ → List ℕ → ℕ → Refusal
+refused_at n s at = pointing n query (word_of s at)
 
 -- the refusal that hands back the value at a place of the query, as it is written
-unfoldable pub refusedWritten : ℕ → List ℕ → ℕ → Refusal
-refusedWritten n s at = pointing n query (written_of s at)
+unfoldable pub refused_written : ℕ → List ℕ → ℕ → Refusal
+refused_written n s at = pointing n query (written_of s at)
 
 -- the lent buffer afterwards, where 18 is still to be judged: an answer that it has room for fills its first bytes, a longer
 -- one and a refusal leave it
-unfoldable pub afterFitting : Outcome → List ℕ → List ℕ
-afterFitting (refused r) buffer = buffer
-afterFitting (accepted a) buffer = bufferAfter a.answer buffer
+unfoldable pub after_fitting : Outcome → List ℕ → List ℕ
+after_fitting (refused r) buffer = buffer
+after_fitting (accepted a) buffer = buffer_after a.answer buffer
 
 -- the code's answer r stands for the outcome o, 18 aside, and the lent buffer afterwards is what o says
 pub record Gives (o : Outcome) (before after' : List ℕ) (r : code.Answered) : Type 0 where
-  pub is : answeredAs r ≡ inFigures o
-  pub buffer : after' ≡ afterFitting o before
+  pub is : answered_as r ≡ in_figures o
+  pub buffer : after' ≡ after_fitting o before

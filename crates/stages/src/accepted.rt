@@ -1,8 +1,8 @@
 // Asking over an accepted document.
 ghost use Rattle.document.specs.Policy.{Doc};
-ghost use Rattle.query.specs.HostClock.{clockOf};
+ghost use Rattle.query.specs.HostClock.{clock_of};
 ghost use Rattle.stages.specs.Stages.{Standing};
-ghost use Rattle.stages.specs.Tails.{Gives, ifTimed};
+ghost use Rattle.stages.specs.Tails.{Gives, if_timed};
 
 use crate::answered::Answered;
 use crate::granted::ask_granted;
@@ -38,7 +38,7 @@ pub fn ask_accepted(
     query: &[u8],
     out: &mut [u8],
 ) -> Answered
-    ensures { (d : Doc) → Standing text.now purposes.now roles.now attributes.now users.now conds.now grants.now sets.now tables.now rows.now c d → Gives (ifTimed d (clockOf clock) query.now) out.old out.new result }
+    ensures { (d : Doc) → Standing text.now purposes.now roles.now attributes.now users.now conds.now grants.now sets.now tables.now rows.now c d → Gives (if_timed d (clock_of clock) query.now) out.old out.new result }
 {
     if !in_range(clock) {
         return Answered::Refused(Refusal {

@@ -4,9 +4,9 @@ ghost use Rattle.std.specs.Prelude.{◌≡◌};
 ghost use Rattle.judging.specs.Prepared.{Prepared};
 ghost use Rattle.query.specs.Query.{resolved};
 ghost use Rattle.query.specs.QueryForm.{QueryForm};
-ghost use Rattle.query.specs.QueryPlaces.{formAt};
-ghost use Rattle.stages.specs.Stages.{Granted, soughtIn};
-ghost use Rattle.stages.specs.Tails.{Gives, answerUnder, ifKnown};
+ghost use Rattle.query.specs.QueryPlaces.{form_at};
+ghost use Rattle.stages.specs.Stages.{Granted, sought_in};
+ghost use Rattle.stages.specs.Tails.{Gives, answer_under, if_known};
 ghost use Rattle.text.specs.Refusal.{accepted};
 
 use crate::answered::{Answered, Figures};
@@ -30,7 +30,7 @@ use workspace::layout::{ROW_CELLS, TABLE_CELLS, VERDICTS};
 
 // What a query asks of the rows of table t, which is marked so.
 fn sought_in(q: Question, t: usize, marking: Marking) -> Sought
-    ensures { result ≡ soughtIn q t marking }
+    ensures { result ≡ sought_in q t marking }
 {
     let wanted = q.wanted;
     let test = q.test;
@@ -63,7 +63,7 @@ fn ask_rows(
     grant: usize,
     out: &mut [u8],
 ) -> Answered
-    ensures { (d : Doc) (q : QueryForm) → Prepared text.now tables.now rows.now count said.now query.now s tests.now columns.now d (resolved d.policy q) → Gives (accepted (answerUnder d q grant)) out.old out.new result }
+    ensures { (d : Doc) (q : QueryForm) → Prepared text.now tables.now rows.now count said.now query.now s tests.now columns.now d (resolved d.policy q) → Gives (accepted (answer_under d q grant)) out.old out.new result }
 {
     let x = answer_rows(
         text, tables, rows, count, said, query, s, tests, columns, out,
@@ -89,7 +89,7 @@ pub(crate) fn ask_granted(
     grant: usize,
     out: &mut [u8],
 ) -> Answered
-    ensures { (d : Doc) → Granted text.now tables.now rows.now c said.now query.now q d → Gives (ifKnown d (formAt query.now q) grant) out.old out.new result }
+    ensures { (d : Doc) → Granted text.now tables.now rows.now c said.now query.now q d → Gives (if_known d (form_at query.now q) grant) out.old out.new result }
 {
     let h = q.head;
     let table = find_table(text, tables, c.tables, query, h.table);

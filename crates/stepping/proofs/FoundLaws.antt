@@ -3,16 +3,16 @@ use Prim.Native.Nat.{ℕ}
 use mathlib.Core.Bool.{false, true}
 use mathlib.Core.Option.{Option}
 use mathlib.Core.Path.{◌∙◌, ◌≡◌, ap, sym}
-use Rattle.workspace.specs.Found.{foundAs}
+use Rattle.workspace.specs.Found.{found_as}
 use Rattle.workspace.specs.declared.found.Found.{Found}
 use Rattle.workspace.specs.declared.found.Found.TheVariants.{At, Nothing}
 use Rattle.lists.specs.Lists.{there}
 
-module _ (r : Found) (o : Option ℕ) (is : foundAs r ≡ o) where
-  pub found-there : (x : ℕ) → r ≡ At x → there o ≡ true
+module _ (r : Found) (o : Option ℕ) (is : found_as r ≡ o) where
+  pub found_there : (x : ℕ) → r ≡ At x → there o ≡ true
   unfolding there
-  found-there x e = ap there (sym is ∙ ap foundAs e)
+  found_there x e = ap there (sym is ∙ ap found_as e)
 
-  pub found-absent : r ≡ Nothing → there o ≡ false
+  pub found_absent : r ≡ Nothing → there o ≡ false
   unfolding there
-  found-absent e = ap there (sym is ∙ ap foundAs e)
+  found_absent e = ap there (sym is ∙ ap found_as e)

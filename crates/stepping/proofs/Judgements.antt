@@ -5,13 +5,13 @@ use mathlib.Core.Option.{none, some}
 use mathlib.Core.Path.{◌∙◌, ◌≡◌, ap, subst}
 use native.Mathlib.Omega.{arith}
 use Rattle.stepping.specs.Follows.{Follows, Grows, Refuses}
-use Rattle.document.specs.Check.{checkForm, checkLine}
+use Rattle.document.specs.Check.{check_form, check_line}
 use Rattle.document.specs.Meaning.{add}
 use Rattle.document.specs.Policy.{Doc}
 use Rattle.stepping.specs.Judged.{Judges, ReachesBy, RoomFor, judged}
 use Rattle.form.specs.Form.{Form}
 use Rattle.form.specs.FormReader.{form_of}
-use Rattle.text.specs.Refusal.{Result, ◌>>=◌, accepted, document, need, pointingAll, refused}
+use Rattle.text.specs.Refusal.{Result, ◌>>=◌, accepted, document, need, pointing_all, refused}
 use Rattle.index.specs.declared.counts.Counts.{Counts}
 use Rattle.stepping.specs.declared.step.Step.{Step}
 use Rattle.stepping.specs.declared.step.Step.TheVariants.{Fails, Goes}
@@ -24,41 +24,41 @@ module _ {Held : Doc → Type 0} {Inside : Type 0} {line : List ℕ} {f : Form} 
   pub has_room : r ≡ Fine → k < room
   has_room h = subst (λ (x : Verdict). RoomFor x k room) h j.roomy
 
-  pub passes : r ≡ Fine → (d : Doc) → Held d → checkForm d line f ≡ accepted (add d f)
+  pub passes : r ≡ Fine → (d : Doc) → Held d → check_form d line f ≡ accepted (add d f)
   passes h d held = j.is d held ∙ ap (judged d line f) h
 
   -- something is wrong
-  pub refuses : {x : Fault} → r ≡ Faulty x → (d : Doc) → Held d → Inside → Refuses line (checkForm d line f) x
+  pub refuses : {x : Fault} → r ≡ Faulty x → (d : Doc) → Held d → Inside → Refuses line (check_form d line f) x
   refuses h d held p = record { is = j.is d held ∙ ap (judged d line f) h; reaches = subst (ReachesBy line) h (j.reaches p) }
 
 -- a line that is a form, and one that is none
-pub line-form : (d : Doc) (line : List ℕ) (f : Form) → form_of line ≡ some f → checkLine d line ≡ checkForm d line f
-unfolding checkLine need ◌>>=◌
-line-form d line f h = rw h
+pub line_form : (d : Doc) (line : List ℕ) (f : Form) → form_of line ≡ some f → check_line d line ≡ check_form d line f
+unfolding check_line need ◌>>=◌
+line_form d line f h = rw h
 
-pub line-none : (d : Doc) (line : List ℕ) → form_of line ≡ none → checkLine d line ≡ refused (pointingAll 2 document line)
-unfolding checkLine need ◌>>=◌
-line-none d line h = rw h
+pub line_none : (d : Doc) (line : List ℕ) → form_of line ≡ none → check_line d line ≡ refused (pointing_all 2 document line)
+unfolding check_line need ◌>>=◌
+line_none d line h = rw h
 
 -- ---- the answer to a line
 
 module _ {Held : Counts → Doc → Type 0} {line : List ℕ} {o : Result Doc} where
-  pub follows-fails : {f : Fault} → Refuses line o f → Follows Held line o (Fails f)
-  follows-fails {f} r = record {
+  pub follows_fails : {f : Fault} → Refuses line o f → Follows Held line o (Fails f)
+  follows_fails {f} r = record {
     fails = λ g e. subst (Refuses line o) (let q : f ≡ g = cc in q) r;
     goes = λ c e. absurd (let z : ◌≡◌ {A = ℕ} 0 1 = cc in omega arith);
   }
 
-  pub follows-goes : {c : Counts} → Grows Held o c → Follows Held line o (Goes c)
-  follows-goes {c} g = record {
+  pub follows_goes : {c : Counts} → Grows Held o c → Follows Held line o (Goes c)
+  follows_goes {c} g = record {
     fails = λ f e. absurd (let z : ◌≡◌ {A = ℕ} 0 1 = cc in omega arith);
     goes = λ k e. subst (Grows Held o) (let q : c ≡ k = cc in q) g;
   }
 
 -- the same for an outcome that equals it
-pub follows-as : {Held : Counts → Doc → Type 0} {line : List ℕ} {o p : Result Doc} {s : Step} → o ≡ p → Follows Held line o s → Follows Held line p s
-follows-as {Held} {line} {o} {p} {s} e f = subst (λ (x : Result Doc). Follows Held line x s) e f
+pub follows_as : {Held : Counts → Doc → Type 0} {line : List ℕ} {o p : Result Doc} {s : Step} → o ≡ p → Follows Held line o s → Follows Held line p s
+follows_as {Held} {line} {o} {p} {s} e f = subst (λ (x : Result Doc). Follows Held line x s) e f
 
 -- the same for a form that equals it
-pub judges-as : {Held : Doc → Type 0} {Inside : Type 0} {line : List ℕ} {f g : Form} {k room : ℕ} {r : Verdict} → f ≡ g → Judges Held Inside line f k room r → Judges Held Inside line g k room r
-judges-as {Held} {Inside} {line} {f} {g} {k} {room} {r} e j = subst (λ (x : Form). Judges Held Inside line x k room r) e j
+pub judges_as : {Held : Doc → Type 0} {Inside : Type 0} {line : List ℕ} {f g : Form} {k room : ℕ} {r : Verdict} → f ≡ g → Judges Held Inside line f k room r → Judges Held Inside line g k room r
+judges_as {Held} {Inside} {line} {f} {g} {k} {room} {r} e j = subst (λ (x : Form). Judges Held Inside line x k room r) e j

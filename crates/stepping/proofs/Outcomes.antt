@@ -6,14 +6,14 @@ use mathlib.Core.Bool.{false, true}
 use mathlib.Core.List.{List}
 use mathlib.Core.Option.{none, some}
 use mathlib.Core.Path.{◌≡◌}
-use Rattle.document.specs.AmountFaults.{brokenRange, noSuchDate}
-use Rattle.document.specs.Bounds.{lateAttr, overBound, secondRoot}
+use Rattle.document.specs.AmountFaults.{broken_range, no_such_date}
+use Rattle.document.specs.Bounds.{late_attr, over_bound, second_root}
 use Rattle.document.specs.NameFaults.{taken, unknown}
 use Rattle.document.specs.NoteFaults.{misplaced}
 use Rattle.document.specs.Policy.{Doc}
-use Rattle.document.specs.TypeFaults.{wrongType}
+use Rattle.document.specs.TypeFaults.{wrong_type}
 use Rattle.document.specs.ValueFaults.{misfit}
-use Rattle.stepping.proofs.Judging.{judge-bound, judge-fine, judge-late, judge-misplaced, judge-root, judge-taken, judge-unknown}
+use Rattle.stepping.proofs.Judging.{judge_bound, judge_fine, judge_late, judge_misplaced, judge_root, judge_taken, judge_unknown}
 use Rattle.stepping.specs.Judged.{Judges}
 use Rattle.form.specs.Form.{Form}
 use Rattle.text.specs.Words.{word_of}
@@ -22,34 +22,34 @@ use Rattle.stepping.specs.declared.fault.Verdict.TheVariants.{Faulty, Fine}
 use Rattle.text.specs.declared.refusals.Reason.TheVariants.{LateAttribute, NameTaken, NameUnknown, NoteMisplaced, OverBound, SecondRoot}
 
 module _ (Held : Doc → Type 0) (Placed : Type 0) (line : List ℕ) (f : Form) (k room : ℕ) where
-  pub says-bound : ((d : Doc) → Held d → overBound d f ≡ true) → Judges Held Placed line f k room (Faulty (Whole OverBound))
-  says-bound a = record { is = λ d h. judge-bound d line f (a d h); roomy = tt; reaches = λ p. tt }
+  pub says_bound : ((d : Doc) → Held d → over_bound d f ≡ true) → Judges Held Placed line f k room (Faulty (Whole OverBound))
+  says_bound a = record { is = λ d h. judge_bound d line f (a d h); roomy = tt; reaches = λ p. tt }
 
-  module _ (a : (d : Doc) → Held d → overBound d f ≡ false) where
-    pub says-taken : (at : ℕ) → (Placed → at ≤ length line) → ((d : Doc) → Held d → taken d.policy f ≡ some (word_of line at))
+  module _ (a : (d : Doc) → Held d → over_bound d f ≡ false) where
+    pub says_taken : (at : ℕ) → (Placed → at ≤ length line) → ((d : Doc) → Held d → taken d.policy f ≡ some (word_of line at))
         → Judges Held Placed line f k room (Faulty (Item NameTaken at))
-    says-taken at p b = record { is = λ d h. judge-taken d line f (a d h) (word_of line at) (b d h); roomy = tt; reaches = p }
+    says_taken at p b = record { is = λ d h. judge_taken d line f (a d h) (word_of line at) (b d h); roomy = tt; reaches = p }
 
     module _ (b : (d : Doc) → Held d → taken d.policy f ≡ none) where
-      pub says-unknown : (at : ℕ) → (Placed → at ≤ length line) → ((d : Doc) → Held d → unknown d.policy f ≡ some (word_of line at))
+      pub says_unknown : (at : ℕ) → (Placed → at ≤ length line) → ((d : Doc) → Held d → unknown d.policy f ≡ some (word_of line at))
           → Judges Held Placed line f k room (Faulty (Item NameUnknown at))
-      says-unknown at p c = record { is = λ d h. judge-unknown d line f (a d h) (b d h) (word_of line at) (c d h); roomy = tt; reaches = p }
+      says_unknown at p c = record { is = λ d h. judge_unknown d line f (a d h) (b d h) (word_of line at) (c d h); roomy = tt; reaches = p }
 
       module _ (c : (d : Doc) → Held d → unknown d.policy f ≡ none) where
-        pub says-root : ((d : Doc) → Held d → secondRoot d.policy f ≡ true) → Judges Held Placed line f k room (Faulty (Whole SecondRoot))
-        says-root e = record { is = λ d h. judge-root d line f (a d h) (b d h) (c d h) (e d h); roomy = tt; reaches = λ p. tt }
+        pub says_root : ((d : Doc) → Held d → second_root d.policy f ≡ true) → Judges Held Placed line f k room (Faulty (Whole SecondRoot))
+        says_root e = record { is = λ d h. judge_root d line f (a d h) (b d h) (c d h) (e d h); roomy = tt; reaches = λ p. tt }
 
-        module _ (e : (d : Doc) → Held d → secondRoot d.policy f ≡ false) (g : (d : Doc) → Held d → misfit d.policy f ≡ false)
-            (t : (d : Doc) → Held d → wrongType d.policy f ≡ none) (o : (d : Doc) → Held d → brokenRange d.policy f ≡ none)
-            (q : (d : Doc) → Held d → noSuchDate d.policy f ≡ none) where
-          pub says-late : ((d : Doc) → Held d → lateAttr d.policy f ≡ true) → Judges Held Placed line f k room (Faulty (Whole LateAttribute))
-          says-late i =
-              record { is = λ d h. judge-late d line f (a d h) (b d h) (c d h) (e d h) (g d h) (t d h) (o d h) (q d h) (i d h); roomy = tt; reaches = λ p. tt }
+        module _ (e : (d : Doc) → Held d → second_root d.policy f ≡ false) (g : (d : Doc) → Held d → misfit d.policy f ≡ false)
+            (t : (d : Doc) → Held d → wrong_type d.policy f ≡ none) (o : (d : Doc) → Held d → broken_range d.policy f ≡ none)
+            (q : (d : Doc) → Held d → no_such_date d.policy f ≡ none) where
+          pub says_late : ((d : Doc) → Held d → late_attr d.policy f ≡ true) → Judges Held Placed line f k room (Faulty (Whole LateAttribute))
+          says_late i =
+              record { is = λ d h. judge_late d line f (a d h) (b d h) (c d h) (e d h) (g d h) (t d h) (o d h) (q d h) (i d h); roomy = tt; reaches = λ p. tt }
 
-          pub says-misplaced : ((d : Doc) → Held d → lateAttr d.policy f ≡ false) → ((d : Doc) → Held d → misplaced d f ≡ true) → Judges Held Placed line f k room (Faulty (Whole NoteMisplaced))
-          says-misplaced i j =
-              record { is = λ d h. judge-misplaced d line f (a d h) (b d h) (c d h) (e d h) (g d h) (t d h) (o d h) (q d h) (i d h) (j d h); roomy = tt; reaches = λ p. tt }
+          pub says_misplaced : ((d : Doc) → Held d → late_attr d.policy f ≡ false) → ((d : Doc) → Held d → misplaced d f ≡ true) → Judges Held Placed line f k room (Faulty (Whole NoteMisplaced))
+          says_misplaced i j =
+              record { is = λ d h. judge_misplaced d line f (a d h) (b d h) (c d h) (e d h) (g d h) (t d h) (o d h) (q d h) (i d h) (j d h); roomy = tt; reaches = λ p. tt }
 
-          pub says-fine : k < room → ((d : Doc) → Held d → lateAttr d.policy f ≡ false) → ((d : Doc) → Held d → misplaced d f ≡ false) → Judges Held Placed line f k room Fine
-          says-fine l i j =
-              record { is = λ d h. judge-fine d line f (a d h) (b d h) (c d h) (e d h) (g d h) (t d h) (o d h) (q d h) (i d h) (j d h); roomy = l; reaches = λ p. tt }
+          pub says_fine : k < room → ((d : Doc) → Held d → late_attr d.policy f ≡ false) → ((d : Doc) → Held d → misplaced d f ≡ false) → Judges Held Placed line f k room Fine
+          says_fine l i j =
+              record { is = λ d h. judge_fine d line f (a d h) (b d h) (c d h) (e d h) (g d h) (t d h) (o d h) (q d h) (i d h) (j d h); roomy = l; reaches = λ p. tt }

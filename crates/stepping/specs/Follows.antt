@@ -1,7 +1,7 @@
 -- Contract: what the answer to one line stands for.
 use Rattle.std.specs.Prelude.{ℕ, List, ◌≡◌}
 use Rattle.document.specs.Policy.{Doc}
-use Rattle.stepping.specs.Judged.{Reaches, refusalIn}
+use Rattle.stepping.specs.Judged.{Reaches, refusal_in}
 use Rattle.text.specs.Refusal.{Result, accepted, refused}
 use Rattle.stepping.specs.declared.fault.Fault.{Fault}
 use Rattle.index.specs.declared.counts.Counts.{Counts}
@@ -10,7 +10,7 @@ use Rattle.stepping.specs.declared.step.Step.TheVariants.{Fails, Goes}
 
 -- a line is refused: its outcome is the refusal that the fault stands for
 pub record Refuses (line : List ℕ) (o : Result Doc) (f : Fault) : Type 0 where
-  pub is : o ≡ refused (refusalIn line f)
+  pub is : o ≡ refused (refusal_in line f)
   pub reaches : Reaches line f
 
 -- a line is accepted: the workspace holds the document that is its outcome

@@ -1,11 +1,11 @@
 -- Contract: what the code's answer to a line stands for: the outcome of its check (01, "Checking a document").
 use Rattle.std.specs.Prelude.{◌<◌, ◌≤◌, ℕ, length, List, ◌≡◌}
-use Rattle.document.specs.Check.{checkForm}
+use Rattle.document.specs.Check.{check_form}
 use Rattle.document.specs.Meaning.{add}
 use Rattle.document.specs.Policy.{Doc}
 use Rattle.form.specs.Form.{Form}
-use Rattle.text.specs.Reasons.{reasonNumber}
-use Rattle.text.specs.Refusal.{Refusal, Result, accepted, document, pointing, pointingAll, refused}
+use Rattle.text.specs.Reasons.{reason_number}
+use Rattle.text.specs.Refusal.{Refusal, Result, accepted, document, pointing, pointing_all, refused}
 use Rattle.text.specs.Words.{word_of, written_of}
 use Rattle.stepping.specs.declared.fault.Fault.{Fault}
 use Rattle.stepping.specs.declared.fault.Fault.TheVariants.{Item, Value, Whole}
@@ -13,15 +13,15 @@ use Rattle.stepping.specs.declared.fault.Verdict.{Verdict}
 use Rattle.stepping.specs.declared.fault.Verdict.TheVariants.{Faulty, Fine}
 
 -- the refusal that a fault stands for, its part placed within the line
-abbrev pub refusalIn : List ℕ → Fault → Refusal
-refusalIn line (Whole x) = pointingAll (reasonNumber x) document line
-refusalIn line (Item x at) = pointing (reasonNumber x) document (word_of line at)
-refusalIn line (Value x at) = pointing (reasonNumber x) document (written_of line at)
+abbrev pub refusal_in : List ℕ → Fault → Refusal
+refusal_in line (Whole x) = pointing_all (reason_number x) document line
+refusal_in line (Item x at) = pointing (reason_number x) document (word_of line at)
+refusal_in line (Value x at) = pointing (reason_number x) document (written_of line at)
 
 -- the document with the form added, or the refusal
 abbrev pub judged : Doc → List ℕ → Form → Verdict → Result Doc
 judged d line f Fine = accepted (add d f)
-judged d line f (Faulty x) = refused (refusalIn line x)
+judged d line f (Faulty x) = refused (refusal_in line x)
 
 -- the word or value that is refused stands in the line
 abbrev pub Reaches : List ℕ → Fault → Type 0
@@ -42,6 +42,6 @@ RoomFor (Faulty x) k room = Unit {0}
 -- what a fault finder gives for a line of this form: for every document that the workspace holds (Held), the outcome of the
 -- form's check; where nothing is wrong, room for one more than k; and an item of the line, if the given places lie in it
 pub record Judges (Held : Doc → Type 0) (Placed : Type 0) (line : List ℕ) (f : Form) (k room : ℕ) (r : Verdict) : Type 0 where
-  pub is : (d : Doc) → Held d → checkForm d line f ≡ judged d line f r
+  pub is : (d : Doc) → Held d → check_form d line f ≡ judged d line f r
   pub roomy : RoomFor r k room
   pub reaches : Placed → ReachesBy line r

@@ -1,6 +1,6 @@
 // Places of a line as positions in the text, and numbers that were found.
 ghost use Rattle.std.specs.Prelude.{◌+◌, ◌≤◌, length, ◌≡◌};
-ghost use Rattle.workspace.specs.Found.{foundAs};
+ghost use Rattle.workspace.specs.Found.{found_as};
 ghost use Rattle.lists.specs.Lists.{or_zero};
 
 use workspace::found::Found;
@@ -20,7 +20,7 @@ pub fn place(text: &[u8], at: usize, p: usize) -> usize
 
 // The number that was found; 0 where there is none.
 pub fn number(f: Found) -> usize
-    ensures { result ≡ or_zero (foundAs f) }
+    ensures { result ≡ or_zero (found_as f) }
 {
     match f {
         Found::At(n) => n,

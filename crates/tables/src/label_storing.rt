@@ -1,6 +1,6 @@
 // Storing a label, with its sets of purposes.
 ghost use Rattle.std.specs.Prelude.{map};
-ghost use Rattle.document.specs.Lookup.{purposeOf};
+ghost use Rattle.document.specs.Lookup.{purpose_of};
 ghost use Rattle.document.specs.Policy.{Policy};
 ghost use Rattle.form.specs.Walks.{names_at};
 ghost use Rattle.relations.specs.Labels.{SetHolds};
@@ -25,7 +25,7 @@ pub fn set_of(
     line: &[u8],
     at: usize,
 ) -> [u64; WORDS]
-    ensures { (d : Policy) → Nodes limit text.now purposes.now k d.purposes → SetHolds result (map (λ w. or_zero (purposeOf d w)) (names_at line.now at)) }
+    ensures { (d : Policy) → Nodes limit text.now purposes.now k d.purposes → SetHolds result (map (λ w. or_zero (purpose_of d w)) (names_at line.now at)) }
 {
     let mut r = no_members();
     let mut j = at;

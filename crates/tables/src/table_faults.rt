@@ -2,16 +2,16 @@
 ghost use Rattle.std.specs.Prelude.{◌≤◌, ℕ, length, take, List, [], ◌∷◌, map, ◌≡◌};
 ghost use Rattle.document.specs.Policy.{Doc, Label};
 ghost use Rattle.stepping.specs.Places.{Near};
-ghost use Rattle.tables.specs.TableLine.{JudgesTable, bracketEndBy, columnsBy};
-ghost use Rattle.form.specs.Form.{schemeLabels};
-ghost use Rattle.form.specs.Walks.{columnLabelsAt};
+ghost use Rattle.tables.specs.TableLine.{JudgesTable, bracket_end_by, columns_by};
+ghost use Rattle.form.specs.Form.{scheme_labels};
+ghost use Rattle.form.specs.Walks.{column_labels_at};
 ghost use Rattle.relations.specs.Labels.{Labels};
 ghost use Rattle.relations.specs.Tables.{Tables};
-ghost use Rattle.form.specs.TableWords.{schemeWords};
-ghost use Rattle.lists.specs.Lists.{any_of, findIndex, there};
+ghost use Rattle.form.specs.TableWords.{scheme_words};
+ghost use Rattle.lists.specs.Lists.{any_of, find_index, there};
 ghost use Rattle.text.specs.Offending.{missing, repeated};
-ghost use Rattle.text.specs.Words.{isCalled, word_of};
-ghost use Rattle.text.specs.CodeEnds.{offendingOf};
+ghost use Rattle.text.specs.Words.{is_called, word_of};
+ghost use Rattle.text.specs.CodeEnds.{offending_of};
 
 use form::lines::{Scheme, labels_columns};
 use form::walks::{first_in, pair_end, third_in, triple_end};
@@ -28,7 +28,7 @@ use workspace::met::{LONG_LINE, is_new};
 
 // Where the bracket of two or three words at a position ends.
 fn bracket_end(s: &[u8], at: usize, triple: bool) -> usize
-    ensures { result ≡ bracketEndBy triple s.now at }
+    ensures { result ≡ bracket_end_by triple s.now at }
 {
     if triple {
         return triple_end(s, at);
@@ -38,7 +38,7 @@ fn bracket_end(s: &[u8], at: usize, triple: bool) -> usize
 
 // How many columns stand from a position on.
 fn count_columns(s: &[u8], at: usize, triple: bool) -> usize
-    ensures { result ≡ length (columnsBy triple s.now at) }
+    ensures { result ≡ length (columns_by triple s.now at) }
 {
     let mut j = at;
     let mut n: usize = 0;
@@ -51,7 +51,7 @@ fn count_columns(s: &[u8], at: usize, triple: bool) -> usize
 
 // Whether the name at p is one of the first n columns' from a position on.
 fn stands_among(s: &[u8], at: usize, n: usize, triple: bool, p: usize) -> bool
-    ensures { result ≡ any_of (λ v. isCalled (word_of s.now p) v.bytes) (take n (map (λ x. x.name) (columnsBy triple s.now at))) }
+    ensures { result ≡ any_of (λ v. is_called (word_of s.now p) v.bytes) (take n (map (λ x. x.name) (columns_by triple s.now at))) }
 {
     let mut j = at;
     let mut left = n;
@@ -70,7 +70,7 @@ fn stands_among(s: &[u8], at: usize, n: usize, triple: bool, p: usize) -> bool
 
 // The first of the columns from a position on whose name stood before. A name that is surely new is compared with none.
 fn first_repeat_by(s: &[u8], at: usize, triple: bool, met: &mut [u64]) -> Offending
-    ensures { (offendingOf s.now result ≡ repeated (map (λ x. x.name) (columnsBy triple s.now at))) × Near s.now result }
+    ensures { (offending_of s.now result ≡ repeated (map (λ x. x.name) (columns_by triple s.now at))) × Near s.now result }
 {
     let mut j = at;
     let mut n: usize = 0;
@@ -89,7 +89,7 @@ fn first_repeat_by(s: &[u8], at: usize, triple: bool, met: &mut [u64]) -> Offend
 
 // The first of the columns from a position on whose name stood before.
 fn first_repeat(s: &[u8], at: usize, triple: bool) -> Offending
-    ensures { (offendingOf s.now result ≡ repeated (map (λ x. x.name) (columnsBy triple s.now at))) × Near s.now result }
+    ensures { (offending_of s.now result ≡ repeated (map (λ x. x.name) (columns_by triple s.now at))) × Near s.now result }
 {
     if s.len() < LONG_LINE {
         let mut few = [0u64; 1];
@@ -101,7 +101,7 @@ fn first_repeat(s: &[u8], at: usize, triple: bool) -> Offending
 
 // Whether there is a label of the name at p.
 fn is_label(text: &[u8], labels: &[usize; LABELS], m: usize, line: &[u8], p: usize) -> bool
-    ensures { (sets : List ℕ) (ls : List Label) → Labels text.now labels.now sets m ls → result ≡ there (findIndex (λ x. isCalled (word_of line.now p) x.name) ls) }
+    ensures { (sets : List ℕ) (ls : List Label) → Labels text.now labels.now sets m ls → result ≡ there (find_index (λ x. is_called (word_of line.now p) x.name) ls) }
 {
     let f = find_label(text, labels, m, line, p);
     match f {
@@ -118,7 +118,7 @@ fn first_unknown_label(
     line: &[u8],
     at: usize,
 ) -> Offending
-    ensures { ((sets : List ℕ) (ls : List Label) → Labels text.now labels.now sets m ls → offendingOf line.now result ≡ missing (λ w. there (findIndex (λ x. isCalled w x.name) ls)) (columnLabelsAt line.now at)) × Near line.now result }
+    ensures { ((sets : List ℕ) (ls : List Label) → Labels text.now labels.now sets m ls → offending_of line.now result ≡ missing (λ w. there (find_index (λ x. is_called w x.name) ls)) (column_labels_at line.now at)) × Near line.now result }
 {
     let mut j = at;
     while byte_at(line, j) == b' ' {
@@ -139,7 +139,7 @@ fn unknown_table_label(
     line: &[u8],
     l: usize,
 ) -> Offending
-    ensures { ((sets : List ℕ) (ls : List Label) → Labels text.now labels.now sets m ls → offendingOf line.now result ≡ missing (λ w. there (findIndex (λ x. isCalled w x.name) ls)) (word_of line.now l ∷ [])) × (l ≤ length line.now → Near line.now result) }
+    ensures { ((sets : List ℕ) (ls : List Label) → Labels text.now labels.now sets m ls → offending_of line.now result ≡ missing (λ w. there (find_index (λ x. is_called w x.name) ls)) (word_of line.now l ∷ [])) × (l ≤ length line.now → Near line.now result) }
 {
     if is_label(text, labels, m, line, l) {
         return Offending::Nothing;
@@ -157,7 +157,7 @@ fn unknown_label(
     l: usize,
     cs: usize,
 ) -> Offending
-    ensures { ((sets : List ℕ) (ls : List Label) → Labels text.now labels.now sets m ls → offendingOf line.now result ≡ missing (λ w. there (findIndex (λ x. isCalled w x.name) ls)) (schemeLabels (schemeWords line.now scheme l cs))) × (l ≤ length line.now → Near line.now result) }
+    ensures { ((sets : List ℕ) (ls : List Label) → Labels text.now labels.now sets m ls → offending_of line.now result ≡ missing (λ w. there (find_index (λ x. is_called w x.name) ls)) (scheme_labels (scheme_words line.now scheme l cs))) × (l ≤ length line.now → Near line.now result) }
 {
     match scheme {
         Scheme::Unlabelled => Offending::Nothing,

@@ -1,8 +1,8 @@
 // Storing a table: its columns one by one, and then the table.
 ghost use Rattle.std.specs.Prelude.{◌<◌, ◌≤◌, length, map, ◌≡◌};
 ghost use Rattle.condition.specs.Answers.{kind_of};
-ghost use Rattle.document.specs.Meaning.{columnMeant};
-ghost use Rattle.form.specs.Walks.{columnFormsAt, columnKindAt};
+ghost use Rattle.document.specs.Meaning.{column_meant};
+ghost use Rattle.form.specs.Walks.{column_forms_at, column_kind_at};
 ghost use Rattle.stepping.specs.Stored.{ColumnsFilled, LineAt};
 ghost use Rattle.tables.specs.Promises.{StoreLabelledColumnsPromise, StoreTablePromise};
 
@@ -18,7 +18,7 @@ use workspace::layout::{LABELS, TABLE_CELLS};
 
 // The type of a column that the word at a place of the line names.
 fn kind_at(line: &[u8], q: usize) -> Kind
-    ensures { kind_of result ≡ columnKindAt line.now q }
+    ensures { kind_of result ≡ column_kind_at line.now q }
 {
     if is_word(line, q, b"date") {
         return Kind::Date;
@@ -38,7 +38,7 @@ fn store_columns(
     line: &[u8],
     cs: usize,
 ) -> usize
-    ensures { LineAt text.now at line.now → k < 8 → length (columnFormsAt line.now cs) ≤ 16 → ColumnsFilled text.now tables.old tables.new k result (map columnMeant (columnFormsAt line.now cs)) (map (λ x. 0) (columnFormsAt line.now cs)) }
+    ensures { LineAt text.now at line.now → k < 8 → length (column_forms_at line.now cs) ≤ 16 → ColumnsFilled text.now tables.old tables.new k result (map column_meant (column_forms_at line.now cs)) (map (λ x. 0) (column_forms_at line.now cs)) }
 {
     let mut c: usize = 0;
     let mut j = cs;

@@ -4,11 +4,11 @@ ghost use Rattle.document.specs.Policy.{Node};
 ghost use Rattle.stepping.specs.Places.{Near};
 ghost use Rattle.form.specs.Walks.{names_at};
 ghost use Rattle.principals.specs.Nodes.{Nodes};
-ghost use Rattle.lists.specs.Lists.{any_of, findIndex, there};
+ghost use Rattle.lists.specs.Lists.{any_of, find_index, there};
 ghost use Rattle.purpose.specs.Members.{limit};
 ghost use Rattle.text.specs.Offending.{missing, repeated};
-ghost use Rattle.text.specs.Words.{isCalled, word_of};
-ghost use Rattle.text.specs.CodeEnds.{offendingOf};
+ghost use Rattle.text.specs.Words.{is_called, word_of};
+ghost use Rattle.text.specs.CodeEnds.{offending_of};
 
 use principals::names::find_purpose;
 use text::bytes::byte_at;
@@ -20,7 +20,7 @@ use workspace::met::{LONG_LINE, is_new};
 
 // Whether the name at w is one of the first k names from `at` on.
 pub fn among_first(line: &[u8], at: usize, k: usize, w: usize) -> bool
-    ensures { result ≡ any_of (λ v. isCalled (word_of line.now w) v.bytes) (take k (names_at line.now «at»)) }
+    ensures { result ≡ any_of (λ v. is_called (word_of line.now w) v.bytes) (take k (names_at line.now «at»)) }
 {
     let mut j = at;
     let mut left = k;
@@ -40,7 +40,7 @@ pub fn among_first(line: &[u8], at: usize, k: usize, w: usize) -> bool
 
 // The first name from `at` on that stands earlier among them. A name that is surely new is compared with none.
 fn first_repeat_by(line: &[u8], at: usize, met: &mut [u64]) -> Offending
-    ensures { (offendingOf line.now result ≡ repeated (names_at line.now «at»)) × Near line.now result }
+    ensures { (offending_of line.now result ≡ repeated (names_at line.now «at»)) × Near line.now result }
 {
     let mut j = at;
     let mut k = 0;
@@ -59,7 +59,7 @@ fn first_repeat_by(line: &[u8], at: usize, met: &mut [u64]) -> Offending
 
 // The first name from `at` on that stands earlier among them.
 pub fn first_repeat(line: &[u8], at: usize) -> Offending
-    ensures { (offendingOf line.now result ≡ repeated (names_at line.now «at»)) × Near line.now result }
+    ensures { (offending_of line.now result ≡ repeated (names_at line.now «at»)) × Near line.now result }
 {
     if line.len() < LONG_LINE {
         let mut few = [0u64; 1];
@@ -77,7 +77,7 @@ pub fn first_unknown_purpose(
     line: &[u8],
     at: usize,
 ) -> Offending
-    ensures { ((ns : List Node) → Nodes limit text.now purposes.now k ns → offendingOf line.now result ≡ missing (λ w. there (findIndex (λ x. isCalled w x.name) ns)) (names_at line.now «at»)) × Near line.now result }
+    ensures { ((ns : List Node) → Nodes limit text.now purposes.now k ns → offending_of line.now result ≡ missing (λ w. there (find_index (λ x. is_called w x.name) ns)) (names_at line.now «at»)) × Near line.now result }
 {
     let mut j = at;
     while byte_at(line, j) == b' ' {

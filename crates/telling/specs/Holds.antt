@@ -1,7 +1,7 @@
 -- Contract: when arrays hold a loaded document, as far as explaining goes (02, Q-7).
 use Rattle.std.specs.Prelude.{ℕ, get_or, List, ◌≡◌}
 use Rattle.document.specs.Check.{Accepted, check}
-use Rattle.loaded.specs.Cells.{countsIn, version}
+use Rattle.loaded.specs.Cells.{counts_in, version}
 use Rattle.reasons.specs.Explaining.{Known}
 use Rattle.text.specs.Refusal.{accepted}
 
@@ -11,4 +11,4 @@ pub record HoldsLabels (text ps ls ms ts ws cells : List ℕ) : Type 0 where
   pub what : Accepted
   pub is : check text ≡ accepted what
   pub filled : get_or cells 0 0 ≡ version
-  pub known : Known text ps ls ms ts ws (countsIn cells) what.doc
+  pub known : Known text ps ls ms ts ws (counts_in cells) what.doc

@@ -1,6 +1,6 @@
 // A why line over a document.
 ghost use Rattle.answer.specs.Why.{why};
-ghost use Rattle.reasons.specs.Explaining.{explainedAs};
+ghost use Rattle.reasons.specs.Explaining.{explained_as};
 ghost use Rattle.telling.specs.Telling.{Fitting, Tells};
 
 use crate::lines::put_reason;
@@ -25,7 +25,7 @@ pub enum Told {
 
 // What was found, told: a reason's line fills the first bytes of the lent buffer, a refusal leaves it.
 pub fn tell(doc: &[u8], e: Explained, out: &mut [u8; LINE_BYTES]) -> Told
-    ensures { Fitting (explainedAs doc.now e) → Tells (explainedAs doc.now e) out.old out.new result }
+    ensures { Fitting (explained_as doc.now e) → Tells (explained_as doc.now e) out.old out.new result }
 {
     match e {
         Explained::Given(x) => Told::Line(put_reason(out, doc, x)),

@@ -7,142 +7,142 @@ use mathlib.Core.Bool.{Bool, cond, false, true}
 use mathlib.Core.List.{List, [], ◌++◌, ◌∷◌}
 use mathlib.Core.Path.{◌∙◌, ◌≡◌, ap, refl}
 use native.Mathlib.Omega.{arith}
-use Rattle.lists.proofs.Tests.{and_left, and_right, never, true-not-false}
+use Rattle.lists.proofs.Tests.{and_left, and_right, never, true_not_false}
 use Rattle.lists.specs.Lists.{all_of}
-use Rattle.text.proofs.ByteLaws.{run-within}
-use Rattle.text.proofs.Lefts.{before-end, drop_here}
-use Rattle.text.specs.Bytes.{firstByte, isDigit, isLetter, isNameByte}
-use Rattle.text.specs.Walking.{wordEndAt, writtenEndAt}
-use Rattle.text.specs.Words.{nameBytes, toClosing, word_at, writtenAt}
+use Rattle.text.proofs.ByteLaws.{run_within}
+use Rattle.text.proofs.Lefts.{before_end, drop_here}
+use Rattle.text.specs.Bytes.{first_byte, is_digit, is_letter, is_name_byte}
+use Rattle.text.specs.Walking.{word_end_at, written_end_at}
+use Rattle.text.specs.Words.{name_bytes, to_closing, word_at, written_at}
 
 module _ (s : List ℕ) (at : ℕ) where
   -- another byte stands there: it, and what stands behind it up to the bracket
-  pub closing-more : at < length s → (get_or s at 0 ≡ 10 → ⊥) → (get_or s at 0 ≡ 41 → ⊥) → toClosing (drop at s) ≡ get_or s at 0 ∷ toClosing (drop (at + 1) s)
-  unfolding toClosing
-  closing-more l n h = rw (drop_here s at l, ne_eqb _ _ n, ne_eqb _ _ h)
+  pub closing_more : at < length s → (get_or s at 0 ≡ 10 → ⊥) → (get_or s at 0 ≡ 41 → ⊥) → to_closing (drop at s) ≡ get_or s at 0 ∷ to_closing (drop (at + 1) s)
+  unfolding to_closing
+  closing_more l n h = rw (drop_here s at l, ne_eqb _ _ n, ne_eqb _ _ h)
 
   -- the bracket stands there
-  pub closing-here : at < length s → get_or s at 0 ≡ 41 → toClosing (drop at s) ≡ 41 ∷ []
-  unfolding toClosing
-  closing-here l h = rw (drop_here s at l, h)
+  pub closing_here : at < length s → get_or s at 0 ≡ 41 → to_closing (drop at s) ≡ 41 ∷ []
+  unfolding to_closing
+  closing_here l h = rw (drop_here s at l, h)
 
   -- a line feed stands there
-  pub closing-feed : at < length s → get_or s at 0 ≡ 10 → toClosing (drop at s) ≡ []
-  unfolding toClosing
-  closing-feed l h = rw (drop_here s at l, h)
+  pub closing_feed : at < length s → get_or s at 0 ≡ 10 → to_closing (drop at s) ≡ []
+  unfolding to_closing
+  closing_feed l h = rw (drop_here s at l, h)
 
   -- the text ends there
-  pub closing-none : length s ≤ at → toClosing (drop at s) ≡ []
-  unfolding toClosing
-  closing-none l = rw (drop_of_length-le s l)
+  pub closing_none : length s ≤ at → to_closing (drop at s) ≡ []
+  unfolding to_closing
+  closing_none l = rw (drop_of_length-le s l)
 
 -- they stand at the front
-pub closing-stands : (bs : List ℕ) → bs ≡ toClosing bs ++ drop (length (toClosing bs)) bs
-unfolding toClosing
-closing-stands [] = refl
-closing-stands (b ∷ bs) = go (eqb b 10) (eqb b 41) (closing-stands bs)
+pub closing_stands : (bs : List ℕ) → bs ≡ to_closing bs ++ drop (length (to_closing bs)) bs
+unfolding to_closing
+closing_stands [] = refl
+closing_stands (b ∷ bs) = go (eqb b 10) (eqb b 41) (closing_stands bs)
   where
-    go : (t u : Bool) → bs ≡ toClosing bs ++ drop (length (toClosing bs)) bs
-        → b ∷ bs ≡ cond t [] (b ∷ cond u [] (toClosing bs)) ++ drop (length (cond t [] (b ∷ cond u [] (toClosing bs)))) (b ∷ bs)
+    go : (t u : Bool) → bs ≡ to_closing bs ++ drop (length (to_closing bs)) bs
+        → b ∷ bs ≡ cond t [] (b ∷ cond u [] (to_closing bs)) ++ drop (length (cond t [] (b ∷ cond u [] (to_closing bs)))) (b ∷ bs)
     go true u h = refl
     go false true h = refl
     go false false h = ap (λ (cs : List ℕ). b ∷ cs) h
 
-pub closing-within : (bs : List ℕ) → length (toClosing bs) ≤ length bs
-unfolding toClosing
-closing-within [] = omega arith
-closing-within (b ∷ bs) = go (eqb b 10) (eqb b 41) (closing-within bs)
+pub closing_within : (bs : List ℕ) → length (to_closing bs) ≤ length bs
+unfolding to_closing
+closing_within [] = omega arith
+closing_within (b ∷ bs) = go (eqb b 10) (eqb b 41) (closing_within bs)
   where
-    go : (t u : Bool) → length (toClosing bs) ≤ length bs → length (cond t [] (b ∷ cond u [] (toClosing bs))) ≤ suc (length bs)
+    go : (t u : Bool) → length (to_closing bs) ≤ length bs → length (cond t [] (b ∷ cond u [] (to_closing bs))) ≤ suc (length bs)
     go true u h = omega arith
     go false true h = omega arith
     go false false h = omega (arith, h)
 
 -- as many bytes from there are they
-closing-taken : (bs : List ℕ) → take (length (toClosing bs)) bs ≡ toClosing bs
-unfolding toClosing
-closing-taken [] = refl
-closing-taken (b ∷ bs) = go (eqb b 10) (eqb b 41) (closing-taken bs)
+closing_taken : (bs : List ℕ) → take (length (to_closing bs)) bs ≡ to_closing bs
+unfolding to_closing
+closing_taken [] = refl
+closing_taken (b ∷ bs) = go (eqb b 10) (eqb b 41) (closing_taken bs)
   where
-    go : (t u : Bool) → take (length (toClosing bs)) bs ≡ toClosing bs → take (length (cond t [] (b ∷ cond u [] (toClosing bs)))) (b ∷ bs) ≡ cond t [] (b ∷ cond u [] (toClosing bs))
+    go : (t u : Bool) → take (length (to_closing bs)) bs ≡ to_closing bs → take (length (cond t [] (b ∷ cond u [] (to_closing bs)))) (b ∷ bs) ≡ cond t [] (b ∷ cond u [] (to_closing bs))
     go true u h = refl
     go false true h = refl
     go false false h = ap (λ (cs : List ℕ). b ∷ cs) h
 
-run-taken : (bs : List ℕ) → take (length (nameBytes bs)) bs ≡ nameBytes bs
-unfolding nameBytes
-run-taken [] = refl
-run-taken (b ∷ bs) = go (isNameByte b) (run-taken bs)
+run_taken : (bs : List ℕ) → take (length (name_bytes bs)) bs ≡ name_bytes bs
+unfolding name_bytes
+run_taken [] = refl
+run_taken (b ∷ bs) = go (is_name_byte b) (run_taken bs)
   where
-    go : (t : Bool) → take (length (nameBytes bs)) bs ≡ nameBytes bs → take (length (cond t (b ∷ nameBytes bs) [])) (b ∷ bs) ≡ cond t (b ∷ nameBytes bs) []
+    go : (t : Bool) → take (length (name_bytes bs)) bs ≡ name_bytes bs → take (length (cond t (b ∷ name_bytes bs) [])) (b ∷ bs) ≡ cond t (b ∷ name_bytes bs) []
     go true e = ap (λ (l : List ℕ). b ∷ l) e
     go false e = refl
 
 -- behind the line nothing counts
-pub closing-append : (bs rest : List ℕ) → toClosing rest ≡ [] → toClosing (bs ++ rest) ≡ toClosing bs
-unfolding toClosing
-closing-append [] rest h = h
-closing-append (b ∷ bs) rest h = ap (λ (cs : List ℕ). cond (eqb b 10) [] (b ∷ cond (eqb b 41) [] cs)) (closing-append bs rest h)
+pub closing_append : (bs rest : List ℕ) → to_closing rest ≡ [] → to_closing (bs ++ rest) ≡ to_closing bs
+unfolding to_closing
+closing_append [] rest h = h
+closing_append (b ∷ bs) rest h = ap (λ (cs : List ℕ). cond (eqb b 10) [] (b ∷ cond (eqb b 41) [] cs)) (closing_append bs rest h)
 
 -- a name byte is no other byte
-pub name-byte-not : (b c : ℕ) → isNameByte b ≡ true → isNameByte c ≡ false → eqb b c ≡ false
-name-byte-not b c h k = never (eqb b c) (λ e. true-not-false h (ap isNameByte (eqb-true b c e) ∙ k))
+pub name_byte_not : (b c : ℕ) → is_name_byte b ≡ true → is_name_byte c ≡ false → eqb b c ≡ false
+name_byte_not b c h k = never (eqb b c) (λ e. true_not_false h (ap is_name_byte (eqb-true b c e) ∙ k))
 
 -- name bytes do not end them
-pub closing-over : (w rest : List ℕ) → all_of isNameByte w ≡ true → toClosing (w ++ rest) ≡ w ++ toClosing rest
-unfolding toClosing all_of isNameByte isLetter isDigit
-closing-over [] rest h = refl
-closing-over (b ∷ w) rest h = rw (name-byte-not b 10 (and_left (isNameByte b) _ h) refl, name-byte-not b 41 (and_left (isNameByte b) _ h) refl) (ap (λ (cs : List ℕ). b ∷ cs) (closing-over w rest (and_right (isNameByte b) _ h)))
+pub closing_over : (w rest : List ℕ) → all_of is_name_byte w ≡ true → to_closing (w ++ rest) ≡ w ++ to_closing rest
+unfolding to_closing all_of is_name_byte is_letter is_digit
+closing_over [] rest h = refl
+closing_over (b ∷ w) rest h = rw (name_byte_not b 10 (and_left (is_name_byte b) _ h) refl, name_byte_not b 41 (and_left (is_name_byte b) _ h) refl) (ap (λ (cs : List ℕ). b ∷ cs) (closing_over w rest (and_right (is_name_byte b) _ h)))
 
 -- ---- values as they are written
 
 module _ (s : List ℕ) (at : ℕ) where
   -- where a bracket opens
-  pub written-bracket : get_or s at 0 ≡ 40 → writtenAt s at ≡ toClosing (drop at s)
-  unfolding writtenAt
-  written-bracket h = rw h
+  pub written_bracket : get_or s at 0 ≡ 40 → written_at s at ≡ to_closing (drop at s)
+  unfolding written_at
+  written_bracket h = rw h
 
   -- where none does, a value is a word
-  pub written-word : (get_or s at 0 ≡ 40 → ⊥) → writtenAt s at ≡ word_at s at
-  unfolding writtenAt
-  written-word h = rw (ne_eqb _ _ h)
+  pub written_word : (get_or s at 0 ≡ 40 → ⊥) → written_at s at ≡ word_at s at
+  unfolding written_at
+  written_word h = rw (ne_eqb _ _ h)
 
   -- so where a name byte stands
-  pub written-named : isNameByte (get_or s at 0) ≡ true → writtenAt s at ≡ word_at s at
-  written-named h = written-word (λ z. true-not-false h (ap isNameByte z ∙ unfold isNameByte isLetter isDigit in refl))
+  pub written_named : is_name_byte (get_or s at 0) ≡ true → written_at s at ≡ word_at s at
+  written_named h = written_word (λ z. true_not_false h (ap is_name_byte z ∙ unfold is_name_byte is_letter is_digit in refl))
 
   -- and it ends where the word does
-  pub written-end : (get_or s at 0 ≡ 40 → ⊥) → writtenEndAt s at ≡ wordEndAt s at
-  unfolding writtenEndAt wordEndAt
-  written-end h = ap (λ (v : List ℕ). at + length v) (written-word h)
+  pub written_end : (get_or s at 0 ≡ 40 → ⊥) → written_end_at s at ≡ word_end_at s at
+  unfolding written_end_at word_end_at
+  written_end h = ap (λ (v : List ℕ). at + length v) (written_word h)
 
   -- a bracket is the first byte of what is written there
-  pub written-opens : get_or s at 0 ≡ 40 → firstByte (writtenAt s at) ≡ 40
-  unfolding toClosing
-  written-opens h = ap firstByte (written-bracket h) ∙ rw (drop_here s at (before-end s at (λ z. absurd (omega (arith, h, z)))), h)
+  pub written_opens : get_or s at 0 ≡ 40 → first_byte (written_at s at) ≡ 40
+  unfolding to_closing
+  written_opens h = ap first_byte (written_bracket h) ∙ rw (drop_here s at (before_end s at (λ z. absurd (omega (arith, h, z)))), h)
 
   -- it is the first bytes of what stands there
-  pub written-length : length (writtenAt s at) ≤ length (drop at s)
-  unfolding writtenAt
-  written-length = go (eqb (get_or s at 0) 40)
+  pub written_length : length (written_at s at) ≤ length (drop at s)
+  unfolding written_at
+  written_length = go (eqb (get_or s at 0) 40)
     where
-      go : (t : Bool) → length (cond t (toClosing (drop at s)) (word_at s at)) ≤ length (drop at s)
-      go true = closing-within (drop at s)
-      go false = run-within (drop at s)
+      go : (t : Bool) → length (cond t (to_closing (drop at s)) (word_at s at)) ≤ length (drop at s)
+      go true = closing_within (drop at s)
+      go false = run_within (drop at s)
 
-  pub written-taken : take (length (writtenAt s at)) (drop at s) ≡ writtenAt s at
-  unfolding writtenAt
-  written-taken = go (eqb (get_or s at 0) 40)
+  pub written_taken : take (length (written_at s at)) (drop at s) ≡ written_at s at
+  unfolding written_at
+  written_taken = go (eqb (get_or s at 0) 40)
     where
-      go : (t : Bool) → take (length (cond t (toClosing (drop at s)) (word_at s at))) (drop at s) ≡ cond t (toClosing (drop at s)) (word_at s at)
-      go true = closing-taken (drop at s)
-      go false = run-taken (drop at s)
+      go : (t : Bool) → take (length (cond t (to_closing (drop at s)) (word_at s at))) (drop at s) ≡ cond t (to_closing (drop at s)) (word_at s at)
+      go true = closing_taken (drop at s)
+      go false = run_taken (drop at s)
 
   -- it ends in the text
-  pub value-onward : at ≤ writtenEndAt s at
-  unfolding writtenEndAt
-  value-onward = omega arith
+  pub value_onward : at ≤ written_end_at s at
+  unfolding written_end_at
+  value_onward = omega arith
 
-  pub value-within : at ≤ length s → writtenEndAt s at ≤ length s
-  unfolding writtenEndAt
-  value-within h = omega (arith, written-length, length-drop at s)
+  pub value_within : at ≤ length s → written_end_at s at ≤ length s
+  unfolding written_end_at
+  value_within h = omega (arith, written_length, length-drop at s)

@@ -10,98 +10,98 @@ use mathlib.Core.Path.{◌≡◌, ap, refl}
 use native.Mathlib.Omega.{arith}
 use Rattle.lists.proofs.Tests.{and_left, and_right, or_right}
 use Rattle.lists.specs.Lists.{there}
-use Rattle.text.proofs.ByteLaws.{digit-nameByte, minus-nameByte}
-use Rattle.text.proofs.Lefts.{skip-from}
-use Rattle.text.proofs.WordLaws.{word_more, word-stop}
-use Rattle.text.specs.Bytes.{isDigit, isNameByte}
-use Rattle.text.specs.Names.{isName}
-use Rattle.text.specs.Numbers.{digitsFrom, is_number, is_value, magnitude, noLeadingZero, rank, rankDown, rank_of, rankUp}
+use Rattle.text.proofs.ByteLaws.{digit_name_byte, minus_name_byte}
+use Rattle.text.proofs.Lefts.{skip_from}
+use Rattle.text.proofs.WordLaws.{word_more, word_stop}
+use Rattle.text.specs.Bytes.{is_digit, is_name_byte}
+use Rattle.text.specs.Names.{is_name}
+use Rattle.text.specs.Numbers.{digits_from, is_number, is_value, magnitude, no_leading_zero, rank, rank_down, rank_of, rank_up}
 use Rattle.text.specs.Reader.{from}
-use Rattle.text.specs.Words.{readNumber, word, word_at}
+use Rattle.text.specs.Words.{read_number, word, word_at}
 
-pub digit-range : (d : ℕ) → isDigit d ≡ true → (48 ≤ d) × (d ≤ 57)
-unfolding isDigit
-digit-range d h = (leb-true _ _ (and_left (leb 48 d) (leb d 57) h), leb-true _ _ (and_right (leb 48 d) (leb d 57) h))
+pub digit_range : (d : ℕ) → is_digit d ≡ true → (48 ≤ d) × (d ≤ 57)
+unfolding is_digit
+digit_range d h = (leb-true _ _ (and_left (leb 48 d) (leb d 57) h), leb-true _ _ (and_right (leb 48 d) (leb d 57) h))
 
 module _ (s : List ℕ) (at : ℕ) where
-  pub zero-stop : isNameByte (get_or s at 0) ≡ false → noLeadingZero (word_at s at) ≡ false
-  unfolding noLeadingZero
-  zero-stop h = rw (word-stop s at h)
+  pub zero_stop : is_name_byte (get_or s at 0) ≡ false → no_leading_zero (word_at s at) ≡ false
+  unfolding no_leading_zero
+  zero_stop h = rw (word_stop s at h)
 
-  pub zero-none : isNameByte (get_or s at 0) ≡ true → (get_or s at 0 ≡ 48 → ⊥) → noLeadingZero (word_at s at) ≡ true
-  unfolding noLeadingZero
-  zero-none h e = rw (word_more s at h, ne_eqb _ _ e)
+  pub zero_none : is_name_byte (get_or s at 0) ≡ true → (get_or s at 0 ≡ 48 → ⊥) → no_leading_zero (word_at s at) ≡ true
+  unfolding no_leading_zero
+  zero_none h e = rw (word_more s at h, ne_eqb _ _ e)
 
-  pub zero-first : (t : Bool) → isNameByte (get_or s at 0) ≡ true → get_or s at 0 ≡ 48 → isNameByte (get_or s (at + 1) 0) ≡ t → noLeadingZero (word_at s at) ≡ not t
-  unfolding noLeadingZero
-  zero-first true h e k = rw (word_more s at h, word_more s (at + 1) k, e)
-  zero-first false h e k = rw (word_more s at h, word-stop s (at + 1) k, e)
+  pub zero_first : (t : Bool) → is_name_byte (get_or s at 0) ≡ true → get_or s at 0 ≡ 48 → is_name_byte (get_or s (at + 1) 0) ≡ t → no_leading_zero (word_at s at) ≡ not t
+  unfolding no_leading_zero
+  zero_first true h e k = rw (word_more s at h, word_more s (at + 1) k, e)
+  zero_first false h e k = rw (word_more s at h, word_stop s (at + 1) k, e)
 
   module _ (n : ℕ) where
-    pub digits-digit : isDigit (get_or s at 0) ≡ true → digitsFrom n (word_at s at) ≡ digitsFrom (n * 10 + (get_or s at 0 - 48)) (word_at s (at + 1))
-    unfolding digitsFrom
-    digits-digit d = rw (word_more s at (digit-nameByte _ d), d, digitsFrom)
+    pub digits_digit : is_digit (get_or s at 0) ≡ true → digits_from n (word_at s at) ≡ digits_from (n * 10 + (get_or s at 0 - 48)) (word_at s (at + 1))
+    unfolding digits_from
+    digits_digit d = rw (word_more s at (digit_name_byte _ d), d, digits_from)
 
-    pub digits-other : isNameByte (get_or s at 0) ≡ true → isDigit (get_or s at 0) ≡ false → digitsFrom n (word_at s at) ≡ none
-    unfolding digitsFrom
-    digits-other h d = rw (word_more s at h, d, digitsFrom)
+    pub digits_other : is_name_byte (get_or s at 0) ≡ true → is_digit (get_or s at 0) ≡ false → digits_from n (word_at s at) ≡ none
+    unfolding digits_from
+    digits_other h d = rw (word_more s at h, d, digits_from)
 
-pub rankUp-is : (n : ℕ) → n < 2 ^ 63 → rankUp n ≡ some (2 ^ 63 + n)
-unfolding rankUp rank_of
-rankUp-is n h = rw (lt-ltb n (2 ^ 63) h)
+pub rank_up_is : (n : ℕ) → n < 2 ^ 63 → rank_up n ≡ some (2 ^ 63 + n)
+unfolding rank_up rank_of
+rank_up_is n h = rw (lt-ltb n (2 ^ 63) h)
 
-pub rankUp-not : (n : ℕ) → 2 ^ 63 ≤ n → rankUp n ≡ none
-unfolding rankUp
-rankUp-not n h = rw (le-ltb n (2 ^ 63) h)
+pub rank_up_not : (n : ℕ) → 2 ^ 63 ≤ n → rank_up n ≡ none
+unfolding rank_up
+rank_up_not n h = rw (le-ltb n (2 ^ 63) h)
 
-pub rankDown-is : (n : ℕ) → (n ≡ 0 → ⊥) → n ≤ 2 ^ 63 → rankDown n ≡ some (2 ^ 63 - n)
-unfolding rankDown
-rankDown-is n z h = rw (lt-ltb 0 n (omega arith), le-leb n (2 ^ 63) h)
+pub rank_down_is : (n : ℕ) → (n ≡ 0 → ⊥) → n ≤ 2 ^ 63 → rank_down n ≡ some (2 ^ 63 - n)
+unfolding rank_down
+rank_down_is n z h = rw (lt-ltb 0 n (omega arith), le-leb n (2 ^ 63) h)
 
-pub rankDown-zero : rankDown 0 ≡ none
-unfolding rankDown
-rankDown-zero = refl
+pub rank_down_zero : rank_down 0 ≡ none
+unfolding rank_down
+rank_down_zero = refl
 
-pub rankDown-not : (n : ℕ) → 2 ^ 63 < n → rankDown n ≡ none
-unfolding rankDown
-rankDown-not n h = rw (lt-ltb 0 n (omega arith), lt-leb n (2 ^ 63) h)
+pub rank_down_not : (n : ℕ) → 2 ^ 63 < n → rank_down n ≡ none
+unfolding rank_down
+rank_down_not n h = rw (lt-ltb 0 n (omega arith), lt-leb n (2 ^ 63) h)
 
 module _ (s : List ℕ) (at : ℕ) where
   -- a word goes on behind its `-`
-  word-minus : get_or s at 0 ≡ 45 → word_at s at ≡ 45 ∷ word_at s (at + 1)
-  word-minus e = rw (word_more s at (rw e minus-nameByte), e)
+  word_minus : get_or s at 0 ≡ 45 → word_at s at ≡ 45 ∷ word_at s (at + 1)
+  word_minus e = rw (word_more s at (rw e minus_name_byte), e)
 
-  pub rank-minus : get_or s at 0 ≡ 45 → rank (word_at s at) ≡ bind (magnitude (word_at s (at + 1))) rankDown
+  pub rank_minus : get_or s at 0 ≡ 45 → rank (word_at s at) ≡ bind (magnitude (word_at s (at + 1))) rank_down
   unfolding rank
-  rank-minus e = rw (word-minus e)
+  rank_minus e = rw (word_minus e)
 
   -- and ends where what stands behind it ends
-  pub end-minus : get_or s at 0 ≡ 45 → at + 1 + length (word_at s (at + 1)) ≡ at + length (word_at s at)
-  end-minus e = omega (arith, ap length (word-minus e))
+  pub end_minus : get_or s at 0 ≡ 45 → at + 1 + length (word_at s (at + 1)) ≡ at + length (word_at s at)
+  end_minus e = omega (arith, ap length (word_minus e))
 
-  pub rank-plain : (get_or s at 0 ≡ 45 → ⊥) → rank (word_at s at) ≡ bind (magnitude (word_at s at)) rankUp
-  unfolding rank magnitude noLeadingZero bind
-  rank-plain e = go (isNameByte (get_or s at 0)) refl
+  pub rank_plain : (get_or s at 0 ≡ 45 → ⊥) → rank (word_at s at) ≡ bind (magnitude (word_at s at)) rank_up
+  unfolding rank magnitude no_leading_zero bind
+  rank_plain e = go (is_name_byte (get_or s at 0)) refl
     where
-      go : (t : Bool) → isNameByte (get_or s at 0) ≡ t → rank (word_at s at) ≡ bind (magnitude (word_at s at)) rankUp
+      go : (t : Bool) → is_name_byte (get_or s at 0) ≡ t → rank (word_at s at) ≡ bind (magnitude (word_at s at)) rank_up
       go true h = rw (word_more s at h, ne_eqb _ _ e)
-      go false h = rw (word-stop s at h)
+      go false h = rw (word_stop s at h)
 
 module _ (s : List ℕ) (at : ℕ) where
   -- the word at a position is read as a number if it has a rank
-  pub number_read : (k : ℕ) → rank (word_at s at) ≡ some k → readNumber (from s at) ≡ some (k, from s (at + length (word_at s at)))
-  unfolding readNumber word
-  number_read k h = rw (h, skip-from)
+  pub number_read : (k : ℕ) → rank (word_at s at) ≡ some k → read_number (from s at) ≡ some (k, from s (at + length (word_at s at)))
+  unfolding read_number word
+  number_read k h = rw (h, skip_from)
 
-  pub number-refused : rank (word_at s at) ≡ none → readNumber (from s at) ≡ none
-  unfolding readNumber word
-  number-refused h = rw h
+  pub number_refused : rank (word_at s at) ≡ none → read_number (from s at) ≡ none
+  unfolding read_number word
+  number_refused h = rw h
 
 module _ (w : List ℕ) where
-  pub value-number : (k : ℕ) → rank w ≡ some k → is_value w ≡ true
+  pub value_number : (k : ℕ) → rank w ≡ some k → is_value w ≡ true
   unfolding is_value is_number there
-  value-number k h = rw h (or_right (isName w) true refl)
+  value_number k h = rw h (or_right (is_name w) true refl)
 
-  pub value-neither : isName w ≡ false → rank w ≡ none → is_value w ≡ false
+  pub value_neither : is_name w ≡ false → rank w ≡ none → is_value w ≡ false
   unfolding is_value is_number there
-  value-neither h k = rw (h, k)
+  value_neither h k = rw (h, k)

@@ -10,29 +10,29 @@ use mathlib.Core.Option.{some}
 use mathlib.Core.Path.{◌∙◌, ◌≡◌, ap, refl, sym}
 use native.Mathlib.Omega.{arith}
 use Rattle.lists.proofs.Tests.{and_left, and_right, never}
-use Rattle.text.proofs.ByteLaws.{run-within}
-use Rattle.text.proofs.Lefts.{before-end, first-drop}
-use Rattle.text.proofs.ReaderLaws.{byte-at-read, byte-at-refused, got, not-read, then_some}
-use Rattle.text.proofs.WordLaws.{word-always, word_read, word-refused}
+use Rattle.text.proofs.ByteLaws.{run_within}
+use Rattle.text.proofs.Lefts.{before_end, first_drop}
+use Rattle.text.proofs.ReaderLaws.{byte_at_read, byte_at_refused, got, not_read, then_some}
+use Rattle.text.proofs.WordLaws.{word_always, word_read, word_refused}
 use Rattle.text.specs.Brackets.{bracketed, next}
-use Rattle.text.specs.Reader.{Left, Reader, ◌>>=◌, ◌>>◌, byte, from, give, ifNext}
-use Rattle.text.specs.Walking.{nextWord, past, wordEndAt}
-use Rattle.text.specs.Words.{Word, word, word_at, word_of, wordThat}
+use Rattle.text.specs.Reader.{Left, Reader, ◌>>=◌, ◌>>◌, byte, from, give, if_next}
+use Rattle.text.specs.Walking.{next_word, past, word_end_at}
+use Rattle.text.specs.Words.{Word, word, word_at, word_of, word_that}
 
 module _ (b : ℕ) (s : List ℕ) (at : ℕ) where
   -- the byte stands there
-  pub past-on : at < length s → get_or s at 0 ≡ b → past b s at ≡ at + 1
+  pub past_on : at < length s → get_or s at 0 ≡ b → past b s at ≡ at + 1
   unfolding past
-  past-on h e = rw (lt-ltb _ _ h, eq-eqb _ _ e)
+  past_on h e = rw (lt-ltb _ _ h, eq-eqb _ _ e)
 
   -- the same for a byte that is not 0: it stands before the end
-  pub past-here : (b ≡ 0 → ⊥) → get_or s at 0 ≡ b → past b s at ≡ at + 1
-  past-here nz e = past-on (before-end s at (λ z. nz (sym e ∙ z))) e
+  pub past_here : (b ≡ 0 → ⊥) → get_or s at 0 ≡ b → past b s at ≡ at + 1
+  past_here nz e = past_on (before_end s at (λ z. nz (sym e ∙ z))) e
 
   -- another byte stands there
-  pub past-other : (get_or s at 0 ≡ b → ⊥) → past b s at ≡ at
+  pub past_other : (get_or s at 0 ≡ b → ⊥) → past b s at ≡ at
   unfolding past
-  past-other h = rw (never (ltb at (length s) && eqb (get_or s at 0) b) (λ t. h (eqb-true _ _ (and_right (ltb at (length s)) (eqb (get_or s at 0) b) t))))
+  past_other h = rw (never (ltb at (length s) && eqb (get_or s at 0) b) (λ t. h (eqb-true _ _ (and_right (ltb at (length s)) (eqb (get_or s at 0) b) t))))
 
   -- none does
   pub past_end : length s ≤ at → past b s at ≡ at
@@ -44,28 +44,28 @@ module _ (b : ℕ) (s : List ℕ) (at : ℕ) where
   past_by true e = rw e (omega arith, λ h. omega (arith, ltb-true at (length s) (and_left (ltb at (length s)) (eqb (get_or s at 0) b) e)))
   past_by false e = rw e (omega arith, λ h. h)
 
-  pub past-forward : at ≤ past b s at
-  past-forward = (past_by (ltb at (length s) && eqb (get_or s at 0) b) refl).0
+  pub past_forward : at ≤ past b s at
+  past_forward = (past_by (ltb at (length s) && eqb (get_or s at 0) b) refl).0
 
-  pub past-within : at ≤ length s → past b s at ≤ length s
-  past-within = (past_by (ltb at (length s) && eqb (get_or s at 0) b) refl).1
+  pub past_within : at ≤ length s → past b s at ≤ length s
+  past_within = (past_by (ltb at (length s) && eqb (get_or s at 0) b) refl).1
 
 module _ (s : List ℕ) (at : ℕ) where
-  pub word-forward : at ≤ wordEndAt s at
-  unfolding wordEndAt
-  word-forward = omega arith
+  pub word_forward : at ≤ word_end_at s at
+  unfolding word_end_at
+  word_forward = omega arith
 
-  pub word-within : at ≤ length s → wordEndAt s at ≤ length s
-  unfolding wordEndAt
-  word-within h = omega (arith, run-within (drop at s), length-drop at s)
+  pub word_within : at ≤ length s → word_end_at s at ≤ length s
+  unfolding word_end_at
+  word_within h = omega (arith, run_within (drop at s), length-drop at s)
 
-  pub next-forward : at ≤ nextWord s at
-  unfolding nextWord
-  next-forward = omega (arith, word-forward, past-forward 32 s (wordEndAt s at))
+  pub next_forward : at ≤ next_word s at
+  unfolding next_word
+  next_forward = omega (arith, word_forward, past_forward 32 s (word_end_at s at))
 
-  pub next-within : at ≤ length s → nextWord s at ≤ length s
-  unfolding nextWord
-  next-within h = past-within 32 s (wordEndAt s at) (word-within h)
+  pub next_within : at ≤ length s → next_word s at ≤ length s
+  unfolding next_word
+  next_within h = past_within 32 s (word_end_at s at) (word_within h)
 
 -- ---- what readers read, by position
 
@@ -73,34 +73,34 @@ module _ (s : List ℕ) (at : ℕ) where
 pub record Finds {A : Type 0} (s : List ℕ) (R : Reader A) (what : ℕ → A) (to : ℕ → ℕ) : Type 0 where
   pub found : (at : ℕ) (x : A) (l : Left) → R (from s at) ≡ some (x, l) → (x ≡ what at) × (l ≡ from s (to at))
 
-pub finds-run : (s : List ℕ) → Finds s word (word_of s) (wordEndAt s)
-unfolding wordEndAt
-finds-run s = record { found = λ at x l h. let g = got (word_of s at, from s (at + length (word_at s at))) x l (sym (word-always s at) ∙ h) in (sym g.0, sym g.1) }
+pub finds_run : (s : List ℕ) → Finds s word (word_of s) (word_end_at s)
+unfolding word_end_at
+finds_run s = record { found = λ at x l h. let g = got (word_of s at, from s (at + length (word_at s at))) x l (sym (word_always s at) ∙ h) in (sym g.0, sym g.1) }
 
-pub finds-word : (s : List ℕ) (p : List ℕ → Bool) → Finds s (wordThat p) (word_of s) (wordEndAt s)
-unfolding wordEndAt
-finds-word s p = record { found = λ at x l h. go at x l (p (word_at s at)) refl h }
+pub finds_word : (s : List ℕ) (p : List ℕ → Bool) → Finds s (word_that p) (word_of s) (word_end_at s)
+unfolding word_end_at
+finds_word s p = record { found = λ at x l h. go at x l (p (word_at s at)) refl h }
   where
-    go : (at : ℕ) (x : Word) (l : Left) (t : Bool) → p (word_at s at) ≡ t → wordThat p (from s at) ≡ some (x, l) → (x ≡ word_of s at) × (l ≡ from s (at + length (word_at s at)))
+    go : (at : ℕ) (x : Word) (l : Left) (t : Bool) → p (word_at s at) ≡ t → word_that p (from s at) ≡ some (x, l) → (x ≡ word_of s at) × (l ≡ from s (at + length (word_at s at)))
     go at x l true k h = let g = got (word_of s at, from s (at + length (word_at s at))) x l (sym (word_read s at p k) ∙ h) in (sym g.0, sym g.1)
-    go at x l false k h = not-read (x, l) (sym (word-refused s at p k) ∙ h)
+    go at x l false k h = not_read (x, l) (sym (word_refused s at p k) ∙ h)
 
-pub finds-give : {A : Type 0} (s : List ℕ) (a : A) → Finds s (give a) (λ at. a) (λ at. at)
-finds-give s a = record { found = λ at x l h. let g = got (a, from s at) x l h in (sym g.0, sym g.1) }
+pub finds_give : {A : Type 0} (s : List ℕ) (a : A) → Finds s (give a) (λ at. a) (λ at. at)
+finds_give s a = record { found = λ at x l h. let g = got (a, from s at) x l h in (sym g.0, sym g.1) }
 
-pub finds-byte : (s : List ℕ) (b : ℕ) → (b ≡ 0 → ⊥) → Finds s (byte b) (λ at. b) (past b s)
-finds-byte s b nz = record { found = λ at x l h. go at x l (eqb (get_or s at 0) b) refl h }
+pub finds_byte : (s : List ℕ) (b : ℕ) → (b ≡ 0 → ⊥) → Finds s (byte b) (λ at. b) (past b s)
+finds_byte s b nz = record { found = λ at x l h. go at x l (eqb (get_or s at 0) b) refl h }
   where
     go : (at x : ℕ) (l : Left) (t : Bool) → eqb (get_or s at 0) b ≡ t → byte b (from s at) ≡ some (x, l) → (x ≡ b) × (l ≡ from s (past b s at))
     go at x l true k h =
         let e = eqb-true _ _ k in
-        let g = got (b, from s (at + 1)) x l (sym (byte-at-read s at b e) ∙ h) in
-        (sym g.0, sym g.1 ∙ ap (from s) (sym (past-here b s at nz e)))
-    go at x l false k h = not-read (x, l) (sym (byte-at-refused s at b (eqb-false _ _ k)) ∙ h)
+        let g = got (b, from s (at + 1)) x l (sym (byte_at_read s at b e) ∙ h) in
+        (sym g.0, sym g.1 ∙ ap (from s) (sym (past_here b s at nz e)))
+    go at x l false k h = not_read (x, l) (sym (byte_at_refused s at b (eqb-false _ _ k)) ∙ h)
 
 module _ {A : Type 0} {s : List ℕ} {R : Reader A} {what : ℕ → A} {to : ℕ → ℕ} (p : Finds s R what to) where
-  pub finds-bind : {B : Type 0} (K : A → Reader B) {then : A → ℕ → B} {last : ℕ → ℕ} → ((a : A) → Finds s (K a) (then a) last) → Finds s (R >>= K) (λ at. then (what at) (to at)) (λ at. last (to at))
-  finds-bind {B} K {then} {last} q = record {
+  pub finds_bind : {B : Type 0} (K : A → Reader B) {then : A → ℕ → B} {last : ℕ → ℕ} → ((a : A) → Finds s (K a) (then a) last) → Finds s (R >>= K) (λ at. then (what at) (to at)) (λ at. last (to at))
+  finds_bind {B} K {then} {last} q = record {
     found = λ at x l h.
         let a = then_some (R (from s at)) K (x, l) h in
         let g = p.found at a.0.0 a.0.1 a.1 in
@@ -109,21 +109,21 @@ module _ {A : Type 0} {s : List ℕ} {R : Reader A} {what : ℕ → A} {to : ℕ
   }
 
 module _ {A : Type 0} {s : List ℕ} {R : Reader A} {what : ℕ → A} {to : ℕ → ℕ} (p : Finds s R what to) where
-  pub finds-next : Finds s (next R) (λ at. what (past 32 s at)) (λ at. to (past 32 s at))
+  pub finds_next : Finds s (next R) (λ at. what (past 32 s at)) (λ at. to (past 32 s at))
   unfolding next
-  finds-next = finds-bind (finds-byte s 32 (λ z. absurd (omega arith))) (λ b. R) (λ b. p)
+  finds_next = finds_bind (finds_byte s 32 (λ z. absurd (omega arith))) (λ b. R) (λ b. p)
 
-  pub finds-bracketed : Finds s (bracketed R) (λ at. what (past 40 s at)) (λ at. past 41 s (to (past 40 s at)))
+  pub finds_bracketed : Finds s (bracketed R) (λ at. what (past 40 s at)) (λ at. past 41 s (to (past 40 s at)))
   unfolding bracketed
-  finds-bracketed =
-      finds-bind (finds-byte s 40 (λ z. absurd (omega arith))) (λ b. R >>= (λ x. byte 41 >> give x)) (λ b.
-      finds-bind p (λ x. byte 41 >> give x) (λ x.
-      finds-bind (finds-byte s 41 (λ z. absurd (omega arith))) (λ b. give x) (λ b. finds-give s x)))
+  finds_bracketed =
+      finds_bind (finds_byte s 40 (λ z. absurd (omega arith))) (λ b. R >>= (λ x. byte 41 >> give x)) (λ b.
+      finds_bind p (λ x. byte 41 >> give x) (λ x.
+      finds_bind (finds_byte s 41 (λ z. absurd (omega arith))) (λ b. give x) (λ b. finds_give s x)))
 
-  pub finds-if : (b : ℕ) {S : Reader A} {other : ℕ → A} {elsewhere : ℕ → ℕ} → Finds s S other elsewhere
-      → Finds s (ifNext b R S) (λ at. cond (eqb (get_or s at 0) b) (what at) (other at)) (λ at. cond (eqb (get_or s at 0) b) (to at) (elsewhere at))
-  unfolding ifNext
-  finds-if b {S} {other} {elsewhere} q = record { found = λ at x l h. go at x l (eqb (get_or s at 0) b) (rw (first-drop s at) at h) }
+  pub finds_if : (b : ℕ) {S : Reader A} {other : ℕ → A} {elsewhere : ℕ → ℕ} → Finds s S other elsewhere
+      → Finds s (if_next b R S) (λ at. cond (eqb (get_or s at 0) b) (what at) (other at)) (λ at. cond (eqb (get_or s at 0) b) (to at) (elsewhere at))
+  unfolding if_next
+  finds_if b {S} {other} {elsewhere} q = record { found = λ at x l h. go at x l (eqb (get_or s at 0) b) (rw (first_drop s at) at h) }
     where
       go : (at : ℕ) (x : A) (l : Left) (t : Bool) → cond t R S (from s at) ≡ some (x, l) → (x ≡ cond t (what at) (other at)) × (l ≡ from s (cond t (to at) (elsewhere at)))
       go at x l true h = p.found at x l h

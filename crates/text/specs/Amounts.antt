@@ -5,7 +5,7 @@ use Rattle.lists.specs.Lists.{there}
 use Rattle.text.specs.Brackets.{bracketed, next}
 use Rattle.text.specs.Numbers.{Value}
 use Rattle.text.specs.Reader.{Reader, ◌>>=◌, give, whole}
-use Rattle.text.specs.Words.{readNumber}
+use Rattle.text.specs.Words.{read_number}
 
 -- the numbers from LOW to HIGH, by the ranks of these two
 pub record Range : Type 0 where
@@ -15,8 +15,8 @@ pub record Range : Type 0 where
 -- `(LOW HIGH)`
 unfoldable pub range : Reader Range
 range = bracketed do
-  l ← readNumber
-  h ← next readNumber
+  l ← read_number
+  h ← next read_number
   give (record { low = l; high = h })
 
 -- the range that a value is, if it is one
@@ -24,5 +24,5 @@ unfoldable pub range_of : Value → Option Range
 range_of v = whole range v
 
 -- the value is a range
-unfoldable pub isRange : Value → Bool
-isRange v = there (range_of v)
+unfoldable pub is_range : Value → Bool
+is_range v = there (range_of v)

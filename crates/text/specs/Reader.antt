@@ -1,7 +1,7 @@
 -- Meaning: readers: what each reads at the front of what is left of a text, and what is left then. They are put together with `do`.
 use Rattle.std.specs.Prelude.{◌+◌, ℕ, eqb, drop, Bool, cond, false, true, List}
 use Rattle.std.proofs.Math.Option.{Option, none, some}
-use Rattle.text.specs.Bytes.{firstByte}
+use Rattle.text.specs.Bytes.{first_byte}
 use Rattle.lists.specs.Lists.{is_empty}
 
 infixl 10 ◌>>=◌ ◌>>◌
@@ -54,16 +54,16 @@ given none = refuse
 given (some a) = give a
 
 -- the byte b comes next
-abbrev pub nextIs : ℕ → Left → Bool
-nextIs b l = eqb (firstByte l.bytes) b
+abbrev pub next_is : ℕ → Left → Bool
+next_is b l = eqb (first_byte l.bytes) b
 
 -- read the byte b, which is not 0
 unfoldable pub byte : ℕ → Reader ℕ
-byte b l = cond (nextIs b l) (some (b, skip 1 l)) none
+byte b l = cond (next_is b l) (some (b, skip 1 l)) none
 
 -- the first reader if the byte b comes next, and else the second
-unfoldable pub ifNext : {A : Type 0} → ℕ → Reader A → Reader A → Reader A
-ifNext b R S l = cond (nextIs b l) R S l
+unfoldable pub if_next : {A : Type 0} → ℕ → Reader A → Reader A → Reader A
+if_next b R S l = cond (next_is b l) R S l
 
 -- what was read, if nothing is left then
 unfoldable pub ended : {A : Type 0} → Option (A × Left) → Option A

@@ -8,36 +8,36 @@ use Rattle.text.specs.declared.refusals.Source.TheVariants.{Document, File, Quer
 use Rattle.text.specs.declared.refusals.Refusal.{Refusal}
 
 -- the number of a reason
-abbrev pub reasonNumber : Reason → ℕ
-reasonNumber TooLong = 1
-reasonNumber WrongForm = 2
-reasonNumber OverBound = 3
-reasonNumber NameTaken = 4
-reasonNumber NameUnknown = 5
-reasonNumber SecondRoot = 6
-reasonNumber WrongValues = 7
-reasonNumber WrongType = 8
-reasonNumber LateAttribute = 9
-reasonNumber ClockOutOfRange = 10
-reasonNumber NotAQuery = 11
-reasonNumber UnknownParty = 12
-reasonNumber RoleNotGiven = 13
-reasonNumber NotAuthorised = 14
-reasonNumber UnknownColumn = 15
-reasonNumber MistypedQuery = 16
-reasonNumber Closed = 17
-reasonNumber BufferTooShort = 18
-reasonNumber MalformedRecord = 19
-reasonNumber UnfitField = 20
-reasonNumber ImportTooShort = 21
-reasonNumber SelfJoined = 22
-reasonNumber UnknownWhy = 23
-reasonNumber NoSuchRow = 24
-reasonNumber NoteMisplaced = 25
-reasonNumber NestExplained = 26
-reasonNumber RangeNotTaken = 27
-reasonNumber RangeReversed = 28
-reasonNumber NoSuchDate = 31
+abbrev pub reason_number : Reason → ℕ
+reason_number TooLong = 1
+reason_number WrongForm = 2
+reason_number OverBound = 3
+reason_number NameTaken = 4
+reason_number NameUnknown = 5
+reason_number SecondRoot = 6
+reason_number WrongValues = 7
+reason_number WrongType = 8
+reason_number LateAttribute = 9
+reason_number ClockOutOfRange = 10
+reason_number NotAQuery = 11
+reason_number UnknownParty = 12
+reason_number RoleNotGiven = 13
+reason_number NotAuthorised = 14
+reason_number UnknownColumn = 15
+reason_number MistypedQuery = 16
+reason_number Closed = 17
+reason_number BufferTooShort = 18
+reason_number MalformedRecord = 19
+reason_number UnfitField = 20
+reason_number ImportTooShort = 21
+reason_number SelfJoined = 22
+reason_number UnknownWhy = 23
+reason_number NoSuchRow = 24
+reason_number NoteMisplaced = 25
+reason_number NestExplained = 26
+reason_number RangeNotTaken = 27
+reason_number RangeReversed = 28
+reason_number NoSuchDate = 31
 
 -- the text that a refusal points into
 abbrev pub source_of : Source → meant.Source
@@ -46,5 +46,5 @@ source_of Query = meant.query
 source_of File = meant.file
 
 -- the refusal that the code's answer stands for
-abbrev pub refusalOf : Refusal → meant.Refusal
-refusalOf r = record { number = reasonNumber r.reason; source = source_of r.source; start = r.start; len = r.len }
+abbrev pub refusal_of : Refusal → meant.Refusal
+refusal_of r = record { number = reason_number r.reason; source = source_of r.source; start = r.start; len = r.len }

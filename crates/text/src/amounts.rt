@@ -1,7 +1,7 @@
 // Ranges of numbers, `(LOW HIGH)`.
 ghost use Rattle.std.specs.Prelude.{◌≡◌};
 ghost use Rattle.text.specs.Amounts.{range};
-ghost use Rattle.text.specs.CodeEnds.{endOfRange, wordEnd};
+ghost use Rattle.text.specs.CodeEnds.{end_of_range, word_end};
 ghost use Rattle.text.specs.Reader.{from};
 
 use crate::bytes::byte_at;
@@ -17,7 +17,7 @@ pub enum Span {
 
 // The end of the range at a position, and the ranks of its ends.
 pub fn read_range(s: &[u8], at: usize) -> Span
-    ensures { result ≡ endOfRange (range (from s.now at)) }
+    ensures { result ≡ end_of_range (range (from s.now at)) }
 {
     if byte_at(s, at) != b'(' {
         return Span::Nothing;
@@ -41,7 +41,7 @@ pub fn read_range(s: &[u8], at: usize) -> Span
 
 // The end of the range at a position.
 pub fn range_end(s: &[u8], at: usize) -> End
-    ensures { result ≡ wordEnd (range (from s.now at)) }
+    ensures { result ≡ word_end (range (from s.now at)) }
 {
     let k = read_range(s, at);
     match k {

@@ -3,7 +3,7 @@ ghost use Rattle.std.specs.Prelude.{◌≡◌};
 ghost use Rattle.text.specs.Reader.{from};
 ghost use Rattle.text.specs.Words.{name, value};
 ghost use Rattle.text.specs.Brackets.{next, optional, many};
-ghost use Rattle.text.specs.CodeEnds.{wordEnd, byteEnd, optionalOf};
+ghost use Rattle.text.specs.CodeEnds.{word_end, byte_end, optional_of};
 
 use crate::bytes::byte_at;
 use crate::words::{End, name_end, value_end};
@@ -19,7 +19,7 @@ pub enum Optional {
 
 // The end of the byte b, if it stands at a position. Byte 0 stands in no form, and is not found anywhere.
 pub fn byte_end(s: &[u8], at: usize, b: u8) -> End
-    ensures { result ≡ byteEnd b (from s.now at) }
+    ensures { result ≡ byte_end b (from s.now at) }
 {
     if b == 0 {
         return End::Nothing;
@@ -32,7 +32,7 @@ pub fn byte_end(s: &[u8], at: usize, b: u8) -> End
 
 // The end of a space and a name.
 pub fn spaced_name_end(s: &[u8], at: usize) -> End
-    ensures { result ≡ wordEnd (next name (from s.now at)) }
+    ensures { result ≡ word_end (next name (from s.now at)) }
 {
     if byte_at(s, at) == b' ' {
         name_end(s, at + 1)
@@ -43,7 +43,7 @@ pub fn spaced_name_end(s: &[u8], at: usize) -> End
 
 // The end of a space and a name or number.
 pub fn spaced_value_end(s: &[u8], at: usize) -> End
-    ensures { result ≡ wordEnd (next value (from s.now at)) }
+    ensures { result ≡ word_end (next value (from s.now at)) }
 {
     if byte_at(s, at) == b' ' {
         value_end(s, at + 1)
@@ -54,7 +54,7 @@ pub fn spaced_value_end(s: &[u8], at: usize) -> End
 
 // The name behind a space, if a space comes next.
 pub fn optional_name(s: &[u8], at: usize) -> Optional
-    ensures { result ≡ optionalOf (optional name (from s.now at)) }
+    ensures { result ≡ optional_of (optional name (from s.now at)) }
 {
     if byte_at(s, at) != b' ' {
         return Optional::Absent(at);
@@ -68,7 +68,7 @@ pub fn optional_name(s: &[u8], at: usize) -> Optional
 
 // The end of names, each behind a space; nothing where something else stands behind a space.
 pub fn names_end(s: &[u8], at: usize) -> End
-    ensures { result ≡ wordEnd (many name (from s.now at)) }
+    ensures { result ≡ word_end (many name (from s.now at)) }
 {
     let mut i = at;
     while byte_at(s, i) == b' ' {

@@ -1,9 +1,9 @@
 // Numbers of a text: decimal, from -2^63 to 2^63 - 1, held as the number plus 2^63.
 ghost use Rattle.std.specs.Prelude.{◌+◌, length, ◌≡◌};
 ghost use Rattle.text.specs.Reader.{from};
-ghost use Rattle.text.specs.Words.{word_at, readNumber};
-ghost use Rattle.text.specs.Numbers.{digitsFrom, noLeadingZero, magnitude, rank};
-ghost use Rattle.text.specs.CodeEnds.{limited, endedAt, amountOf, endOfNumber};
+ghost use Rattle.text.specs.Words.{word_at, read_number};
+ghost use Rattle.text.specs.Numbers.{digits_from, no_leading_zero, magnitude, rank};
+ghost use Rattle.text.specs.CodeEnds.{limited, ended_at, amount_of, end_of_number};
 
 use crate::bytes::{byte_at, is_digit, is_name_byte};
 
@@ -23,7 +23,7 @@ pub enum Number {
 
 // Whether the word at a position has no leading zero.
 pub fn is_canonical(s: &[u8], at: usize) -> bool
-    ensures { result ≡ noLeadingZero (word_at s.now at) }
+    ensures { result ≡ no_leading_zero (word_at s.now at) }
 {
     let b = byte_at(s, at);
     if !is_name_byte(b) {
@@ -37,7 +37,7 @@ pub fn is_canonical(s: &[u8], at: usize) -> bool
 
 // The end of the digits at a position, and the number that they spell, if it is at most 2^63.
 fn read_digits(s: &[u8], at: usize) -> Number
-    ensures { result ≡ endedAt (at + length (word_at s.now at)) (limited (digitsFrom 0 (word_at s.now at))) }
+    ensures { result ≡ ended_at (at + length (word_at s.now at)) (limited (digits_from 0 (word_at s.now at))) }
 {
     let mut i = at;
     let mut n: u64 = 0;
@@ -60,7 +60,7 @@ fn read_digits(s: &[u8], at: usize) -> Number
 
 // The same, if they have no leading zero.
 fn read_magnitude(s: &[u8], at: usize) -> Number
-    ensures { result ≡ endedAt (at + length (word_at s.now at)) (limited (magnitude (word_at s.now at))) }
+    ensures { result ≡ ended_at (at + length (word_at s.now at)) (limited (magnitude (word_at s.now at))) }
 {
     if is_canonical(s, at) {
         read_digits(s, at)
@@ -82,7 +82,7 @@ pub fn magnitude_at(s: &[u8], at: usize) -> Amount
 
 // The end of the number at a position, and its rank.
 pub fn read_number(s: &[u8], at: usize) -> Number
-    ensures { result ≡ endOfNumber (readNumber (from s.now at)) }
+    ensures { result ≡ end_of_number (read_number (from s.now at)) }
 {
     if byte_at(s, at) == b'-' {
         let m = read_magnitude(s, at + 1);
@@ -113,7 +113,7 @@ pub fn read_number(s: &[u8], at: usize) -> Number
 
 // The rank of the number that the word at a position spells.
 pub fn rank_at(s: &[u8], at: usize) -> Amount
-    ensures { result ≡ amountOf (rank (word_at s.now at)) }
+    ensures { result ≡ amount_of (rank (word_at s.now at)) }
 {
     let k = read_number(s, at);
     match k {

@@ -1,6 +1,6 @@
 // Refusals: why, in which text, and which part of it.
 ghost use Rattle.std.specs.Prelude.{◌≡◌};
-ghost use Rattle.text.specs.Reasons.{reasonNumber};
+ghost use Rattle.text.specs.Reasons.{reason_number};
 
 // Why a document, a query or a file is refused; each case has its number in the paper.
 #[derive(Drop)]
@@ -55,7 +55,7 @@ pub struct Refusal {
 
 // The number of a reason.
 pub fn number(r: Reason) -> usize
-    ensures { result ≡ reasonNumber r }
+    ensures { result ≡ reason_number r }
 {
     match r {
         Reason::TooLong => 1,

@@ -1,6 +1,6 @@
 // Going on through a text: behind one byte, and to the next word.
 ghost use Rattle.std.specs.Prelude.{◌≡◌};
-ghost use Rattle.text.specs.Walking.{nextWord, past};
+ghost use Rattle.text.specs.Walking.{next_word, past};
 
 use crate::words::word_end;
 
@@ -18,7 +18,7 @@ pub fn skip_byte(s: &[u8], at: usize, b: u8) -> usize
 
 // Where the next word begins: behind the word at a position and a space.
 pub fn next_word(s: &[u8], at: usize) -> usize
-    ensures { result ≡ nextWord s.now at }
+    ensures { result ≡ next_word s.now at }
 {
     skip_byte(s, word_end(s, at), b' ')
 }

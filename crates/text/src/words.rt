@@ -1,9 +1,9 @@
 // Words of a text: where they end, whether they are names, and whether two are the same.
 ghost use Rattle.std.specs.Prelude.{◌≡◌, ◌+◌, drop, length};
 ghost use Rattle.text.specs.Reader.{from};
-ghost use Rattle.text.specs.Words.{word_at, toClosing, writtenAt, name, value};
-ghost use Rattle.text.specs.Names.{sameByte, sameName};
-ghost use Rattle.text.specs.CodeEnds.{wordEnd};
+ghost use Rattle.text.specs.Words.{word_at, to_closing, written_at, name, value};
+ghost use Rattle.text.specs.Names.{same_byte, same_name};
+ghost use Rattle.text.specs.CodeEnds.{word_end};
 
 use crate::bytes::{byte_at, is_letter, is_name_byte, lower};
 use crate::numbers::{Number, read_number};
@@ -28,7 +28,7 @@ pub fn word_end(s: &[u8], at: usize) -> usize
 
 // The position behind the first closing bracket from a position on, or the line's end where there is none.
 fn closing_end(s: &[u8], at: usize) -> usize
-    ensures { result ≡ at + length (toClosing (drop at s.now)) }
+    ensures { result ≡ at + length (to_closing (drop at s.now)) }
 {
     let mut i = at;
     while i < s.len() {
@@ -45,7 +45,7 @@ fn closing_end(s: &[u8], at: usize) -> usize
 
 // The end of the value of a cell that stands at a position.
 pub fn written_end(s: &[u8], at: usize) -> usize
-    ensures { result ≡ at + length (writtenAt s.now at) }
+    ensures { result ≡ at + length (written_at s.now at) }
 {
     if byte_at(s, at) == b'(' {
         return closing_end(s, at);
@@ -55,7 +55,7 @@ pub fn written_end(s: &[u8], at: usize) -> usize
 
 // The end of the name that stands at a position.
 pub fn name_end(s: &[u8], at: usize) -> End
-    ensures { result ≡ wordEnd (name (from s.now at)) }
+    ensures { result ≡ word_end (name (from s.now at)) }
 {
     if is_letter(byte_at(s, at)) {
         let end = word_end(s, at);
@@ -68,7 +68,7 @@ pub fn name_end(s: &[u8], at: usize) -> End
 
 // The end of the name or number that stands at a position.
 pub fn value_end(s: &[u8], at: usize) -> End
-    ensures { result ≡ wordEnd (value (from s.now at)) }
+    ensures { result ≡ word_end (value (from s.now at)) }
 {
     let n = name_end(s, at);
     match n {
@@ -85,7 +85,7 @@ pub fn value_end(s: &[u8], at: usize) -> End
 
 // Whether two bytes are the same in a name. Most that are the same are equal: only others are lowered.
 pub fn same_byte(a: u8, b: u8) -> bool
-    ensures { result ≡ sameByte a b }
+    ensures { result ≡ same_byte a b }
 {
     if a == b {
         return true;
@@ -95,7 +95,7 @@ pub fn same_byte(a: u8, b: u8) -> bool
 
 // Whether the words at two positions are the same name.
 pub fn same_name(a: &[u8], i: usize, b: &[u8], j: usize) -> bool
-    ensures { result ≡ sameName (word_at a.now i) (word_at b.now j) }
+    ensures { result ≡ same_name (word_at a.now i) (word_at b.now j) }
 {
     let mut x = i;
     let mut y = j;
@@ -111,7 +111,7 @@ pub fn same_name(a: &[u8], i: usize, b: &[u8], j: usize) -> bool
 
 // Whether the word at a position is the name w.
 pub fn is_word(s: &[u8], at: usize, w: &[u8]) -> bool
-    ensures { result ≡ sameName (word_at s.now at) w.now }
+    ensures { result ≡ same_name (word_at s.now at) w.now }
 {
     let mut x = at;
     let mut k = 0;

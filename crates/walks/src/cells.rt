@@ -5,9 +5,9 @@ ghost use Rattle.condition.specs.Kinds.{dates, numbers};
 ghost use Rattle.document.specs.Policy.{Policy};
 ghost use Rattle.relations.specs.Labels.{Labels};
 ghost use Rattle.text.specs.Amounts.{range};
-ghost use Rattle.text.specs.CodeEnds.{endOfRange};
+ghost use Rattle.text.specs.CodeEnds.{end_of_range};
 ghost use Rattle.text.specs.Reader.{from};
-ghost use Rattle.walks.specs.Walked.{KeepsRows, LabelWalked, orderedEnd, typedEnd};
+ghost use Rattle.walks.specs.Walked.{KeepsRows, LabelWalked, ordered_end, typed_end};
 ghost use Rattle.walks.specs.Promises.{TakeCellsPromise, TakeValuesPromise};
 
 use calendar::reading::{DateRead, read_date};
@@ -25,7 +25,7 @@ use workspace::layout::{LABELS, ROW_CELLS, TABLE_CELLS};
 
 // The end of the range at a position, if it has LOW at most HIGH.
 fn ordered_end(line: &[u8], at: usize) -> End
-    ensures { result ≡ orderedEnd (endOfRange (range (from line.now at))) }
+    ensures { result ≡ ordered_end (end_of_range (range (from line.now at))) }
 {
     let k = read_range(line, at);
     let Span::At(e, low, high) = k else {
@@ -40,7 +40,7 @@ fn ordered_end(line: &[u8], at: usize) -> End
 
 // The end of the number at a position, or of the range, if it is in order.
 fn number_end(line: &[u8], at: usize) -> End
-    ensures { result ≡ typedEnd line.now at numbers }
+    ensures { result ≡ typed_end line.now at numbers }
 {
     if byte_at(line, at) == b'(' {
         return ordered_end(line, at);
@@ -54,7 +54,7 @@ fn number_end(line: &[u8], at: usize) -> End
 
 // The end of the date at a position, if it exists.
 fn existing_end(line: &[u8], at: usize) -> End
-    ensures { result ≡ typedEnd line.now at dates }
+    ensures { result ≡ typed_end line.now at dates }
 {
     let d = read_date(line, at);
     match d {
@@ -66,7 +66,7 @@ fn existing_end(line: &[u8], at: usize) -> End
 
 // The end of the value of the type that stands at a position, if it is in order and exists.
 fn typed_end(line: &[u8], at: usize, kind: Kind) -> End
-    ensures { result ≡ typedEnd line.now at (kind_of kind) }
+    ensures { result ≡ typed_end line.now at (kind_of kind) }
 {
     match kind {
         Kind::Name => name_end(line, at),

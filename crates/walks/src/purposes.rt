@@ -1,12 +1,12 @@
 // A purpose line below another, `(purpose N PARENT)`: read, judged and stored in one walk, in which each name is gone through once,
 // for its end and its hash.
 ghost use Rattle.std.specs.Prelude.{◌+◌, ◌<◌, length, true, ◌≡◌};
-ghost use Rattle.walks.specs.PurposeLine.{BelowAt, ReadsBelow, TakesPurpose, beginsPurpose};
+ghost use Rattle.walks.specs.PurposeLine.{BelowAt, ReadsBelow, TakesPurpose, begins_purpose};
 ghost use Rattle.document.specs.Policy.{Doc};
 ghost use Rattle.principals.specs.Nodes.{Nodes};
 ghost use Rattle.purpose.specs.Members.{limit};
 ghost use Rattle.stepping.specs.Stored.{LineAt};
-ghost use Rattle.text.specs.Names.{isName};
+ghost use Rattle.text.specs.Names.{is_name};
 ghost use Rattle.text.specs.Words.{word_at};
 
 use crate::lines::closes;
@@ -26,7 +26,7 @@ enum Below {
 
 // Whether the line begins with `(purpose `.
 fn begins(line: &[u8]) -> bool
-    ensures { result ≡ beginsPurpose line.now }
+    ensures { result ≡ begins_purpose line.now }
 {
     if byte_at(line, 0) != b'(' {
         return false;
@@ -39,7 +39,7 @@ fn begins(line: &[u8]) -> bool
 
 // Whether the word from a place to e is a name.
 fn is_name_to(line: &[u8], at: usize, e: usize) -> bool
-    ensures { result ≡ true → e ≡ at + length (word_at line.now at) → isName (word_at line.now at) ≡ true }
+    ensures { result ≡ true → e ≡ at + length (word_at line.now at) → is_name (word_at line.now at) ≡ true }
 {
     if !is_letter(byte_at(line, at)) {
         return false;

@@ -24,9 +24,9 @@ Apart j [] = Unit {0}
 Apart j (s ∷ ss) = (j ≢ s.place) × Apart j ss
 
 -- where no store goes, nothing changes
-pub stores-other : (ws : List ℕ) (ss : List Store) (j : ℕ) → Apart j ss → get_or (stores ws ss) j 0 ≡ get_or ws j 0
-stores-other ws [] j a = refl
-stores-other ws (s ∷ ss) j a = stores-other (set ws s.place s.value) ss j a.1 ∙ get_or-set_other ws s.place j s.value 0 a.0
+pub stores_other : (ws : List ℕ) (ss : List Store) (j : ℕ) → Apart j ss → get_or (stores ws ss) j 0 ≡ get_or ws j 0
+stores_other ws [] j a = refl
+stores_other ws (s ∷ ss) j a = stores_other (set ws s.place s.value) ss j a.1 ∙ get_or-set_other ws s.place j s.value 0 a.0
 
 -- the store of number n
 abbrev pub nth : List Store → ℕ → Store
@@ -37,6 +37,6 @@ pub stores_same : (ws : List ℕ) (ss : List Store) (n : ℕ) → n < length ss 
     → get_or (stores ws ss) (nth ss n).place 0 ≡ (nth ss n).value
 stores_same ws [] n m l a = absurd (not-suc-le-zero m)
 stores_same ws (s ∷ ss) zero m l a =
-    stores-other (set ws s.place s.value) ss s.place a ∙ get_or-set_same ws s.place s.value 0 l
+    stores_other (set ws s.place s.value) ss s.place a ∙ get_or-set_same ws s.place s.value 0 l
 stores_same ws (s ∷ ss) (suc n) m l a =
     stores_same (set ws s.place s.value) ss n (omega (arith, m)) (omega (arith, l, length-set ws s.place s.value)) a

@@ -6,9 +6,9 @@ use Rattle.workspace.specs.declared.found.Found.{Found}
 use Rattle.workspace.specs.declared.found.Found.TheVariants as found
 
 -- the number that the code's answer names, if it names one
-abbrev pub foundAs : Found → Option ℕ
-foundAs found.Nothing = none
-foundAs (found.At n) = some n
+abbrev pub found_as : Found → Option ℕ
+found_as found.Nothing = none
+found_as (found.At n) = some n
 
 -- the number that it names is below k
 abbrev pub FoundBelow : Found → ℕ → Type 0

@@ -1,11 +1,11 @@
 // Looking a name up among the first n positions of an array.
 ghost use Rattle.std.specs.Prelude.{◌+◌, ◌-◌, ◌<◌, ◌≤◌, ℕ, get_or, length, false, List, ◌≡◌};
-ghost use Rattle.workspace.specs.Found.{FoundBelow, foundAs};
+ghost use Rattle.workspace.specs.Found.{FoundBelow, found_as};
 ghost use Rattle.workspace.specs.Hash.{Printed};
 ghost use Rattle.workspace.specs.Tabulated.{tabulated};
-ghost use Rattle.lists.specs.Lists.{findIndex};
-ghost use Rattle.text.specs.Names.{sameName};
-ghost use Rattle.text.specs.Words.{isCalled, word_at, word_of};
+ghost use Rattle.lists.specs.Lists.{find_index};
+ghost use Rattle.text.specs.Names.{same_name};
+ghost use Rattle.text.specs.Words.{is_called, word_at, word_of};
 
 use crate::hashes::print_word;
 use text::bytes::{byte_at, is_name_byte};
@@ -21,7 +21,7 @@ pub enum Found {
 // Whether the name of len bytes at i of the line is the word at p of the text. Where that word ends is looked at first, and then the
 // bytes from the last on: names that are much alike tend to differ there. A length that does not fit the line is no name's.
 pub fn same_length_name(line: &[u8], i: usize, len: usize, text: &[u8], p: usize) -> bool
-    ensures { (len ≡ length (word_at line.now i)) → result ≡ sameName (word_at line.now i) (word_at text.now p) }
+    ensures { (len ≡ length (word_at line.now i)) → result ≡ same_name (word_at line.now i) (word_at text.now p) }
 {
     if text.len() < len {
         return false;
@@ -50,7 +50,7 @@ pub fn same_length_name(line: &[u8], i: usize, len: usize, text: &[u8], p: usize
 
 // Whether the name of len bytes can be the word at p of the text: its first and last bytes fit. Most other names are told apart by this.
 fn may_be(text: &[u8], p: usize, len: usize, first: u8, last: u8) -> bool
-    ensures { (line : List ℕ) (i : ℕ) → len ≡ length (word_at line i) → first ≡ get_or line i 0 → last ≡ get_or line (i + len - 1) 0 → result ≡ false → sameName (word_at line i) (word_at text.now p) ≡ false }
+    ensures { (line : List ℕ) (i : ℕ) → len ≡ length (word_at line i) → first ≡ get_or line i 0 → last ≡ get_or line (i + len - 1) 0 → result ≡ false → same_name (word_at line i) (word_at text.now p) ≡ false }
 {
     if len == 0 {
         return true;
@@ -85,7 +85,7 @@ fn seek_name(
     e: usize,
 ) -> Found
     requires { base + n ≤ length ws.now }
-    ensures { (e ≡ i + length (word_at line.now i) → foundAs result ≡ findIndex (λ p. isCalled (word_of line.now i) (word_at text.now p)) (tabulated (λ k. get_or ws.now (base + k) 0) n)) × FoundBelow result n }
+    ensures { (e ≡ i + length (word_at line.now i) → found_as result ≡ find_index (λ p. is_called (word_of line.now i) (word_at text.now p)) (tabulated (λ k. get_or ws.now (base + k) 0) n)) × FoundBelow result n }
 {
     if e < i {
         return Found::Nothing;
@@ -116,7 +116,7 @@ pub fn find_name_to(
     i: usize,
     e: usize,
 ) -> Found
-    ensures { (base + n ≤ length ws.now → e ≡ i + length (word_at line.now i) → foundAs result ≡ findIndex (λ p. isCalled (word_of line.now i) (word_at text.now p)) (tabulated (λ k. get_or ws.now (base + k) 0) n)) × FoundBelow result n }
+    ensures { (base + n ≤ length ws.now → e ≡ i + length (word_at line.now i) → found_as result ≡ find_index (λ p. is_called (word_of line.now i) (word_at text.now p)) (tabulated (λ k. get_or ws.now (base + k) 0) n)) × FoundBelow result n }
 {
     if ws.len() < n {
         return Found::Nothing;
@@ -129,7 +129,7 @@ pub fn find_name_to(
 
 // The same for a name whose end is not known yet.
 pub fn find_name(text: &[u8], ws: &[usize], base: usize, n: usize, line: &[u8], i: usize) -> Found
-    ensures { (base + n ≤ length ws.now → foundAs result ≡ findIndex (λ p. isCalled (word_of line.now i) (word_at text.now p)) (tabulated (λ k. get_or ws.now (base + k) 0) n)) × FoundBelow result n }
+    ensures { (base + n ≤ length ws.now → found_as result ≡ find_index (λ p. is_called (word_of line.now i) (word_at text.now p)) (tabulated (λ k. get_or ws.now (base + k) 0) n)) × FoundBelow result n }
 {
     find_name_to(text, ws, base, n, line, i, word_end(line, i))
 }
@@ -137,7 +137,7 @@ pub fn find_name(text: &[u8], ws: &[usize], base: usize, n: usize, line: &[u8], 
 // The same among the first n positions, where the names' prints stand from `prints` on: a name with another print is another.
 fn seek_printed(text: &[u8], ws: &[usize], prints: usize, n: usize, line: &[u8], i: usize) -> Found
     requires { prints + n ≤ length ws.now }
-    ensures { (((j : ℕ) → j < n → Printed prints text.now ws.now j) → foundAs result ≡ findIndex (λ p. isCalled (word_of line.now i) (word_at text.now p)) (tabulated (λ k. get_or ws.now (0 + k) 0) n)) × FoundBelow result n }
+    ensures { (((j : ℕ) → j < n → Printed prints text.now ws.now j) → found_as result ≡ find_index (λ p. is_called (word_of line.now i) (word_at text.now p)) (tabulated (λ k. get_or ws.now (0 + k) 0) n)) × FoundBelow result n }
 {
     let w = print_word(line, i);
     let e = w.end;
@@ -164,7 +164,7 @@ pub fn find_printed(
     line: &[u8],
     i: usize,
 ) -> Found
-    ensures { (prints + n ≤ length ws.now → ((j : ℕ) → j < n → Printed prints text.now ws.now j) → foundAs result ≡ findIndex (λ p. isCalled (word_of line.now i) (word_at text.now p)) (tabulated (λ k. get_or ws.now (0 + k) 0) n)) × FoundBelow result n }
+    ensures { (prints + n ≤ length ws.now → ((j : ℕ) → j < n → Printed prints text.now ws.now j) → found_as result ≡ find_index (λ p. is_called (word_of line.now i) (word_at text.now p)) (tabulated (λ k. get_or ws.now (0 + k) 0) n)) × FoundBelow result n }
 {
     if ws.len() < n {
         return Found::Nothing;

@@ -2,7 +2,7 @@
 // lowered: names that are the same in another case are looked up as one.
 ghost use Rattle.std.specs.Prelude.{◌≡◌};
 ghost use Rattle.workspace.specs.Hash.{HashedAt, PrintedAt};
-ghost use Rattle.text.specs.Bytes.{isNameByte};
+ghost use Rattle.text.specs.Bytes.{is_name_byte};
 
 use crate::layout::SLOTS;
 use text::bytes::{byte_at, is_letter, is_name_byte, lower};
@@ -26,7 +26,7 @@ fn wide(b: u8) -> usize
 
 // Whether b may stand in a name: letters, which most are, are told first.
 fn in_name(b: u8) -> bool
-    ensures { result ≡ isNameByte b }
+    ensures { result ≡ is_name_byte b }
 {
     if is_letter(b) {
         return true;

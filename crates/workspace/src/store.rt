@@ -1,7 +1,7 @@
 // Storing a number in an array, and the numbers of types.
 ghost use Rattle.std.specs.Prelude.{set, ◌≡◌};
 ghost use Rattle.condition.specs.Answers.{kind_of};
-ghost use Rattle.workspace.specs.Cells.{kindOfCell};
+ghost use Rattle.workspace.specs.Cells.{kind_of_cell};
 
 use condition::kinds::Kind;
 
@@ -16,7 +16,7 @@ pub fn put(ws: &mut [usize], at: usize, v: usize)
 
 // The number of a type.
 pub fn kind_cell(kind: Kind) -> usize
-    ensures { kindOfCell result ≡ kind_of kind }
+    ensures { kind_of_cell result ≡ kind_of kind }
 {
     match kind {
         Kind::Num => 0,
@@ -27,7 +27,7 @@ pub fn kind_cell(kind: Kind) -> usize
 
 // The type of a number.
 pub fn kind_by(n: usize) -> Kind
-    ensures { kind_of result ≡ kindOfCell n }
+    ensures { kind_of result ≡ kind_of_cell n }
 {
     if n == 0 {
         return Kind::Num;

@@ -3,7 +3,7 @@
 ghost use Rattle.std.specs.Prelude.{◌+◌, ◌<◌, ◌^◌, ◌≤◌, drop, length, take, [], ◌∷◌, ◌≡◌};
 ghost use Rattle.std.proofs.lemmas.List.Edits.{sets};
 ghost use Rattle.text.specs.Numbers.{decimal};
-ghost use Rattle.text.specs.Words.{writtenAt};
+ghost use Rattle.text.specs.Words.{written_at};
 ghost use Rattle.writing.specs.Write.{Wrote};
 
 use text::bytes::byte_at;
@@ -41,7 +41,7 @@ pub fn put_bytes(out: &mut [u8], at: usize, s: &[u8]) -> usize
 
 // Writes the value of a cell that stands at a place of a text.
 pub fn put_written(out: &mut [u8], at: usize, text: &[u8], start: usize) -> usize
-    ensures { Wrote out.old at (writtenAt text.now start) out.new result }
+    ensures { Wrote out.old at (written_at text.now start) out.new result }
 {
     let end = written_end(text, start);
     let mut to = at;
@@ -81,7 +81,7 @@ fn copy_bytes(out: &mut [u8], at: usize, text: &[u8], start: usize, size: usize)
 // Writes the value of `size` bytes that stands at a place of a text, as one run where there is room for it: its bytes are not looked
 // at. A size that does not fit the text is no value's.
 pub fn put_sized(out: &mut [u8], at: usize, text: &[u8], start: usize, size: usize) -> usize
-    ensures { size ≡ length (writtenAt text.now start) → Wrote out.old at (writtenAt text.now start) out.new result }
+    ensures { size ≡ length (written_at text.now start) → Wrote out.old at (written_at text.now start) out.new result }
 {
     if text.len() < size {
         return at;

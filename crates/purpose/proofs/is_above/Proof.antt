@@ -1,5 +1,5 @@
 -- `purpose::is_above` meets its contract. Assumes nothing.
-use Rattle.purpose.specs.Meaning.{isAbove}
+use Rattle.purpose.specs.Meaning.{is_above}
 use borrow.Author.Rules.{rules}
 use Rattle.purpose.proofs.is_above.Statement.{statement}
 use Rattle.purpose.proofs.is_above.Tie as tie
@@ -8,7 +8,7 @@ contains-requires : tie.Need-contains-requires
 contains-requires c κs = search rules
 
 returns : tie.Need-returns
-unfolding isAbove
+unfolding is_above
 returns c = c.contains.ensures
 
 pub is-above-spec : {M : Type 1} → statement M

@@ -1,5 +1,5 @@
 -- `answering::answers::answer_rows` meets its contract. Assumes nothing.
-use Rattle.answering.proofs.Bridge.{answer-is}
+use Rattle.answering.proofs.Bridge.{answer_is}
 use Rattle.answering.specs.Answering.{Writes}
 use borrow.Author.Rules.{rules}
 use mathlib.Core.Path.{subst, sym}
@@ -17,7 +17,7 @@ unmeasured-requires-2 : tie.Need-unmeasured-requires-2
 unmeasured-requires-2 c κs = search rules
 
 returns-2 : tie.Need-returns-2
-returns-2 c = λ d q h. absurd (omega (arith, h.fewChosen, c.before.if2.true))
+returns-2 c = λ d q h. absurd (omega (arith, h.few_chosen, c.before.if2.true))
 
 unmeasured-requires-3 : tie.Need-unmeasured-requires-3
 unmeasured-requires-3 c κs = search rules
@@ -43,7 +43,7 @@ same_length c = search rules
 returns-4 : tie.Need-returns-4
 returns-4 c =
     λ d q h.
-    subst (λ a. Writes a c.before.before.before.before.before.before.before.before.before.before.before.before.before.before.before.before.args.out.now c.before.before.put-measured.new.0 c.before.before.put-measured.result) (sym (answer-is h (c.before.before.before.before.before.before.before.judge-rows.ensures d q h) c.before.before.before.before.before.before.table-scheme.result c.before.before.before.before.before.before.table-scheme.ensures c.before.before.before.before.before.writes-gaps.ensures))
+    subst (λ a. Writes a c.before.before.before.before.before.before.before.before.before.before.before.before.before.before.before.before.args.out.now c.before.before.put-measured.new.0 c.before.before.put-measured.result) (sym (answer_is h (c.before.before.before.before.before.before.before.judge-rows.ensures d q h) c.before.before.before.before.before.before.table-scheme.result c.before.before.before.before.before.before.table-scheme.ensures c.before.before.before.before.before.writes-gaps.ensures))
     (c.before.before.put-measured.ensures d h.rows)
 
 pub answer-rows-spec : {M : Type 1} → statement M

@@ -1,7 +1,7 @@
 -- `answering::answers::measure_answer` meets its contract: what stands behind an answer written from 0 on is its length.
 -- Assumes nothing.
 use borrow.Author.Rules.{rules}
-use Rattle.answering.proofs.Ending.{size-written}
+use Rattle.answering.proofs.Ending.{size_written}
 use Rattle.answering.proofs.answers.measure_answer.Statement.{statement}
 use Rattle.answering.proofs.answers.measure_answer.Tie as tie
 
@@ -15,7 +15,7 @@ put-answer-requires : tie.Need-put-answer-requires
 put-answer-requires c κs = search rules
 
 returns : tie.Need-returns
-returns c = λ d h. size-written (c.before.put-answer.ensures d h)
+returns c = λ d h. size_written (c.before.put-answer.ensures d h)
 
 pub measure-answer-spec : {M : Type 1} → statement M
 measure-answer-spec =

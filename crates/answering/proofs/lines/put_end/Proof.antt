@@ -1,6 +1,6 @@
 -- `answering::lines::put_end` meets its contract: its parts are written one after the other. Assumes nothing.
 use borrow.Author.Rules.{rules}
-use Rattle.answer.specs.Answer.{endLine}
+use Rattle.answer.specs.Answer.{end_line}
 use Rattle.writing.proofs.Writing.{both}
 use Rattle.answering.proofs.lines.put_end.Statement.{statement}
 use Rattle.answering.proofs.lines.put_end.Tie as tie
@@ -30,7 +30,7 @@ same_length : tie.Need-same-length
 same_length c = search rules
 
 returns : tie.Need-returns
-unfolding endLine
+unfolding end_line
 returns c = both (both (both (both c.before.before.before.before.before.before.before.before.before.before.before.before.before.before.before.before.before.before.before.put-bytes.ensures c.before.before.before.before.before.before.before.before.before.before.before.before.before.before.before.put-decimal.ensures) c.before.before.before.before.before.before.before.before.before.before.before.put-number.ensures) c.before.before.before.before.before.before.before.put-number2.ensures) c.before.before.put-bytes2.ensures
 
 pub put-end-spec : {M : Type 1} → statement M

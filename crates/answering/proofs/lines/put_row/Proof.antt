@@ -2,7 +2,7 @@
 use borrow.Author.Rules.{rules}
 use Rattle.answer.specs.Answer.{row_line}
 use Rattle.writing.proofs.Writing as w
-use Rattle.answering.specs.Lines.{spacedValues}
+use Rattle.answering.specs.Lines.{spaced_values}
 use Rattle.answering.proofs.lines.put_row.Statement.{statement}
 use Rattle.answering.proofs.lines.put_row.Tie as tie
 
@@ -25,7 +25,7 @@ same_length : tie.Need-same-length
 same_length c = search rules
 
 returns : tie.Need-returns
-unfolding row_line spacedValues
+unfolding row_line spaced_values
 returns c = λ f. w.both (w.both c.before.before.before.before.before.before.before.before.before.before.before.put-bytes.ensures (c.before.before.before.before.before.before.before.put-shown.ensures f)) c.before.before.put-bytes2.ensures
 
 pub put-row-spec : {M : Type 1} → statement M

@@ -1,6 +1,6 @@
 -- `answering::lines::value_size` meets its contract. Assumes nothing.
 use Prim.Native.Nat.{◌<◌, ℕ}
-use Rattle.answering.proofs.LineLaws.{sizes-more}
+use Rattle.answering.proofs.LineLaws.{sizes_more}
 use Rattle.answering.specs.Lines.{Sizes}
 use borrow.Author.Rules.{rules}
 use lib.ListN.{length}
@@ -23,7 +23,7 @@ returns c =
     let a = c.before.before.before.before.before.before.before.args in
     λ vs e h.
     let n = c.before.before.written-size.ensures (λ l. c.before.before.before.kept-size.ensures ∙ h.each a.c (subst (λ (k : ℕ). 0 < k) c.before.before.before.kept-size.ensures l) ∙ ap length (sym e)) ∙ ap length e in
-    (n, subst (Sizes vs) (sym c.keep-size.ensures) (sizes-more vs a.sizes.now a.c c.before.before.written-size.result h n))
+    (n, subst (Sizes vs) (sym c.keep-size.ensures) (sizes_more vs a.sizes.now a.c c.before.before.written-size.result h n))
 
 pub value-size-spec : {M : Type 1} → statement M
 value-size-spec =

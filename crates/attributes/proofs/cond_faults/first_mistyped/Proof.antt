@@ -7,21 +7,21 @@ use lib.ListN.{get_or, length}
 use mathlib.Core.Option.{none}
 use mathlib.Core.Path.{◌∙◌, ◌≡◌, ap, sym}
 use native.Mathlib.Omega.{arith}
-use Rattle.condition.specs.Answers.{comparedAt, kind_of}
+use Rattle.condition.specs.Answers.{compared_at, kind_of}
 use Rattle.condition.specs.CondForm.{mistyped}
-use Rattle.document.specs.Lookup.{attributeKind}
+use Rattle.document.specs.Lookup.{attribute_kind}
 use Rattle.document.specs.Policy.{Policy}
-use Rattle.attributes.proofs.CondLineLaws.{mistyped-near}
+use Rattle.attributes.proofs.CondLineLaws.{mistyped_near}
 use Rattle.principals.specs.Attributes.{Attributes}
 use Rattle.text.proofs.FirstOffending.{first_of, none_of}
-use Rattle.text.specs.CodeEnds.{offendingValue}
-use Rattle.text.specs.Walking.{nextWord}
+use Rattle.text.specs.CodeEnds.{offending_value}
+use Rattle.text.specs.Walking.{next_word}
 use Rattle.text.specs.Words.{word_of, written_of}
 use Rattle.attributes.proofs.cond_faults.first_mistyped.Statement.{statement}
 use Rattle.attributes.proofs.cond_faults.first_mistyped.Tie as tie
 
 abbrev invariant-loop : tie.invariant-loop
-invariant-loop text attributes n line ops count j₀ j = (j ≤ count) × ((d : Policy) → Attributes text attributes n d.attributes → (i : ℕ) → i < j → mistyped (attributeKind d (word_of line (nextWord line (get_or ops i 0)))) (comparedAt line (get_or ops i 0)) ≡ none)
+invariant-loop text attributes n line ops count j₀ j = (j ≤ count) × ((d : Policy) → Attributes text attributes n d.attributes → (i : ℕ) → i < j → mistyped (attribute_kind d (word_of line (next_word line (get_or ops i 0)))) (compared_at line (get_or ops i 0)) ≡ none)
 
 abbrev decreases-loop : tie.decreases-loop
 decreases-loop text attributes n line ops count j₀ j = count - j
@@ -51,18 +51,18 @@ enum-known-w c = search rules
 found : (c : tie.After-wrong-type invariant-loop decreases-loop) (d : Policy) → Attributes
     c.before.before.before.before.before.before.before.before.args.text.now
     c.before.before.before.before.before.before.before.before.args.attributes.now
-    c.before.before.before.before.before.before.before.before.args.n d.attributes → offendingValue
-    c.before.before.before.before.before.before.before.before.args.line.now c.Wrong-type.result ≡ mistyped (attributeKind d (word_of
+    c.before.before.before.before.before.before.before.before.args.n d.attributes → offending_value
+    c.before.before.before.before.before.before.before.before.args.line.now c.Wrong-type.result ≡ mistyped (attribute_kind d (word_of
     c.before.before.before.before.before.before.before.before.args.line.now
-    (nextWord c.before.before.before.before.before.before.before.before.args.line.now (get_or c.before.before.before.before.before.before.before.before.args.ops.now c.before.before.before.before.before.loop.j 0))))
-    (comparedAt c.before.before.before.before.before.before.before.before.args.line.now (get_or
+    (next_word c.before.before.before.before.before.before.before.before.args.line.now (get_or c.before.before.before.before.before.before.before.before.args.ops.now c.before.before.before.before.before.loop.j 0))))
+    (compared_at c.before.before.before.before.before.before.before.before.args.line.now (get_or
     c.before.before.before.before.before.before.before.before.args.ops.now c.before.before.before.before.before.loop.j 0))
 found c d h =
     let s = c.before.before.before.before.before.before.before.before.args.line.now in
-    let kind : kind_of c.before.kind-named.result ≡ attributeKind d
-    (word_of s (nextWord s (get_or c.before.before.before.before.before.before.before.before.args.ops.now c.before.before.before.before.before.loop.j 0))) = c.before.kind-named.ensures d h ∙ ap
-    (λ p. attributeKind d (word_of s p)) c.before.before.next_word.ensures in
-    c.Wrong-type.ensures ∙ ap (λ k. mistyped k (comparedAt s (get_or c.before.before.before.before.before.before.before.before.args.ops.now c.before.before.before.before.before.loop.j 0))) kind
+    let kind : kind_of c.before.kind-named.result ≡ attribute_kind d
+    (word_of s (next_word s (get_or c.before.before.before.before.before.before.before.before.args.ops.now c.before.before.before.before.before.loop.j 0))) = c.before.kind-named.ensures d h ∙ ap
+    (λ p. attribute_kind d (word_of s p)) c.before.before.next_word.ensures in
+    c.Wrong-type.ensures ∙ ap (λ k. mistyped k (compared_at s (get_or c.before.before.before.before.before.before.before.before.args.ops.now c.before.before.before.before.before.loop.j 0))) kind
 
 returns : tie.Need-returns invariant-loop decreases-loop
 returns c =
@@ -71,16 +71,16 @@ returns c =
     c.before.before.before.before.before.before.before.before.before.before.before.args.ops.now = c.before.before.before.before.before.before.before.before.before.before.before.requires.1 in
     let op = get_or c.before.before.before.before.before.before.before.before.before.before.before.args.ops.now c.before.before.before.before.before.before.before.before.loop.j 0 in (
       (λ d h.
-          sym (first_of (λ p. mistyped (attributeKind d (word_of s (nextWord s p))) (comparedAt s p))
+          sym (first_of (λ p. mistyped (attribute_kind d (word_of s (next_word s p))) (compared_at s p))
           c.before.before.before.before.before.before.before.before.before.before.before.args.ops.now
           c.before.before.before.before.before.before.before.before.before.before.before.args.count
           c.before.before.before.before.before.before.before.before.loop.j (written_of s c.before.w.given.0.0) many
           c.before.before.before.before.before.before.before.loop-test.true
           (c.before.before.before.before.before.before.before.before.loop.invariant.1 d h)
-          (sym (found c.before.before.before d h) ∙ ap (offendingValue s) c.before.w.given.1))),
-      (λ near. mistyped-near s (kind_of c.before.before.before.before.kind-named.result) op c.before.w.given.0.0
+          (sym (found c.before.before.before d h) ∙ ap (offending_value s) c.before.w.given.1))),
+      (λ near. mistyped_near s (kind_of c.before.before.before.before.kind-named.result) op c.before.w.given.0.0
           (near c.before.before.before.before.before.before.before.before.loop.j c.before.before.before.before.before.before.before.loop-test.true)
-          (sym (ap (offendingValue s) c.before.w.given.1) ∙ c.before.before.before.Wrong-type.ensures)),
+          (sym (ap (offending_value s) c.before.w.given.1) ∙ c.before.before.before.Wrong-type.ensures)),
     )
 
 enum_told : tie.Need-enum-told invariant-loop decreases-loop
@@ -97,14 +97,14 @@ loop-again c = (
   omega (arith, c.before.before.before.before.before.before.loop-test.true),
   (λ d h. below_more _ c.before.before.before.before.before.before.before.loop.j
       (c.before.before.before.before.before.before.before.loop.invariant.1 d h)
-      (sym (found c.before.before d h) ∙ ap (offendingValue c.before.before.before.before.before.before.before.before.before.before.args.line.now) c.enum_told.given.1)),
+      (sym (found c.before.before d h) ∙ ap (offending_value c.before.before.before.before.before.before.before.before.before.before.args.line.now) c.enum_told.given.1)),
 )
 
 returns-2 : tie.Need-returns-2 invariant-loop decreases-loop
 returns-2 c =
     let s = c.before.before.before.before.args.line.now in
     let many : c.before.before.before.before.args.count ≤ length c.before.before.before.before.args.ops.now = c.before.before.before.before.requires.1 in (
-      (λ d h. sym (none_of (λ p. mistyped (attributeKind d (word_of s (nextWord s p))) (comparedAt s p)) c.before.before.before.before.args.ops.now c.before.before.before.before.args.count many (λ i l. c.before.loop.invariant.1 d h i (omega (arith, l, c.loop-test.false))))),
+      (λ d h. sym (none_of (λ p. mistyped (attribute_kind d (word_of s (next_word s p))) (compared_at s p)) c.before.before.before.before.args.ops.now c.before.before.before.before.args.count many (λ i l. c.before.loop.invariant.1 d h i (omega (arith, l, c.loop-test.false))))),
       (λ near. tt),
     )
 

@@ -2,11 +2,11 @@
 use borrow.Author.Rules.{rules}
 use mathlib.Core.Option.{some}
 use mathlib.Core.Path.{◌∙◌, ◌≡◌, ap, sym}
-use Rattle.document.specs.Lookup.{attributeOf}
+use Rattle.document.specs.Lookup.{attribute_of}
 use Rattle.document.specs.Policy.{Policy}
-use Rattle.attributes.proofs.CondLineLaws.{named, named_none, usable-clock, usable-none, usable-role}
+use Rattle.attributes.proofs.CondLineLaws.{named, named_none, usable_clock, usable_none, usable_role}
 use Rattle.principals.specs.Attributes.{Attributes}
-use Rattle.workspace.specs.Found.{foundAs}
+use Rattle.workspace.specs.Found.{found_as}
 use Rattle.text.specs.Words.{word_of}
 use Rattle.attributes.proofs.cond_faults.usable.Statement.{statement}
 use Rattle.attributes.proofs.cond_faults.usable.Tie as tie
@@ -21,9 +21,9 @@ enum_told : tie.Need-enum-told
 enum_told c = search rules
 
 returns : tie.Need-returns
-unfolding attributeOf
+unfolding attribute_of
 returns c d g h = let entry = c.before.before.before.before.before.args in sym
-    (usable-none d (word_of entry.line.now entry.at) entry.role (named_none d (word_of entry.line.now entry.at) (sym (ap foundAs c.enum_told.given.1) ∙ c.before.before.find-attribute.ensures.0 d.attributes h)))
+    (usable_none d (word_of entry.line.now entry.at) entry.role (named_none d (word_of entry.line.now entry.at) (sym (ap found_as c.enum_told.given.1) ∙ c.before.before.find-attribute.ensures.0 d.attributes h)))
 
 attribute-role-requires : tie.Need-attribute-role-requires
 attribute-role-requires c κs = search rules
@@ -40,26 +40,26 @@ enum-told-2 c = search rules
 -- the attribute that was found
 found : (c : tie.After-known-told) (d : Policy) → Attributes c.before.before.before.before.before.before.args.text.now
     c.before.before.before.before.before.before.args.attributes.now c.before.before.before.before.before.before.args.n
-    d.attributes → some c.before.f.given.0.0 ≡ attributeOf d
+    d.attributes → some c.before.f.given.0.0 ≡ attribute_of d
     (word_of c.before.before.before.before.before.before.args.line.now c.before.before.before.before.before.before.args.at)
-unfolding attributeOf
-found c d h = sym (ap foundAs c.before.f.given.1) ∙ c.before.before.before.find-attribute.ensures.0 d.attributes h
+unfolding attribute_of
+found c d h = sym (ap found_as c.before.f.given.1) ∙ c.before.before.before.find-attribute.ensures.0 d.attributes h
 
 returns-2 : tie.Need-returns-2
 returns-2 c d g h =
     let w = word_of c.before.before.before.before.before.before.before.before.before.before.before.args.line.now c.before.before.before.before.before.before.before.before.before.before.before.args.at in
     let a = named d w c.before.before.before.before.before.before.f.given.0.0 (found c.before.before.before.before.before d h) in
     c.role-below.ensures c.before.before.before.before.before.before.before.before.before.before.before.args.text.now d.roles g
-    ∙ sym (usable-role d w c.before.before.before.before.before.before.before.before.before.before.before.args.role a.0
+    ∙ sym (usable_role d w c.before.before.before.before.before.before.before.before.before.before.before.args.role a.0
     c.before.before.o.given.0.0 a.2
-    (sym (ap foundAs c.before.before.o.given.1) ∙ c.before.before.before.before.attribute-role.ensures c.before.before.before.before.before.before.before.before.before.before.before.args.text.now d.attributes a.0 h a.1))
+    (sym (ap found_as c.before.before.o.given.1) ∙ c.before.before.before.before.attribute-role.ensures c.before.before.before.before.before.before.before.before.before.before.before.args.text.now d.attributes a.0 h a.1))
 
 returns-3 : tie.Need-returns-3
 returns-3 c d g h =
     let w = word_of c.before.before.before.before.before.before.before.before.before.args.line.now c.before.before.before.before.before.before.before.before.before.args.at in
     let a = named d w c.before.before.before.before.f.given.0.0 (found c.before.before.before d h) in
-    sym (usable-clock d w c.before.before.before.before.before.before.before.before.before.args.role a.0 a.2
-    (sym (ap foundAs c.enum-told2.given.1) ∙ c.before.before.attribute-role.ensures c.before.before.before.before.before.before.before.before.before.args.text.now d.attributes a.0 h a.1))
+    sym (usable_clock d w c.before.before.before.before.before.before.before.before.before.args.role a.0 a.2
+    (sym (ap found_as c.enum-told2.given.1) ∙ c.before.before.attribute-role.ensures c.before.before.before.before.before.before.before.before.before.args.text.now d.attributes a.0 h a.1))
 
 pub usable-spec : {M : Type 1} → statement M
 usable-spec =

@@ -1,9 +1,9 @@
 -- `attributes::cond_storing::store_cond_role` meets its contract: the line is kept by its start and end. Assumes nothing.
 use Rattle.lists.specs.Lists.{or_zero}
-use Rattle.document.specs.Lookup.{roleOf}
+use Rattle.document.specs.Lookup.{role_of}
 use Rattle.text.specs.Words.{word_of}
 use mathlib.Core.Path.{◌∙◌, ap}
-use Rattle.stepping.proofs.NamedLaws.{cond-stored, print-placed}
+use Rattle.stepping.proofs.NamedLaws.{cond_stored, print_placed}
 use borrow.Author.Rules.{rules}
 use Rattle.attributes.proofs.cond_storing.store_cond_role.Statement.{statement}
 use Rattle.attributes.proofs.cond_storing.store_cond_role.Tie as tie
@@ -27,12 +27,12 @@ add-cond-role-requires : tie.Need-add-cond-role-requires
 add-cond-role-requires c κs = search rules
 
 returns : tie.Need-returns
-unfolding roleOf
+unfolding role_of
 returns c d l R N ok read h =
     let a = c.before.before.before.before.before.before.before.before.before.args in
-    cond-stored l d a.c _ h c.before.before.before.before.place.ensures (word_of a.line.now a.r) a.t _ _ N ok
+    cond_stored l d a.c _ h c.before.before.before.before.place.ensures (word_of a.line.now a.r) a.t _ _ N ok
     (c.before.before.before.before.before.number.ensures ∙ ap or_zero (c.before.before.before.before.before.before.find-role.ensures.0 _ R)) c.before.before.before.place2.ensures read
-    (c.add-cond-role.ensures d.policy a.text.now _ N (print-placed l d a.c _ h c.before.before.before.before.place.ensures _ c.before.before.print-word.ensures.is))
+    (c.add-cond-role.ensures d.policy a.text.now _ N (print_placed l d a.c _ h c.before.before.before.before.place.ensures _ c.before.before.print-word.ensures.is))
 
 pub store-cond-role-spec : {M : Type 1} → statement M
 store-cond-role-spec =

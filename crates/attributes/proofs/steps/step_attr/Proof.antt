@@ -2,9 +2,9 @@
 use mathlib.Core.Path.{sym}
 use native.Mathlib.Omega.{arith}
 use borrow.Author.Rules.{rules}
-use Rattle.stepping.proofs.Growing.{grow-attr}
-use Rattle.stepping.proofs.Judgements.{follows-fails, follows-goes, has_room, passes, refuses}
-use Rattle.principals.proofs.IndexLaws.{users-length}
+use Rattle.stepping.proofs.Growing.{grow_attr}
+use Rattle.stepping.proofs.Judgements.{follows_fails, follows_goes, has_room, passes, refuses}
+use Rattle.principals.proofs.IndexLaws.{users_length}
 use Rattle.attributes.proofs.steps.step_attr.Statement.{statement}
 use Rattle.attributes.proofs.steps.step_attr.Tie as tie
 
@@ -15,7 +15,7 @@ enum-known-f : tie.Need-enum-known-f
 enum-known-f c = search rules
 
 returns : tie.Need-returns
-returns c = λ d ps' us' cs' gs' ls' ms' ts' ws' a w I. follows-fails (refuses c.before.before.before.attr-fault.ensures c.before.f.given.1 d (I.roles, I.attributes, sym (users-length I.users)) w)
+returns c = λ d ps' us' cs' gs' ls' ms' ts' ws' a w I. follows_fails (refuses c.before.before.before.attr-fault.ensures c.before.f.given.1 d (I.roles, I.attributes, sym (users_length I.users)) w)
 
 enum_told : tie.Need-enum-told
 enum_told c = search rules
@@ -28,8 +28,8 @@ add-next c = omega (arith, has_room c.before.before.before.before.attr-fault.ens
 
 returns-2 : tie.Need-returns-2
 returns-2 c = λ d ps' us' cs' gs' ls' ms' ts' ws' a w I.
-    let p = passes c.before.before.before.before.attr-fault.ensures c.before.before.enum_told.given.1 d (I.roles, I.attributes, sym (users-length I.users)) in
-    follows-goes (record { doc = _; is = p; held = grow-attr I _ _ _ _ c.before.before.before.before.before.before.before.before.args.line.now p (c.store-attr.ensures d a I.roles I.attributes p w.1) })
+    let p = passes c.before.before.before.before.attr-fault.ensures c.before.before.enum_told.given.1 d (I.roles, I.attributes, sym (users_length I.users)) in
+    follows_goes (record { doc = _; is = p; held = grow_attr I _ _ _ _ c.before.before.before.before.before.before.before.before.args.line.now p (c.store-attr.ensures d a I.roles I.attributes p w.1) })
 
 pub step-attr-spec : {M : Type 1} → statement M
 step-attr-spec =

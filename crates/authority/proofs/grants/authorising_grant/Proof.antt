@@ -1,8 +1,8 @@
 -- `authority::grants::authorising_grant` meets its contract. Assumes nothing.
 use mathlib.Core.Path.{◌∙◌}
-use Rattle.authority.proofs.ActingLaws.{first-for, role-of, user-at, values_of}
-use Rattle.principals.specs.Users.{userIn}
-use Rattle.query.specs.HostClock.{clockOf}
+use Rattle.authority.proofs.ActingLaws.{first_for, role_of_lem, user_at, values_of}
+use Rattle.principals.specs.Users.{user_in}
+use Rattle.query.specs.HostClock.{clock_of}
 use borrow.Author.Rules.{rules}
 use Rattle.authority.proofs.grants.authorising_grant.Statement.{statement}
 use Rattle.authority.proofs.grants.authorising_grant.Tie as tie
@@ -34,13 +34,13 @@ first-grant-requires c κs = search rules
 returns : tie.Need-returns
 returns c d p held below near inside range =
     let a = c.before.before.before.before.before.before.before.before.before.before.before.before.before.args in
-    let u = userIn d a.text.now a.users.now a.user in
-    c.first-grant.ensures d a.text.now (clockOf a.clock) u p held.roles held.conds held.grants near inside
+    let u = user_in d a.text.now a.users.now a.user in
+    c.first-grant.ensures d a.text.now (clock_of a.clock) u p held.roles held.conds held.grants near inside
     (c.before.before.before.store-held.ensures d u held.attributes held.conds held.formed.short range
     (values_of held.users a.user below c.before.before.before.before.before.before.before.before.before.before.before.user-start.result c.before.before.before.before.before.before.before.before.before.before.user-end.result c.before.before.before.before.before.before.before.before.user-place.result _ _
     c.before.before.before.before.before.before.before.before.before.before.before.user-start.ensures c.before.before.before.before.before.before.before.before.before.before.user-end.ensures c.before.before.before.before.before.before.before.before.user-place.ensures c.before.before.before.before.before.before.before.before.before.Line-of.ensures (c.before.before.before.before.before.before.store-values.ensures d held.attributes)))
-    (role-of held.users a.user below c.before.before.user-role.result c.before.before.user-role.ensures)
-    ∙ first-for d (clockOf a.clock) a.user p u (user-at held.users a.user below)
+    (role_of_lem held.users a.user below c.before.before.user-role.result c.before.before.user-role.ensures)
+    ∙ first_for d (clock_of a.clock) a.user p u (user_at held.users a.user below)
 
 pub authorising-grant-spec : {M : Type 1} → statement M
 authorising-grant-spec =

@@ -8,10 +8,10 @@ use mathlib.Core.List.{List}
 use mathlib.Core.Logic.{⊎_elim}
 use mathlib.Core.Path.{◌∙◌, ◌≡◌, ap, refl, subst, sym}
 use native.Mathlib.Omega.{arith}
-use Rattle.authority.proofs.GrantingLaws.{Told, all_so, no-holding, no-purpose, no-role, none_found, one_found, passes, told}
+use Rattle.authority.proofs.GrantingLaws.{Told, all_so, no_holding, no_purpose, no_role, none_found, one_found, passes, told}
 use Rattle.document.specs.Policy.{Node, tree_of}
-use Rattle.principals.proofs.NodeLaws.{way-ends, way-here, way_up}
-use Rattle.workspace.specs.Found.{foundAs}
+use Rattle.principals.proofs.NodeLaws.{way_ends, way_here, way_up}
+use Rattle.workspace.specs.Found.{found_as}
 use Rattle.principals.specs.Nodes.{Nodes}
 use Rattle.workspace.specs.declared.found.Found.TheVariants as variant
 use Rattle.purpose.specs.Compliance.{descends, parent}
@@ -83,12 +83,12 @@ grants-again c =
       ⊎_elim (λ w. w.9 ∙ w.5.inv.0 ∙ inv.0) (λ v. ⊎_elim (λ w. w.4 ∙ inv.0) (λ w. w.1 ∙ inv.0) v) c.if1.branch,
       λ t. below_more _ i (inv.1 t)
           (⊎_elim
-          (λ w. no-role t i small w.1.result w.1.ensures w.4.result w.4.ensures
+          (λ w. no_role t i small w.1.result w.1.ensures w.4.result w.4.ensures
           (sym (w.5.inv.1 t.text t.d.roles t.nodes)
-          ∙ way-ends (tree_of t.d.roles) w.5.r w.4.result w.6.left (subst (λ y. w.5.r ≤ y) (w.7.ensures t.text t.d.roles t.nodes) w.8.taken)))
+          ∙ way_ends (tree_of t.d.roles) w.5.r w.4.result w.6.left (subst (λ y. w.5.r ≤ y) (w.7.ensures t.text t.d.roles t.nodes) w.8.taken)))
           (λ v. ⊎_elim
-          (λ w. no-holding t i small w.1.result w.1.ensures w.2.result w.2.ensures w.3.left)
-          (λ w. no-purpose t i small c.before.before.grant-purpose.result c.before.before.grant-purpose.ensures (sym c.before.is-above.ensures ∙ w.0.left))
+          (λ w. no_holding t i small w.1.result w.1.ensures w.2.result w.2.ensures w.3.left)
+          (λ w. no_purpose t i small c.before.before.grant-purpose.result c.before.before.grant-purpose.ensures (sym c.before.is-above.ensures ∙ w.0.left))
           v)
           c.if1.branch),
     )
@@ -96,7 +96,7 @@ grants-again c =
 returns : tie.Need-returns invariant-roles decreases-roles invariant-grants decreases-grants
 returns c d text k u p nodes conditions given near inside truths acting =
     let t = told d text k u p nodes conditions given near inside truths acting in
-    ap foundAs c.before.grants.invariant.0 ∙ none_found t (λ j l. c.before.grants.invariant.1 t j (omega (arith, l)))
+    ap found_as c.before.grants.invariant.0 ∙ none_found t (λ j l. c.before.grants.invariant.1 t j (omega (arith, l)))
 
 returns-2 : tie.Need-returns-2 invariant-roles decreases-roles invariant-grants decreases-grants
 returns-2 c d text k u p nodes conditions given near inside truths acting =
@@ -107,7 +107,7 @@ returns-2 c d text k u p nodes conditions given near inside truths acting =
     (all_so t i small c.before.before.before.before.before.grant-cond-role.result c.before.before.before.before.before.grant-cond-role.ensures c.before.before.cond-role-role.result c.before.before.cond-role-role.ensures
     c.before.before.before.before.before.before.before.before.grant-purpose.result c.before.before.before.before.before.before.before.before.grant-purpose.ensures (sym c.before.before.before.before.before.before.before.is-above.ensures ∙ c.before.before.before.before.before.before.if1.true)
     c.before.before.before.before.holds_at.result c.before.before.before.before.holds_at.ensures c.before.before.before.if2.true
-    (sym (c.before.roles.invariant.1 text d.roles nodes) ∙ way-here (tree_of d.roles) c.before.roles.r c.before.before.cond-role-role.result c.if3.true))
+    (sym (c.before.roles.invariant.1 text d.roles nodes) ∙ way_here (tree_of d.roles) c.before.roles.r c.before.before.cond-role-role.result c.if3.true))
 
 pub first-grant-spec : {M : Type 1} → statement M
 first-grant-spec =

@@ -3,7 +3,7 @@ use Prim.Native.Nat.{◌*◌, ◌≤◌}
 use borrow.Author.Rules.{rules}
 use lib.ListN.{length}
 use mathlib.Core.Path.{◌∙◌}
-use Rattle.authority.proofs.PurposeLaws.{tree-grown}
+use Rattle.authority.proofs.PurposeLaws.{tree_grown}
 use Rattle.purpose.specs.Members.{limit}
 use Rattle.authority.proofs.purposes.purpose_tree.Statement.{statement}
 use Rattle.authority.proofs.purposes.purpose_tree.Tie as tie
@@ -23,7 +23,7 @@ tree-of-requires c κs = search rules
 returns : tie.Need-returns
 returns c text ns n g =
     let full : 2 * limit ≤ length c.before.before.before.args.ws.now = search rules in
-    c.tree_of.ensures ∙ tree-grown n g full
+    c.tree_of.ensures ∙ tree_grown n g full
 
 pub purpose-tree-spec : {M : Type 1} → statement M
 purpose-tree-spec =

@@ -1,8 +1,8 @@
 -- `belonging::held::comparison_holds` meets its contract. Assumes nothing.
 use mathlib.Core.Path.{◌∙◌}
-use Rattle.belonging.proofs.HeldLaws.{compared-holds, compared-known}
+use Rattle.belonging.proofs.HeldLaws.{compared_holds, compared_known}
 use Rattle.condition.specs.Answers.{op_of}
-use Rattle.query.specs.HostClock.{clockOf}
+use Rattle.query.specs.HostClock.{clock_of}
 use borrow.Author.Rules.{rules}
 use Rattle.belonging.proofs.held.comparison_holds.Statement.{statement}
 use Rattle.belonging.proofs.held.comparison_holds.Tie as tie
@@ -25,8 +25,8 @@ returns c d u t k = let a = c.before.before.before.before.before.before.before.a
     let v = c.before.before.next-word2.result in
     let p = c.before.before.before.next_word.ensures in
     let q = c.before.before.next-word2.ensures in
-    c.words-meet.ensures d u t (compared-known a.line.now a.at name v p q d k)
-    ∙ compared-holds a.line.now a.at name v p q d (clockOf a.clock) u (op_of c.before.op-at.result) c.before.op-at.ensures
+    c.words-meet.ensures d u t (compared_known a.line.now a.at name v p q d k)
+    ∙ compared_holds a.line.now a.at name v p q d (clock_of a.clock) u (op_of c.before.op-at.result) c.before.op-at.ensures
 
 pub comparison-holds-spec : {M : Type 1} → statement M
 comparison-holds-spec =

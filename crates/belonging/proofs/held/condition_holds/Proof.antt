@@ -1,11 +1,11 @@
 -- `belonging::held::condition_holds` meets its contract: by its comparisons where it can be read. Assumes nothing.
 use mathlib.Core.Path.{◌∙◌, ap, sym}
 use native.Mathlib.Omega.{arith}
-use Rattle.belonging.proofs.HeldLaws.{read-few, read-holds, read_known}
-use Rattle.condition.proofs.ReadLaws.{condition-at, condition-none}
-use Rattle.lists.proofs.Tests.{true-not-false}
+use Rattle.belonging.proofs.HeldLaws.{read_few, read_holds, read_known}
+use Rattle.condition.proofs.ReadLaws.{condition_at_lem, condition_none}
+use Rattle.lists.proofs.Tests.{true_not_false}
 use Rattle.lists.specs.Lists.{there}
-use Rattle.query.specs.HostClock.{clockOf}
+use Rattle.query.specs.HostClock.{clock_of}
 use borrow.Author.Rules.{rules}
 use Rattle.belonging.proofs.held.condition_holds.Statement.{statement}
 use Rattle.belonging.proofs.held.condition_holds.Tie as tie
@@ -18,8 +18,8 @@ enum-known-c c = search rules
 
 returns : tie.Need-returns
 returns c d u t read k few = let a = c.before.before.before.before.before.before.before.before.before.args in
-    let got = condition-at a.line.now a.place _ _ (sym c.before.before.before.before.read-places.ensures.reads ∙ c.before.before.c.given.1) in
-    absurd (omega (arith, read-few d (clockOf a.clock) u a.line.now a.place got.what _ got.is _ got.made a.line.now few))
+    let got = condition_at_lem a.line.now a.place _ _ (sym c.before.before.before.before.read-places.ensures.reads ∙ c.before.before.c.given.1) in
+    absurd (omega (arith, read_few d (clock_of a.clock) u a.line.now a.place got.what _ got.is _ got.made a.line.now few))
 
 store-truths-requires : tie.Need-store-truths-requires
 store-truths-requires c κs = search rules
@@ -33,16 +33,16 @@ enum_told c = search rules
 returns-2 : tie.Need-returns-2
 returns-2 c d u t read k few = let a = c.before.before.before.before.before.before.before.before.before.before.before.before.before.before.args in
     let placed = c.before.before.before.before.before.before.before.before.before.read-places.ensures in
-    let got = condition-at a.line.now a.place _ _ (sym placed.reads ∙ c.before.before.before.before.before.before.before.c.given.1) in
-    let small = read-few d (clockOf a.clock) u a.line.now a.place got.what _ got.is _ got.made a.line.now few in
-    read-holds d (clockOf a.clock) u a.line.now a.place got.what _ got.is _ got.made _ _ placed small _ _ c.holds-condition.ensures
-    (c.before.before.store-truths.ensures small d u t (read_known d (clockOf a.clock) u a.line.now a.place got.what _ got.is _ got.made _ _ placed small k))
+    let got = condition_at_lem a.line.now a.place _ _ (sym placed.reads ∙ c.before.before.before.before.before.before.before.c.given.1) in
+    let small = read_few d (clock_of a.clock) u a.line.now a.place got.what _ got.is _ got.made a.line.now few in
+    read_holds d (clock_of a.clock) u a.line.now a.place got.what _ got.is _ got.made _ _ placed small _ _ c.holds-condition.ensures
+    (c.before.before.store-truths.ensures small d u t (read_known d (clock_of a.clock) u a.line.now a.place got.what _ got.is _ got.made _ _ placed small k))
 
 returns-3 : tie.Need-returns-3
 unfolding there
 returns-3 c d u t read k few =
-    let h = condition-none c.before.before.before.before.before.before.before.args.line.now c.before.before.before.before.before.before.before.args.place (sym c.before.before.read-places.ensures.reads ∙ c.enum_told.given.1) in
-    true-not-false read (ap there h)
+    let h = condition_none c.before.before.before.before.before.before.before.args.line.now c.before.before.before.before.before.before.before.args.place (sym c.before.before.read-places.ensures.reads ∙ c.enum_told.given.1) in
+    true_not_false read (ap there h)
 
 pub condition-holds-spec : {M : Type 1} → statement M
 condition-holds-spec =

@@ -5,21 +5,21 @@ use lib.ListN.{get_or, length, length-set}
 use mathlib.Core.Bool.{false, true}
 use mathlib.Core.Path.{◌≡◌}
 use native.Mathlib.Omega.{arith}
-use Rattle.belonging.proofs.HeldLaws.{truths-more}
-use Rattle.belonging.specs.Held.{Told, comparisonHolds}
-use Rattle.condition.specs.Answers.{comparedAt}
-use Rattle.document.specs.Lookup.{attributeOf}
+use Rattle.belonging.proofs.HeldLaws.{truths_more}
+use Rattle.belonging.specs.Held.{Told, comparison_holds}
+use Rattle.condition.specs.Answers.{compared_at}
+use Rattle.document.specs.Lookup.{attribute_of}
 use Rattle.document.specs.Policy.{Policy, User}
 use Rattle.lists.specs.Lists.{there}
-use Rattle.query.specs.HostClock.{clockOf}
+use Rattle.query.specs.HostClock.{clock_of}
 use Rattle.belonging.proofs.held.fill_truths.Statement.{statement}
 use Rattle.belonging.proofs.held.fill_truths.Tie as tie
 
 abbrev invariant-loop : tie.invariant-loop
 invariant-loop text attributes acount clock user values line ops n truths₀ i₀ truths i =
     (i ≤ n) × (length truths ≡ length truths₀)
-    × ((d : Policy) (u : User) → Told text attributes acount (clockOf clock) user values d u → ((j : ℕ) → j < n → there (attributeOf d (comparedAt line (get_or ops j 0)).of) ≡ true)
-    → (j : ℕ) → j < i → get_or truths j false ≡ comparisonHolds d (clockOf clock) u (comparedAt line (get_or ops j 0)))
+    × ((d : Policy) (u : User) → Told text attributes acount (clock_of clock) user values d u → ((j : ℕ) → j < n → there (attribute_of d (compared_at line (get_or ops j 0)).of) ≡ true)
+    → (j : ℕ) → j < i → get_or truths j false ≡ comparison_holds d (clock_of clock) u (compared_at line (get_or ops j 0)))
 
 abbrev decreases-loop : tie.decreases-loop
 decreases-loop text attributes acount clock user values line ops n truths₀ i₀ truths i = n - i
@@ -49,7 +49,7 @@ loop-again : tie.Need-loop-preserved invariant-loop decreases-loop
 loop-again c =
     let a = c.before.before.before.before.before.before.before.before.before.args in
     let now = c.before.before.before.loop in
-    (omega arith, simp length-set now.invariant.1, λ d u t k. truths-more (λ j. comparisonHolds d (clockOf a.clock) u (comparedAt a.line.now (get_or a.ops.now j 0))) now.truths now.i c.comparison-holds.result (omega (arith, c.before.before.before.before.before.before.before.before.before.requires, now.invariant.1)) (now.invariant.2 d u t k) (c.comparison-holds.ensures d u t (k now.i c.before.before.loop-test.true)))
+    (omega arith, simp length-set now.invariant.1, λ d u t k. truths_more (λ j. comparison_holds d (clock_of a.clock) u (compared_at a.line.now (get_or a.ops.now j 0))) now.truths now.i c.comparison-holds.result (omega (arith, c.before.before.before.before.before.before.before.before.before.requires, now.invariant.1)) (now.invariant.2 d u t k) (c.comparison-holds.ensures d u t (k now.i c.before.before.loop-test.true)))
 
 same_length : tie.Need-same-length invariant-loop decreases-loop
 same_length c = c.before.loop.invariant.1

@@ -9,7 +9,7 @@ fill-held-requires c κs = search rules
 
 returns : tie.Need-returns
 returns c d u at of short range values =
-    c.fill-held.ensures d u d.condRoles (record { attributed = at; timed = range; valued = values }) of short
+    c.fill-held.ensures d u d.cond_roles (record { attributed = at; timed = range; valued = values }) of short
 
 returns-2 : tie.Need-returns-2
 returns-2 c d u at of short range values = absurd (omega (arith, of.few))

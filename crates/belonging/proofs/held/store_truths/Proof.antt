@@ -2,8 +2,8 @@
 use Prim.Native.Nat.{◌≤◌}
 use lib.ListN.{length}
 use native.Mathlib.Omega.{arith}
-use Rattle.belonging.proofs.HeldLaws.{places-known, truths-told}
-use Rattle.query.specs.HostClock.{clockOf}
+use Rattle.belonging.proofs.HeldLaws.{places_known, truths_told}
+use Rattle.query.specs.HostClock.{clock_of}
 use borrow.Author.Rules.{rules}
 use Rattle.belonging.proofs.held.store_truths.Statement.{statement}
 use Rattle.belonging.proofs.held.store_truths.Tie as tie
@@ -14,7 +14,7 @@ fill-truths-requires c κs = search rules
 returns : tie.Need-returns
 returns c few d u t k = let a = c.before.before.before.before.before.before.before.args in
     let room : a.n ≤ length a.ops.now = omega arith in
-    truths-told d (clockOf a.clock) u a.line.now a.ops.now _ a.n room (omega arith) (c.fill-truths.ensures d u t (places-known d a.line.now a.ops.now a.n room k))
+    truths_told d (clock_of a.clock) u a.line.now a.ops.now _ a.n room (omega arith) (c.fill-truths.ensures d u t (places_known d a.line.now a.ops.now a.n room k))
 
 returns-2 : tie.Need-returns-2
 returns-2 c few d u t k = absurd (omega arith)

@@ -1,14 +1,14 @@
 -- `belonging::held::words_meet` meets its contract: the clock has the first three attributes, and the user the others. Assumes nothing.
 use mathlib.Core.Path.{◌∙◌, ap, sym}
 use native.Mathlib.Omega.{arith}
-use Rattle.belonging.proofs.HeldLaws.{attribute-there, clock-there, meets-clock, meets-user}
+use Rattle.belonging.proofs.HeldLaws.{attribute_there, clock_there, meets_clock, meets_user}
 use Rattle.condition.specs.Answers.{op_of}
-use Rattle.condition.specs.Comparison.{ranksMeet}
+use Rattle.condition.specs.Comparison.{ranks_meet}
 use Rattle.lists.specs.Lists.{or_zero}
-use Rattle.query.specs.HostClock.{clockOf}
-use Rattle.text.proofs.Enclosed.{written-rank}
+use Rattle.query.specs.HostClock.{clock_of}
+use Rattle.text.proofs.Enclosed.{written_rank}
 use Rattle.text.specs.Numbers.{rank_of}
-use Rattle.text.specs.Words.{word_of, writtenAt}
+use Rattle.text.specs.Words.{word_of, written_at}
 use borrow.Author.Rules.{rules}
 use Rattle.belonging.proofs.held.words_meet.Statement.{statement}
 use Rattle.belonging.proofs.held.words_meet.Tie as tie
@@ -31,13 +31,13 @@ ranks-meet-requires c κs = search rules
 returns : tie.Need-returns
 returns c d u t k = let a = c.before.before.before.before.before.before.before.before.before.args in
     let n = c.before.before.before.before.before.attribute-number.result in
-    let got = clock-there (clockOf a.clock) n c.before.before.before.before.if1.true t.timed in
+    let got = clock_there (clock_of a.clock) n c.before.before.before.before.if1.true t.timed in
     let number = c.before.before.before.clock-number.ensures got.0 got.1 in
     let ranked = c.before.before.clock-rank.ensures (omega (arith, number, got.2)) in
     c.ranks-meet.ensures
-    ∙ ap (λ m. ranksMeet (op_of a.op) m c.before.known-rank.result) (ranked ∙ ap rank_of number)
-    ∙ ap (ranksMeet (op_of a.op) (rank_of got.0)) (c.before.known-rank.ensures ∙ ap or_zero (sym (written-rank a.line.now a.v)))
-    ∙ meets-clock d (clockOf a.clock) u (op_of a.op) (word_of a.line.now a.name) (writtenAt a.line.now a.v) n (c.before.before.before.before.before.attribute-number.ensures d t.attributed) got.0 got.1
+    ∙ ap (λ m. ranks_meet (op_of a.op) m c.before.known-rank.result) (ranked ∙ ap rank_of number)
+    ∙ ap (ranks_meet (op_of a.op) (rank_of got.0)) (c.before.known-rank.ensures ∙ ap or_zero (sym (written_rank a.line.now a.v)))
+    ∙ meets_clock d (clock_of a.clock) u (op_of a.op) (word_of a.line.now a.name) (written_at a.line.now a.v) n (c.before.before.before.before.before.attribute-number.ensures d t.attributed) got.0 got.1
 
 value-meets-requires : tie.Need-value-meets-requires
 value-meets-requires c κs = search rules
@@ -47,10 +47,10 @@ returns-2 c d u t k = let a = c.before.before.before.before.before.before.args i
     let n = c.before.before.attribute-number.result in
     let e = c.before.before.attribute-number.ensures d t.attributed in
     let w = word_of a.line.now a.name in
-    let v = writtenAt a.line.now a.v in
-    let got = attribute-there d (clockOf a.clock) u (op_of a.op) w v n e k in
+    let v = written_at a.line.now a.v in
+    let got = attribute_there d (clock_of a.clock) u (op_of a.op) w v n e k in
     c.value-meets.ensures a.text.now d u got.0 t.attributed t.valued got.1
-    ∙ meets-user d (clockOf a.clock) u (op_of a.op) w v n e got.0.kind c.before.if1.false got.2
+    ∙ meets_user d (clock_of a.clock) u (op_of a.op) w v n e got.0.kind c.before.if1.false got.2
 
 pub words-meet-spec : {M : Type 1} → statement M
 words-meet-spec =

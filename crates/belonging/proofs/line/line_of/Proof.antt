@@ -1,7 +1,7 @@
 -- `belonging::line::line_of` meets its contract. Assumes nothing.
 use borrow.Author.Rules.{rules}
 use native.Mathlib.Omega.{arith}
-use Rattle.belonging.proofs.LineLaws.{line-cut, line-empty, line-past}
+use Rattle.belonging.proofs.LineLaws.{line_cut, line_empty, line_past}
 use Rattle.belonging.proofs.line.line_of.Statement.{statement}
 use Rattle.belonging.proofs.line.line_of.Tie as tie
 
@@ -15,7 +15,7 @@ part-result-end : tie.Need-slice-bounds-result-end
 part-result-end c = search rules
 
 returns : tie.Need-returns
-returns c = line-empty c.before.before.args.text.now c.before.before.args.a c.before.before.args.e c.before.if1.true
+returns c = line_empty c.before.before.args.text.now c.before.before.args.a c.before.before.args.e c.before.if1.true
 
 sub-result-2 : tie.Need-overflow-sub-result-2
 sub-result-2 c = search rules
@@ -39,7 +39,7 @@ part-result-end-3 : tie.Need-slice-bounds-result-end-3
 part-result-end-3 c = search rules
 
 returns-3 : tie.Need-returns-3
-returns-3 c = line-cut c.before.before.before.before.args.text.now c.before.before.before.before.args.a c.before.before.before.before.args.e (omega arith)
+returns-3 c = line_cut c.before.before.before.before.args.text.now c.before.before.before.before.args.a c.before.before.before.before.args.e (omega arith)
 
 sub-result-4 : tie.Need-overflow-sub-result-4
 sub-result-4 c = search rules
@@ -51,7 +51,7 @@ part-result-end-4 : tie.Need-slice-bounds-result-end-4
 part-result-end-4 c = search rules
 
 returns-4 : tie.Need-returns-4
-returns-4 c = line-past c.before.before.before.before.args.text.now c.before.before.before.before.args.a c.before.before.before.before.args.e (omega arith)
+returns-4 c = line_past c.before.before.before.before.args.text.now c.before.before.before.before.args.a c.before.before.before.before.args.e (omega arith)
 
 pub line-of-spec : {M : Type 1} → statement M
 line-of-spec =

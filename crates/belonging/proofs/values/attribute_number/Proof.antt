@@ -1,6 +1,6 @@
 -- `belonging::values::attribute_number` meets its contract. Assumes nothing.
-use Rattle.document.specs.Lookup.{attributeOf}
-use Rattle.workspace.specs.Found.{foundAs}
+use Rattle.document.specs.Lookup.{attribute_of}
+use Rattle.workspace.specs.Found.{found_as}
 use Rattle.lists.specs.Lists.{or_zero}
 use mathlib.Core.Path.{◌∙◌, ap, sym}
 use borrow.Author.Rules.{rules}
@@ -17,12 +17,12 @@ enum_told : tie.Need-enum-told
 enum_told c = search rules
 
 returns : tie.Need-returns
-unfolding attributeOf or_zero
-returns c = λ d h. sym (ap (λ f. or_zero (foundAs f)) c.before.found.given.1) ∙ ap or_zero (c.before.before.before.find-attribute.ensures.0 d.attributes h)
+unfolding attribute_of or_zero
+returns c = λ d h. sym (ap (λ f. or_zero (found_as f)) c.before.found.given.1) ∙ ap or_zero (c.before.before.before.find-attribute.ensures.0 d.attributes h)
 
 returns-2 : tie.Need-returns-2
-unfolding attributeOf or_zero
-returns-2 c = λ d h. sym (ap (λ f. or_zero (foundAs f)) c.enum_told.given.1) ∙ ap or_zero (c.before.before.find-attribute.ensures.0 d.attributes h)
+unfolding attribute_of or_zero
+returns-2 c = λ d h. sym (ap (λ f. or_zero (found_as f)) c.enum_told.given.1) ∙ ap or_zero (c.before.before.find-attribute.ensures.0 d.attributes h)
 
 pub attribute-number-spec : {M : Type 1} → statement M
 attribute-number-spec =

@@ -1,6 +1,6 @@
 -- `belonging::values::keep_first` meets its contract. Assumes nothing.
 use mathlib.Core.Path.{sym}
-use Rattle.belonging.proofs.ValueLaws.{kept-old, kept_out, kept_set}
+use Rattle.belonging.proofs.ValueLaws.{kept_old, kept_out, kept_set}
 use borrow.Author.Rules.{rules}
 use Rattle.belonging.proofs.values.keep_first.Statement.{statement}
 use Rattle.belonging.proofs.values.keep_first.Tie as tie
@@ -27,7 +27,7 @@ returns : tie.Need-returns
 returns c = sym (kept_set c.before.before.before.args.places.now c.before.before.before.args.n c.before.before.before.args.v c.if2.true)
 
 returns-2 : tie.Need-returns-2
-returns-2 c = sym (kept-old c.before.before.before.args.places.now c.before.before.before.args.n c.before.before.before.args.v c.if2.false)
+returns-2 c = sym (kept_old c.before.before.before.args.places.now c.before.before.before.args.n c.before.before.before.args.v c.if2.false)
 
 returns-3 : tie.Need-returns-3
 returns-3 c = kept_out c.before.args.places.now c.before.args.n c.before.args.v c.if1.false

@@ -6,7 +6,7 @@ use lib.ListN.{length, replicate}
 use mathlib.Core.List.{List}
 use mathlib.Core.Path.{◌∙◌, ◌≡◌, ap, subst, sym}
 use native.Mathlib.Omega.{arith}
-use Rattle.belonging.proofs.ValueLaws.{Walked, kept-long, pair-less, second-near, space-here, walk-on, walk-over, walk_start}
+use Rattle.belonging.proofs.ValueLaws.{Walked, kept_long, pair_less, second_near, space_here, walk_on, walk_over, walk_start}
 use Rattle.belonging.proofs.values.walk_values.Statement.{statement}
 use Rattle.belonging.proofs.values.walk_values.Tie as tie
 
@@ -23,13 +23,13 @@ byte-at-requires : tie.Need-byte-at-requires invariant-loop decreases-loop
 byte-at-requires c κs = search rules
 
 add-first-in : tie.Need-overflow-add-first-in invariant-loop decreases-loop
-add-first-in c = omega (arith, space-here c.before.before.before.before.before.before.args.line.now c.before.before.loop.j (sym c.before.byte_at.ensures ∙ c.if1.true))
+add-first-in c = omega (arith, space_here c.before.before.before.before.before.before.args.line.now c.before.before.loop.j (sym c.before.byte_at.ensures ∙ c.if1.true))
 
 first-in-requires : tie.Need-first-in-requires invariant-loop decreases-loop
 first-in-requires c κs = search rules
 
 add-second-in : tie.Need-overflow-add-second-in invariant-loop decreases-loop
-add-second-in c = omega (arith, space-here c.before.before.before.before.before.before.before.args.line.now c.before.before.before.loop.j (sym c.before.before.byte_at.ensures ∙ c.before.if1.true))
+add-second-in c = omega (arith, space_here c.before.before.before.before.before.before.before.args.line.now c.before.before.before.loop.j (sym c.before.before.byte_at.ensures ∙ c.before.if1.true))
 
 second-in-requires : tie.Need-second-in-requires invariant-loop decreases-loop
 second-in-requires c κs = search rules
@@ -38,28 +38,28 @@ attribute-number-requires : tie.Need-attribute-number-requires invariant-loop de
 attribute-number-requires c κs = search rules
 
 keep-first-requires : tie.Need-keep-first-requires invariant-loop decreases-loop
-keep-first-requires c κs = omega (arith, second-near c.before.before.before.before.before.before.before.before.before.before.args.line.now c.before.before.before.before.before.before.loop.j (sym c.before.before.before.before.before.byte_at.ensures ∙ c.before.before.before.before.if1.true), c.before.before.second-in.ensures, c.before.before.before.before.before.before.before.before.before.before.well-formed)
+keep-first-requires c κs = omega (arith, second_near c.before.before.before.before.before.before.before.before.before.before.args.line.now c.before.before.before.before.before.before.loop.j (sym c.before.before.before.before.before.byte_at.ensures ∙ c.before.before.before.before.if1.true), c.before.before.second-in.ensures, c.before.before.before.before.before.before.before.before.before.before.well-formed)
 
 add-pair-end : tie.Need-overflow-add-pair-end invariant-loop decreases-loop
-add-pair-end c = omega (arith, space-here c.before.before.before.before.before.before.before.before.before.before.before.before.before.args.line.now c.before.before.before.before.before.before.before.before.before.loop.j (sym c.before.before.before.before.before.before.before.before.byte_at.ensures ∙ c.before.before.before.before.before.before.before.if1.true))
+add-pair-end c = omega (arith, space_here c.before.before.before.before.before.before.before.before.before.before.before.before.before.args.line.now c.before.before.before.before.before.before.before.before.before.loop.j (sym c.before.before.before.before.before.before.before.before.byte_at.ensures ∙ c.before.before.before.before.before.before.before.if1.true))
 
 pair-end-requires : tie.Need-pair-end-requires invariant-loop decreases-loop
 pair-end-requires c κs = search rules
 
 loop-less : tie.Need-loop-smaller invariant-loop decreases-loop
-loop-less c = pair-less c.before.before.before.before.before.before.before.before.before.before.before.before.before.before.args.line.now c.before.before.before.before.before.before.before.before.before.before.loop.j (sym c.before.before.before.before.before.before.before.before.before.byte_at.ensures ∙ c.before.before.before.before.before.before.before.before.if1.true) c.pair-end.result c.pair-end.ensures
+loop-less c = pair_less c.before.before.before.before.before.before.before.before.before.before.before.before.before.before.args.line.now c.before.before.before.before.before.before.before.before.before.before.loop.j (sym c.before.before.before.before.before.before.before.before.before.byte_at.ensures ∙ c.before.before.before.before.before.before.before.before.if1.true) c.pair-end.result c.pair-end.ensures
 
 loop-again : tie.Need-loop-preserved invariant-loop decreases-loop
 loop-again c =
     let a = c.before.before.before.before.before.before.before.before.before.before.before.before.before.before.args in
     let now = c.before.before.before.before.before.before.before.before.before.before.loop in
-    (ap length c.before.before.before.keep-first.ensures ∙ kept-long now.places c.before.before.before.before.before.attribute-number.result c.before.before.before.before.before.before.second-in.result ∙ now.invariant.0, λ long e. subst (λ (ps : List ℕ). Walked a.text.now a.attributes.now a.k a.line.now a.place ps c.pair-end.result) (sym c.before.before.before.keep-first.ensures) (walk-on a.text.now a.attributes.now a.k a.line.now a.place now.places now.j c.before.before.before.before.before.before.before.first-in.result c.before.before.before.before.before.before.second-in.result c.before.before.before.before.before.attribute-number.result c.pair-end.result (now.invariant.0 ∙ long) (sym c.before.before.before.before.before.before.before.before.before.byte_at.ensures ∙ c.before.before.before.before.before.before.before.before.if1.true) c.before.before.before.before.before.before.before.first-in.ensures c.before.before.before.before.before.before.second-in.ensures c.pair-end.ensures c.before.before.before.before.before.attribute-number.ensures (now.invariant.1 long e)))
+    (ap length c.before.before.before.keep-first.ensures ∙ kept_long now.places c.before.before.before.before.before.attribute-number.result c.before.before.before.before.before.before.second-in.result ∙ now.invariant.0, λ long e. subst (λ (ps : List ℕ). Walked a.text.now a.attributes.now a.k a.line.now a.place ps c.pair-end.result) (sym c.before.before.before.keep-first.ensures) (walk_on a.text.now a.attributes.now a.k a.line.now a.place now.places now.j c.before.before.before.before.before.before.before.first-in.result c.before.before.before.before.before.before.second-in.result c.before.before.before.before.before.attribute-number.result c.pair-end.result (now.invariant.0 ∙ long) (sym c.before.before.before.before.before.before.before.before.before.byte_at.ensures ∙ c.before.before.before.before.before.before.before.before.if1.true) c.before.before.before.before.before.before.before.first-in.ensures c.before.before.before.before.before.before.second-in.ensures c.pair-end.ensures c.before.before.before.before.before.attribute-number.ensures (now.invariant.1 long e)))
 
 same_length : tie.Need-same-length invariant-loop decreases-loop
 same_length c = c.before.before.loop.invariant.0
 
 returns : tie.Need-returns invariant-loop decreases-loop
-returns c d h long e = walk-over c.before.before.before.before.before.before.args.text.now c.before.before.before.before.before.before.args.attributes.now c.before.before.before.before.before.before.args.k c.before.before.before.before.before.before.args.line.now c.before.before.before.before.before.before.args.place c.before.before.loop.places c.before.before.loop.j (λ t. c.if1.false (c.before.byte_at.ensures ∙ t)) (c.before.before.loop.invariant.1 long e) d h
+returns c d h long e = walk_over c.before.before.before.before.before.before.args.text.now c.before.before.before.before.before.before.args.attributes.now c.before.before.before.before.before.before.args.k c.before.before.before.before.before.before.args.line.now c.before.before.before.before.before.before.args.place c.before.before.loop.places c.before.before.loop.j (λ t. c.if1.false (c.before.byte_at.ensures ∙ t)) (c.before.before.loop.invariant.1 long e) d h
 
 pub walk-values-spec : {M : Type 1} → statement M
 walk-values-spec =

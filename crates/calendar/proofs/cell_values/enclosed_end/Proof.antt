@@ -1,7 +1,7 @@
 -- `calendar::cell_values::enclosed_end` meets its contract: a range stands there, or else a date may. Assumes nothing.
 use borrow.Author.Rules.{rules}
 use mathlib.Core.Path.{◌∙◌, sym}
-use Rattle.calendar.proofs.CellValues.{enclosed-date-end, enclosed-range-end}
+use Rattle.calendar.proofs.CellValues.{enclosed_date_end, enclosed_range_end}
 use Rattle.calendar.proofs.cell_values.enclosed_end.Statement.{statement}
 use Rattle.calendar.proofs.cell_values.enclosed_end.Tie as tie
 
@@ -18,10 +18,10 @@ date-end-requires : tie.Need-date-end-requires
 date-end-requires c κs = search rules
 
 returns : tie.Need-returns
-returns c = enclosed-range-end c.before.before.before.before.before.args.s.now c.before.before.before.before.before.args.at c.before.k.given.0.0 (sym c.before.before.before.range-end.ensures ∙ c.before.k.given.1)
+returns c = enclosed_range_end c.before.before.before.before.before.args.s.now c.before.before.before.before.before.args.at c.before.k.given.0.0 (sym c.before.before.before.range-end.ensures ∙ c.before.k.given.1)
 
 returns-2 : tie.Need-returns-2
-returns-2 c = c.date-end.ensures ∙ sym (enclosed-date-end c.before.before.before.before.before.args.s.now c.before.before.before.before.before.args.at (sym c.before.before.before.range-end.ensures ∙ c.before.enum_told.given.1))
+returns-2 c = c.date-end.ensures ∙ sym (enclosed_date_end c.before.before.before.before.before.args.s.now c.before.before.before.before.before.args.at (sym c.before.before.before.range-end.ensures ∙ c.before.enum_told.given.1))
 
 pub enclosed-end-spec : {M : Type 1} → statement M
 enclosed-end-spec =

@@ -6,26 +6,26 @@ use borrow.Author.Tests.{not-false, not-true}
 use lib.ListN.{take}
 use mathlib.Core.Path.{◌∙◌, ◌≡◌, subst, sym}
 use native.Mathlib.Omega.{arith}
-use Rattle.calendar.proofs.DayLaws.{is_found, no-such-year, not_last, number-high, number-low}
+use Rattle.calendar.proofs.DayLaws.{is_found, no_such_year, not_last, number_high, number_low}
 use Rattle.calendar.specs.Calendar.{months, total}
 use Rattle.calendar.proofs.dates.date_of_day.Statement.{statement}
 use Rattle.calendar.proofs.dates.date_of_day.Tie as tie
 
 abbrev invariant-loop : tie.invariant-loop
-invariant-loop year day leap-year month₀ month = (1 ≤ month) × (month ≤ 12) × (total (take (month - 1) (months leap-year)) < day)
+invariant-loop year day leap_year month₀ month = (1 ≤ month) × (month ≤ 12) × (total (take (month - 1) (months leap_year)) < day)
 
 abbrev decreases-loop : tie.decreases-loop
-decreases-loop year day leap-year month₀ month = 12 - month
+decreases-loop year day leap_year month₀ month = 12 - month
 
 year-held-requires : tie.Need-year-held-requires invariant-loop decreases-loop
 year-held-requires c κs = search rules
 
 returns : tie.Need-returns invariant-loop decreases-loop
-returns c = no-such-year c.before.before.args.year c.before.before.args.day (sym c.before.year-held.ensures ∙ not-true c.before.year-held.result c.if1.true)
+returns c = no_such_year c.before.before.args.year c.before.before.args.day (sym c.before.year-held.ensures ∙ not-true c.before.year-held.result c.if1.true)
 
 returns-2 : tie.Need-returns-2 invariant-loop decreases-loop
 returns-2 c =
-    number-low c.before.before.before.args.year c.before.before.before.args.day (sym c.before.before.year-held.ensures ∙ not-false c.before.before.year-held.result c.before.if1.false) c.if2.true
+    number_low c.before.before.before.args.year c.before.before.before.args.day (sym c.before.before.year-held.ensures ∙ not-false c.before.before.year-held.result c.before.if1.false) c.if2.true
 
 is-leap-requires : tie.Need-is-leap-requires invariant-loop decreases-loop
 is-leap-requires c κs = search rules
@@ -35,7 +35,7 @@ year-days-requires c κs = search rules
 
 returns-3 : tie.Need-returns-3 invariant-loop decreases-loop
 returns-3 c =
-    number-high c.before.before.before.before.before.before.args.year c.before.before.before.before.before.before.args.day (sym c.before.before.before.before.before.year-held.ensures ∙ not-false c.before.before.before.before.before.year-held.result c.before.before.before.before.if1.false) c.before.before.before.if2.false
+    number_high c.before.before.before.before.before.before.args.year c.before.before.before.before.before.before.args.day (sym c.before.before.before.before.before.year-held.ensures ∙ not-false c.before.before.before.before.before.year-held.result c.before.before.before.before.if1.false) c.before.before.before.if2.false
     c.before.before.is-leap.result c.before.before.is-leap.ensures (omega (arith, c.before.year-days.ensures, c.if3.true))
 
 loop-holds : tie.Need-loop-init invariant-loop decreases-loop
@@ -46,22 +46,22 @@ first-days-requires : tie.Need-first-days-requires invariant-loop decreases-loop
 first-days-requires c κs = search rules
 
 -- the month at hand ends before the day, so it is not the last
-more-months : (c : tie.Then4 invariant-loop decreases-loop) → c.before.before.loop.month < 12
-more-months c =
+more_months : (c : tie.Then4 invariant-loop decreases-loop) → c.before.before.loop.month < 12
+more_months c =
     not_last c.before.before.before.before.before.is-leap.result c.before.before.loop.month c.before.before.before.before.before.before.before.before.before.args.day
     (omega (arith, c.before.first-days.ensures, c.if4.true)) (omega (arith, c.before.before.before.before.year-days.ensures, c.before.before.before.if3.false))
 
 add-month : tie.Need-overflow-add-month invariant-loop decreases-loop
-add-month c = omega (arith, more-months c)
+add-month c = omega (arith, more_months c)
 
 loop-less : tie.Need-loop-smaller invariant-loop decreases-loop
-loop-less c = omega (arith, more-months c)
+loop-less c = omega (arith, more_months c)
 
 loop-again : tie.Need-loop-preserved invariant-loop decreases-loop
 loop-again c =
     let back : c.before.before.loop.month ≡ c.before.before.loop.month + 1 - 1 = omega arith in (
       omega arith,
-      omega (arith, more-months c),
+      omega (arith, more_months c),
       subst (λ (m : ℕ). total (take m (months c.before.before.before.before.before.is-leap.result)) < c.before.before.before.before.before.before.before.before.before.args.day) back (omega (arith, c.before.first-days.ensures, c.if4.true)),
     )
 

@@ -3,7 +3,7 @@
 use borrow.Author.Rules.{rules}
 use mathlib.Core.Bool.{Bool}
 use mathlib.Core.Path.{◌∙◌, ap}
-use Rattle.calendar.proofs.MonthLaws.{days-in-year}
+use Rattle.calendar.proofs.MonthLaws.{days_in_year}
 use Rattle.calendar.specs.Calendar.{months, total}
 use Rattle.calendar.proofs.dates.days_in.Statement.{statement}
 use Rattle.calendar.proofs.dates.days_in.Tie as tie
@@ -16,7 +16,7 @@ year-days-requires c κs = search rules
 
 returns : tie.Need-returns
 returns c =
-    c.year-days.ensures ∙ ap (λ (l : Bool). total (months l)) c.before.is-leap.ensures ∙ days-in-year c.before.before.args.year
+    c.year-days.ensures ∙ ap (λ (l : Bool). total (months l)) c.before.is-leap.ensures ∙ days_in_year c.before.before.args.year
 
 pub days-in-spec : {M : Type 1} → statement M
 days-in-spec = tie.close (tie.spec is-leap-requires year-days-requires returns)

@@ -3,8 +3,8 @@
 use borrow.Author.Rules.{rules}
 use mathlib.Core.Path.{◌∙◌}
 use native.Mathlib.Omega.{arith}
-use Rattle.calendar.proofs.MonthLaws.{bit-low, full-year}
-use Rattle.calendar.proofs.TableLaws.{table, table-rule}
+use Rattle.calendar.proofs.MonthLaws.{bit_low, full_year}
+use Rattle.calendar.proofs.TableLaws.{table, table_rule}
 use Rattle.calendar.proofs.dates.first_days.Statement.{statement}
 use Rattle.calendar.proofs.dates.first_days.Tie as tie
 
@@ -12,13 +12,13 @@ cast-row : tie.Need-overflow-cast-row
 cast-row c = search rules
 
 mul_wide : tie.Need-overflow-mul-wide
-mul_wide c = omega (arith, bit-low c.before.args.leap-year)
+mul_wide c = omega (arith, bit_low c.before.args.leap-year)
 
 mul-wide-2 : tie.Need-overflow-mul-wide-2
 mul-wide-2 c = search rules
 
 index-1-wide : tie.Need-bounds-1-wide
-index-1-wide c = omega (arith, bit-low c.before.args.leap-year)
+index-1-wide c = omega (arith, bit_low c.before.args.leap-year)
 
 index-2-wide : tie.Need-bounds-2-wide
 index-2-wide c = search rules
@@ -30,13 +30,13 @@ returns : tie.Need-returns
 unfolding table
 returns c =
     c.wide.ensures
-    ∙ table-rule c.before.before.before.args.leap-year c.before.before.before.args.count c.before.before.if1.true
+    ∙ table_rule c.before.before.before.args.leap-year c.before.before.before.args.count c.before.before.if1.true
 
 year-days-requires : tie.Need-year-days-requires
 year-days-requires c κs = search rules
 
 returns-2 : tie.Need-returns-2
-returns-2 c = c.year-days.ensures ∙ full-year c.before.before.args.leap-year c.before.before.args.count c.before.if1.false
+returns-2 c = c.year-days.ensures ∙ full_year c.before.before.args.leap-year c.before.before.args.count c.before.if1.false
 
 pub first-days-spec : {M : Type 1} → statement M
 first-days-spec =

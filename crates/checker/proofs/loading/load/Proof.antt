@@ -1,13 +1,13 @@
 -- `checker::loading::load` meets its contract. Assumes nothing.
 use mathlib.Core.Path.{refl}
-use Rattle.checker.proofs.Turns.{loads-refused, text-long}
-use Rattle.text.specs.Refusal.{pointingNowhere}
+use Rattle.checker.proofs.Turns.{loads_refused, text_long}
+use Rattle.text.specs.Refusal.{pointing_nowhere}
 use Rattle.checker.proofs.loading.load.Statement.{statement}
 use Rattle.checker.proofs.loading.load.Tie as tie
 
 returns : tie.Need-returns
-unfolding pointingNowhere
-returns c = loads-refused _ (text-long c.before.before.args.doc.now c.if1.true) refl
+unfolding pointing_nowhere
+returns c = loads_refused _ (text_long c.before.before.args.doc.now c.if1.true) refl
 
 load-lines-requires : tie.Need-load-lines-requires
 load-lines-requires c κs = tt

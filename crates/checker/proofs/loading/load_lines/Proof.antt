@@ -5,7 +5,7 @@ use borrow.Author.Rules.{rules}
 use lib.ListN.{length}
 use mathlib.Core.Path.{◌∙◌}
 use native.Mathlib.Omega.{arith}
-use Rattle.checker.proofs.Turns.{Going, begins, goes_on, line-from, line-length, line-placed, loads-accepted, loads-refused, open-moved, text-fits, turn-fails, turn-none, turn-open}
+use Rattle.checker.proofs.Turns.{Going, begins, goes_on, line_from, line_length_lem, line_placed, loads_accepted, loads_refused, open_moved, text_fits, turn_fails, turn_none, turn_open}
 use Rattle.checker.proofs.loading.load_lines.Statement.{statement}
 use Rattle.checker.proofs.loading.load_lines.Tie as tie
 
@@ -30,17 +30,17 @@ returns : tie.Need-returns invariant-loop decreases-loop
 returns c small =
     let entry = c.before.before.before.before.before.args in
     let I = c.before.before.before.loop.invariant in
-    loads-refused _
-    (text-fits _ small ∙ I.rest ∙ turn-open entry.text.now c.before.before.before.loop.at
+    loads_refused _
+    (text_fits _ small ∙ I.rest ∙ turn_open entry.text.now c.before.before.before.loop.at
     c.before.line-end.result c.before.line-end.ensures I.doc c.before.before.before.loop.n
     c.before.before.loop-test.true (omega (arith, c.if1.true)))
-    (open-moved entry.text.now c.before.before.before.loop.at c.before.line-end.result c.before.line-end.ensures I.within)
+    (open_moved entry.text.now c.before.before.before.loop.at c.before.line-end.result c.before.line-end.ensures I.within)
 
 sub-line : tie.Need-overflow-sub-line invariant-loop decreases-loop
-sub-line c = omega (arith, line-from c.before.before.before.before.before.args.text.now c.before.before.before.loop.at c.before.line-end.result c.before.line-end.ensures)
+sub-line c = omega (arith, line_from c.before.before.before.before.before.args.text.now c.before.before.before.loop.at c.before.line-end.result c.before.line-end.ensures)
 
 part-line-start : tie.Need-slice-bounds-line-start invariant-loop decreases-loop
-part-line-start c = line-from c.before.before.before.before.before.args.text.now c.before.before.before.loop.at c.before.line-end.result c.before.line-end.ensures
+part-line-start c = line_from c.before.before.before.before.before.args.text.now c.before.before.before.loop.at c.before.line-end.result c.before.line-end.ensures
 
 part-line-end : tie.Need-slice-bounds-line-end invariant-loop decreases-loop
 part-line-end c = c.before.line-end.ensures.within c.before.before.before.loop.invariant.within
@@ -66,7 +66,7 @@ refusal-of-requires : tie.Need-refusal-of-requires invariant-loop decreases-loop
 refusal-of-requires c κs =
     let entry = c.before.before.before.before.before.before.before.before.before.before.before.before.before.before.before.before.before.before.before.before.args in
     let I = c.before.before.before.before.before.before.before.before.before.before.before.before.before.before.before.before.before.before.loop.invariant in
-    let F = c.before.before.before.step_line.ensures I.doc (line-placed
+    let F = c.before.before.before.step_line.ensures I.doc (line_placed
     entry.text.now
     c.before.before.before.before.before.before.before.before.before.before.before.before.before.before.before.before.before.before.loop.at
     c.before.before.before.before.before.before.before.before.before.before.before.before.before.before.before.before.line-end.result
@@ -74,13 +74,13 @@ refusal-of-requires c κs =
     (fed c.before.before.before)) I.held I.unique in (
       omega (
         arith,
-        line-length
+        line_length_lem
             entry.text.now
             c.before.before.before.before.before.before.before.before.before.before.before.before.before.before.before.before.before.before.loop.at
             c.before.before.before.before.before.before.before.before.before.before.before.before.before.before.before.before.line-end.result
             c.before.before.before.before.before.before.before.before.before.before.before.before.before.before.before.before.line-end.ensures
             I.within,
-        line-from
+        line_from
             entry.text.now
             c.before.before.before.before.before.before.before.before.before.before.before.before.before.before.before.before.before.before.loop.at
             c.before.before.before.before.before.before.before.before.before.before.before.before.before.before.before.before.line-end.result
@@ -97,14 +97,14 @@ returns-2 : tie.Need-returns-2 invariant-loop decreases-loop
 returns-2 c small =
     let entry = c.before.before.before.before.before.before.before.before.before.before.before.before.before.before.before.before.before.before.before.before.before.args in
     let I = c.before.before.before.before.before.before.before.before.before.before.before.before.before.before.before.before.before.before.before.loop.invariant in
-    let F = c.before.before.before.before.step_line.ensures I.doc (line-placed
+    let F = c.before.before.before.before.step_line.ensures I.doc (line_placed
     entry.text.now
     c.before.before.before.before.before.before.before.before.before.before.before.before.before.before.before.before.before.before.before.loop.at
     c.before.before.before.before.before.before.before.before.before.before.before.before.before.before.before.before.before.line-end.result
     c.before.before.before.before.before.before.before.before.before.before.before.before.before.before.before.before.before.line-end.ensures
     (fed c.before.before.before.before)) I.held I.unique in
-    loads-refused c.refusal-of.result
-    (text-fits _ small ∙ I.rest ∙ turn-fails
+    loads_refused c.refusal-of.result
+    (text_fits _ small ∙ I.rest ∙ turn_fails
     entry.text.now
     c.before.before.before.before.before.before.before.before.before.before.before.before.before.before.before.before.before.before.before.loop.at
     c.before.before.before.before.before.before.before.before.before.before.before.before.before.before.before.before.before.line-end.result
@@ -126,7 +126,7 @@ add-n c = omega (arith, c.before.before.before.before.before.before.before.befor
 loop-less : tie.Need-loop-smaller invariant-loop decreases-loop
 loop-less c = omega (
   arith,
-  line-from
+  line_from
       c.before.before.before.before.before.before.before.before.before.before.before.before.before.before.before.before.before.before.before.before.args.text.now
       c.before.before.before.before.before.before.before.before.before.before.before.before.before.before.before.before.before.before.loop.at
       c.before.before.before.before.before.before.before.before.before.before.before.before.before.before.before.before.line-end.result
@@ -138,7 +138,7 @@ loop-less c = omega (
 loop-again : tie.Need-loop-preserved invariant-loop decreases-loop
 loop-again c =
     let I = c.before.before.before.before.before.before.before.before.before.before.before.before.before.before.before.before.before.before.loop.invariant in
-    let F = c.before.before.before.step_line.ensures I.doc (line-placed
+    let F = c.before.before.before.step_line.ensures I.doc (line_placed
     c.before.before.before.before.before.before.before.before.before.before.before.before.before.before.before.before.before.before.before.before.args.text.now
     c.before.before.before.before.before.before.before.before.before.before.before.before.before.before.before.before.before.before.loop.at
     c.before.before.before.before.before.before.before.before.before.before.before.before.before.before.before.before.line-end.result
@@ -151,7 +151,7 @@ loop-again c =
 
 returns-3 : tie.Need-returns-3 invariant-loop decreases-loop
 returns-3 c small =
-    let I = c.before.loop.invariant in loads-accepted (record { what = I.doc; is = text-fits _ small ∙ I.rest ∙ turn-none c.before.before.before.args.text.now c.before.loop.at c.loop-test.false I.doc c.before.loop.n; held = I.held; small = small })
+    let I = c.before.loop.invariant in loads_accepted (record { what = I.doc; is = text_fits _ small ∙ I.rest ∙ turn_none c.before.before.before.args.text.now c.before.loop.at c.loop-test.false I.doc c.before.loop.n; held = I.held; small = small })
 
 pub load-lines-spec : {M : Type 1} → statement M
 load-lines-spec =

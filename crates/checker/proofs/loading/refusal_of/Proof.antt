@@ -4,11 +4,11 @@ use borrow.Author.Rules.{rules}
 use lib.ListN.{length}
 use mathlib.Core.Path.{◌∙◌, ◌≡◌, ap, subst, sym}
 use native.Mathlib.Omega.{arith}
-use Rattle.checker.proofs.Turns.{whole-moved}
-use Rattle.stepping.specs.Judged.{Reaches, refusalIn}
-use Rattle.text.specs.Reasons.{reasonNumber}
+use Rattle.checker.proofs.Turns.{whole_moved}
+use Rattle.stepping.specs.Judged.{Reaches, refusal_in}
+use Rattle.text.specs.Reasons.{reason_number}
 use Rattle.text.specs.Refusal.{Refusal, document, moved, pointing}
-use Rattle.text.specs.Words.{word_at, writtenAt}
+use Rattle.text.specs.Words.{word_at, written_at}
 use Rattle.stepping.specs.declared.fault.Fault.{Fault}
 use Rattle.checker.proofs.loading.refusal_of.Statement.{statement}
 use Rattle.checker.proofs.loading.refusal_of.Tie as tie
@@ -39,19 +39,19 @@ written-end-requires : tie.Need-written-end-requires
 written-end-requires c κs = tt
 
 -- and so does the value
-value-reached : (c : tie.After-written-end) → c.before.before.f3.given.0.1.0 ≤ length c.before.before.before.before.before.args.line.now
-value-reached c = subst (Reaches c.before.before.before.before.before.args.line.now) c.before.before.f3.given.1 c.before.before.before.before.before.requires.1
+value_reached : (c : tie.After-written-end) → c.before.before.f3.given.0.1.0 ≤ length c.before.before.before.before.before.args.line.now
+value_reached c = subst (Reaches c.before.before.before.before.before.args.line.now) c.before.before.f3.given.1 c.before.before.before.before.before.requires.1
 
 add-t18 : tie.Need-overflow-add-t18
-add-t18 c = omega (arith, value-reached c, c.before.before.before.before.before.requires.0)
+add-t18 c = omega (arith, value_reached c, c.before.before.before.before.before.requires.0)
 
 sub-t19 : tie.Need-overflow-sub-t19
 sub-t19 c = search rules
 
 returns : tie.Need-returns
 returns c = let entry = c.before.before.before.before.args in sym (ap
-    (λ (f : Fault). moved entry.at (refusalIn entry.line.now f))
-    c.before.f.given.1 ∙ whole-moved entry.at (reasonNumber c.before.f.given.0.0)
+    (λ (f : Fault). moved entry.at (refusal_in entry.line.now f))
+    c.before.f.given.1 ∙ whole_moved entry.at (reason_number c.before.f.given.0.0)
     entry.line.now)
 
 returns-2 : tie.Need-returns-2
@@ -60,17 +60,17 @@ returns-2 c =
     let a = c.before.before.before.before.before.args in
     let w = c.before.before.f2.given.0.1.0 in
     let q : c.word-end.result - w ≡ length (word_at a.line.now w) = omega (arith, c.word-end.ensures) in
-    ap {B = Refusal} (λ k. record { number = reasonNumber c.before.before.f2.given.0.0; source = document; start = a.at + w; len = k }) q
-    ∙ sym (ap (λ (f : Fault). moved a.at (refusalIn a.line.now f)) c.before.before.f2.given.1)
+    ap {B = Refusal} (λ k. record { number = reason_number c.before.before.f2.given.0.0; source = document; start = a.at + w; len = k }) q
+    ∙ sym (ap (λ (f : Fault). moved a.at (refusal_in a.line.now f)) c.before.before.f2.given.1)
 
 returns-3 : tie.Need-returns-3
 unfolding moved pointing
 returns-3 c =
     let a = c.before.before.before.before.before.args in
     let v = c.before.before.f3.given.0.1.0 in
-    let q : c.written-end.result - v ≡ length (writtenAt a.line.now v) = omega (arith, c.written-end.ensures) in
-    ap {B = Refusal} (λ k. record { number = reasonNumber c.before.before.f3.given.0.0; source = document; start = a.at + v; len = k }) q
-    ∙ sym (ap (λ (f : Fault). moved a.at (refusalIn a.line.now f)) c.before.before.f3.given.1)
+    let q : c.written-end.result - v ≡ length (written_at a.line.now v) = omega (arith, c.written-end.ensures) in
+    ap {B = Refusal} (λ k. record { number = reason_number c.before.before.f3.given.0.0; source = document; start = a.at + v; len = k }) q
+    ∙ sym (ap (λ (f : Fault). moved a.at (refusal_in a.line.now f)) c.before.before.f3.given.1)
 
 pub refusal-of-spec : {M : Type 1} → statement M
 refusal-of-spec =

@@ -1,7 +1,7 @@
 -- `checker::steps::step_form` meets its contract: the line is read, and each form is answered by its own function. Assumes nothing.
 use borrow.Author.Rules.{rules}
 use mathlib.Core.Path.{◌∙◌, ap, subst, sym}
-use Rattle.stepping.proofs.Judgements.{follows-as, follows-fails, line-form, line-none}
+use Rattle.stepping.proofs.Judgements.{follows_as, follows_fails, line_form, line_none}
 use Rattle.form.specs.Places.{Within, line_at}
 use Rattle.checker.proofs.steps.step_form.Statement.{statement}
 use Rattle.checker.proofs.steps.step_form.Tie as tie
@@ -101,11 +101,11 @@ unfolding line_at
 returns c =
     let entry = c.before.before.before.before.before.args in
     λ d a I U.
-    follows-fails (record { is = line-none d entry.line.now (c.before.before.read-line.ensures.is ∙ ap (line_at entry.line.now) c.enum_told.given.1); reaches = tt })
+    follows_fails (record { is = line_none d entry.line.now (c.before.before.read-line.ensures.is ∙ ap (line_at entry.line.now) c.enum_told.given.1); reaches = tt })
 
 returns-2 : tie.Need-returns-2
 unfolding line_at Within
-returns-2 c = let entry = c.before.before.before.before.before.before.before.before.args in λ d a I U. follows-as (sym (line-form d entry.line.now _
+returns-2 c = let entry = c.before.before.before.before.before.before.before.before.args in λ d a I U. follows_as (sym (line_form d entry.line.now _
     (c.before.before.before.before.before.read-line.ensures.is ∙ ap (line_at entry.line.now) c.before.before.before.form.given.1)))
     (c.step-purpose-root.ensures d _ _ _ _ _ _ _ _ _ a (subst
     (Within entry.line.now) c.before.before.before.form.given.1
@@ -113,7 +113,7 @@ returns-2 c = let entry = c.before.before.before.before.before.before.before.bef
 
 returns-3 : tie.Need-returns-3
 unfolding line_at Within
-returns-3 c = let entry = c.before.before.before.before.before.before.before.before.args in λ d a I U. follows-as (sym (line-form d entry.line.now _
+returns-3 c = let entry = c.before.before.before.before.before.before.before.before.args in λ d a I U. follows_as (sym (line_form d entry.line.now _
     (c.before.before.before.before.before.read-line.ensures.is ∙ ap (line_at entry.line.now) c.before.before.before.form2.given.1)))
     (c.step-purpose-below.ensures d _ _ _ _ _ _ _ _ _ a (subst
     (Within entry.line.now) c.before.before.before.form2.given.1
@@ -121,7 +121,7 @@ returns-3 c = let entry = c.before.before.before.before.before.before.before.bef
 
 returns-4 : tie.Need-returns-4
 unfolding line_at Within
-returns-4 c = let entry = c.before.before.before.before.before.before.before.before.args in λ d a I U. follows-as (sym (line-form d entry.line.now _
+returns-4 c = let entry = c.before.before.before.before.before.before.before.before.args in λ d a I U. follows_as (sym (line_form d entry.line.now _
     (c.before.before.before.before.before.read-line.ensures.is ∙ ap (line_at entry.line.now) c.before.before.before.form3.given.1)))
     (c.step-role-root.ensures d _ _ _ _ _ _ _ _ _ a (subst
     (Within entry.line.now) c.before.before.before.form3.given.1
@@ -129,7 +129,7 @@ returns-4 c = let entry = c.before.before.before.before.before.before.before.bef
 
 returns-5 : tie.Need-returns-5
 unfolding line_at Within
-returns-5 c = let entry = c.before.before.before.before.before.before.before.before.args in λ d a I U. follows-as (sym (line-form d entry.line.now _
+returns-5 c = let entry = c.before.before.before.before.before.before.before.before.args in λ d a I U. follows_as (sym (line_form d entry.line.now _
     (c.before.before.before.before.before.read-line.ensures.is ∙ ap (line_at entry.line.now) c.before.before.before.form4.given.1)))
     (c.step-role-below.ensures d _ _ _ _ _ _ _ _ _ a (subst
     (Within entry.line.now) c.before.before.before.form4.given.1
@@ -137,7 +137,7 @@ returns-5 c = let entry = c.before.before.before.before.before.before.before.bef
 
 returns-6 : tie.Need-returns-6
 unfolding line_at Within
-returns-6 c = let entry = c.before.before.before.before.before.before.before.before.before.args in λ d a I U. follows-as (sym (line-form d entry.line.now _
+returns-6 c = let entry = c.before.before.before.before.before.before.before.before.before.args in λ d a I U. follows_as (sym (line_form d entry.line.now _
     (c.before.before.before.before.before.before.read-line.ensures.is ∙ ap (line_at entry.line.now) c.before.before.before.before.form5.given.1)))
     (c.step-attr.ensures d _ _ _ _ _ _ _ _ a (subst
     (Within entry.line.now)
@@ -145,7 +145,7 @@ returns-6 c = let entry = c.before.before.before.before.before.before.before.bef
 
 returns-7 : tie.Need-returns-7
 unfolding line_at Within
-returns-7 c = let entry = c.before.before.before.before.before.before.before.before.before.before.args in λ d a I U. follows-as (sym (line-form d
+returns-7 c = let entry = c.before.before.before.before.before.before.before.before.before.before.args in λ d a I U. follows_as (sym (line_form d
     entry.line.now _
     (c.before.before.before.before.before.before.before.read-line.ensures.is ∙ ap (line_at entry.line.now) c.before.before.before.before.before.form6.given.1)))
     (c.step-user.ensures d _ _ _ _ _ _ _ a (subst
@@ -161,7 +161,7 @@ returns-8 c = let entry = c.before.before.before.before.before.before.before.bef
 
 returns-9 : tie.Need-returns-9
 unfolding line_at Within
-returns-9 c = let entry = c.before.before.before.before.before.before.before.before.before.before.args in λ d a I U. follows-as (sym (line-form d
+returns-9 c = let entry = c.before.before.before.before.before.before.before.before.before.before.args in λ d a I U. follows_as (sym (line_form d
     entry.line.now _
     (c.before.before.before.before.before.before.before.read-line.ensures.is ∙ ap (line_at entry.line.now) c.before.before.before.before.before.form8.given.1)))
     (c.step-grant.ensures d _ _ _ _ _ _ _ a (subst
@@ -173,13 +173,13 @@ returns-10 : tie.Need-returns-10
 unfolding line_at Within
 returns-10 c = let entry = c.before.before.before.before.before.before.before.before.before.before.args in λ d a I U.
     let w = subst (Within entry.line.now) c.before.before.before.before.before.form9.given.1 c.before.before.before.before.before.before.before.read-line.ensures.within in
-    follows-as (sym (line-form d entry.line.now _
+    follows_as (sym (line_form d entry.line.now _
     (c.before.before.before.before.before.before.before.read-line.ensures.is ∙ ap (line_at entry.line.now) c.before.before.before.before.before.form9.given.1)))
     (c.step_label.ensures d _ _ _ _ _ _ _ a w.0 w.3 I)
 
 returns-11 : tie.Need-returns-11
 unfolding line_at Within
-returns-11 c = let entry = c.before.before.before.before.before.before.before.before.before.args in λ d a I U. follows-as (sym (line-form d entry.line.now _
+returns-11 c = let entry = c.before.before.before.before.before.before.before.before.before.args in λ d a I U. follows_as (sym (line_form d entry.line.now _
     (c.before.before.before.before.before.before.read-line.ensures.is ∙ ap (line_at entry.line.now) c.before.before.before.before.form10.given.1)))
     (c.step-table.ensures d _ _ _ _ _ _ _ _ a (subst
     (Within entry.line.now)
@@ -187,7 +187,7 @@ returns-11 c = let entry = c.before.before.before.before.before.before.before.be
 
 returns-12 : tie.Need-returns-12
 unfolding line_at Within
-returns-12 c = let entry = c.before.before.before.before.before.before.before.before.before.before.args in λ d a I U. follows-as (sym (line-form d
+returns-12 c = let entry = c.before.before.before.before.before.before.before.before.before.before.args in λ d a I U. follows_as (sym (line_form d
     entry.line.now _
     (c.before.before.before.before.before.before.before.read-line.ensures.is ∙ ap (line_at entry.line.now) c.before.before.before.before.before.form11.given.1)))
     (c.step_row.ensures d _ _ _ _ _ _ _ a (subst
@@ -197,14 +197,14 @@ returns-12 c = let entry = c.before.before.before.before.before.before.before.be
 
 returns-13 : tie.Need-returns-13
 unfolding line_at Within
-returns-13 c = let entry = c.before.before.before.before.before.before.before.before.args in λ d a I U. follows-as (sym (line-form d entry.line.now _
+returns-13 c = let entry = c.before.before.before.before.before.before.before.before.args in λ d a I U. follows_as (sym (line_form d entry.line.now _
     (c.before.before.before.before.before.read-line.ensures.is ∙ ap (line_at entry.line.now) c.before.before.before.form12.given.1)))
     (c.step-public.ensures d _ _ _ _ _ _ _ _ _ (subst (Within entry.line.now)
     c.before.before.before.form12.given.1 c.before.before.before.before.before.read-line.ensures.within) I)
 
 returns-14 : tie.Need-returns-14
 unfolding line_at Within
-returns-14 c = let entry = c.before.before.before.before.before.before.before.before.before.before.args in λ d a I U. follows-as (sym (line-form d
+returns-14 c = let entry = c.before.before.before.before.before.before.before.before.before.before.args in λ d a I U. follows_as (sym (line_form d
     entry.line.now _
     (c.before.before.before.before.before.before.before.read-line.ensures.is ∙ ap (line_at entry.line.now) c.before.before.before.before.before.form13.given.1)))
     (c.step-label-note.ensures d _ _ _ _ _ _ _ (subst
@@ -214,7 +214,7 @@ returns-14 c = let entry = c.before.before.before.before.before.before.before.be
 
 returns-15 : tie.Need-returns-15
 unfolding line_at Within
-returns-15 c = let entry = c.before.before.before.before.before.before.before.before.before.before.args in λ d a I U. follows-as (sym (line-form d
+returns-15 c = let entry = c.before.before.before.before.before.before.before.before.before.before.args in λ d a I U. follows_as (sym (line_form d
     entry.line.now _
     (c.before.before.before.before.before.before.before.read-line.ensures.is ∙ ap (line_at entry.line.now) c.before.before.before.before.before.form14.given.1)))
     (c.step-label-note2.ensures d _ _ _ _ _ _ _ (subst

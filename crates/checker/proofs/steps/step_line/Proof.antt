@@ -5,8 +5,8 @@ use mathlib.Core.Bool.{Bool, false, true}
 use mathlib.Core.List.{List}
 use mathlib.Core.Path.{◌∙◌, ◌≡◌, subst}
 use native.Mathlib.Omega.{arith}
-use Rattle.stepping.proofs.Growing.{grow-row, keep-rows}
-use Rattle.stepping.proofs.Judgements.{follows-goes, line-form}
+use Rattle.stepping.proofs.Growing.{grow_row, keep_rows}
+use Rattle.stepping.proofs.Judgements.{follows_goes, line_form}
 use Rattle.document.specs.Policy.{Doc}
 use Rattle.relations.specs.Rows.{Rows}
 use Rattle.walks.specs.Taken.{RowTaken, TakesRow}
@@ -29,14 +29,14 @@ add-next c = omega (arith, c.before.take_row.ensures.1 c.if1.true)
 returns : tie.Need-returns
 returns c = λ d a I U.
     let t = taken _ _ _ _ d _ c.if1.true (c.before.take_row.ensures.0 d _ a I.labels I.tables I.rows) in
-    follows-goes (record { doc = _; is = line-form d c.before.before.before.before.before.before.before.args.line.now _ t.form ∙ t.passes; held = grow-row I _ _ _ t.rows })
+    follows_goes (record { doc = _; is = line_form d c.before.before.before.before.before.before.before.args.line.now _ t.form ∙ t.passes; held = grow_row I _ _ _ t.rows })
 
 step-other-requires : tie.Need-step-other-requires
 step-other-requires c κs = tt
 
 returns-2 : tie.Need-returns-2
 returns-2 c = λ d a I U.
-    c.step_other.ensures d a (keep-rows I _
+    c.step_other.ensures d a (keep_rows I _
     (left _ _ _ _ d _ c.before.before.before.before.before.before.before.before.before.before.before.if1.false (c.before.before.before.before.before.before.before.before.before.before.before.before.take_row.ensures.0 d _ a I.labels I.tables I.rows))) U
 
 pub step-line-spec : {M : Type 1} → statement M

@@ -5,8 +5,8 @@ use mathlib.Core.Bool.{Bool, false, true}
 use mathlib.Core.List.{List}
 use mathlib.Core.Path.{◌∙◌, ◌≡◌, subst}
 use native.Mathlib.Omega.{arith}
-use Rattle.stepping.proofs.Growing.{grow-purpose, keep-purposes}
-use Rattle.stepping.proofs.Judgements.{follows-goes, line-form}
+use Rattle.stepping.proofs.Growing.{grow_purpose, keep_purposes}
+use Rattle.stepping.proofs.Judgements.{follows_goes, line_form}
 use Rattle.walks.specs.PurposeLine.{PurposeTaken, TakesPurpose}
 use Rattle.document.specs.Policy.{Doc}
 use Rattle.principals.specs.Nodes.{Nodes}
@@ -30,7 +30,7 @@ add-next c = omega (arith, c.before.take-purpose.ensures.1 c.if1.true)
 returns : tie.Need-returns
 returns c = λ d a I U.
     let t = taken _ _ _ _ d _ c.if1.true (c.before.take-purpose.ensures.0 d a I.purposes) in
-    follows-goes (record { doc = _; is = line-form d c.before.before.before.before.before.args.line.now _ t.form ∙ t.passes; held = grow-purpose I _ _ _ t.purposes })
+    follows_goes (record { doc = _; is = line_form d c.before.before.before.before.before.args.line.now _ t.form ∙ t.passes; held = grow_purpose I _ _ _ t.purposes })
 
 step-form-requires : tie.Need-step-form-requires
 step-form-requires c κs = tt
@@ -38,7 +38,7 @@ step-form-requires c κs = tt
 returns-2 : tie.Need-returns-2
 returns-2 c = λ d a I U.
     c.step-form.ensures d a
-    (keep-purposes I _ (left _ _ _ _ d _ c.before.before.before.before.before.before.before.before.before.before.before.if1.false (c.before.before.before.before.before.before.before.before.before.before.before.before.take-purpose.ensures.0 d a I.purposes))) U
+    (keep_purposes I _ (left _ _ _ _ d _ c.before.before.before.before.before.before.before.before.before.before.before.if1.false (c.before.before.before.before.before.before.before.before.before.before.before.before.take-purpose.ensures.0 d a I.purposes))) U
 
 pub step-other-spec : {M : Type 1} → statement M
 step-other-spec =

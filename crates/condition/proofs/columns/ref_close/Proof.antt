@@ -1,6 +1,6 @@
 -- `condition::columns::ref_close` meets its contract. Assumes nothing.
-use Rattle.condition.specs.RefPlaces.{refColumn, refEndAt}
-use Rattle.text.specs.Walking.{nextWord, past, wordEndAt}
+use Rattle.condition.specs.RefPlaces.{ref_column, ref_end_at}
+use Rattle.text.specs.Walking.{next_word, past, word_end_at}
 use borrow.Author.Rules.{rules}
 use mathlib.Core.Path.{◌∙◌, ap}
 use Rattle.condition.proofs.columns.ref_close.Statement.{statement}
@@ -19,11 +19,11 @@ skip-byte-requires : tie.Need-skip-byte-requires
 skip-byte-requires c κs = search rules
 
 returns : tie.Need-returns
-unfolding refEndAt refColumn wordEndAt
+unfolding ref_end_at ref_column word_end_at
 returns c =
     let s = c.before.before.before.before.before.args.s.now in
-    let column = c.before.before.next_word.ensures ∙ ap (nextWord s) c.before.before.before.ref-table.ensures in
-    c.skip-byte.ensures ∙ ap (past 41 s) (c.before.word-end.ensures ∙ ap (wordEndAt s) column)
+    let column = c.before.before.next_word.ensures ∙ ap (next_word s) c.before.before.before.ref-table.ensures in
+    c.skip-byte.ensures ∙ ap (past 41 s) (c.before.word-end.ensures ∙ ap (word_end_at s) column)
 
 pub ref-close-spec : {M : Type 1} → statement M
 ref-close-spec =

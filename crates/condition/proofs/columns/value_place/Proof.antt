@@ -1,7 +1,7 @@
 -- `condition::columns::value_place` meets its contract. Assumes nothing.
-use Rattle.condition.specs.Answers.{namingBy, value_at}
-use Rattle.condition.specs.RefPlaces.{refEndAt}
-use Rattle.text.specs.Walking.{nextWord, past}
+use Rattle.condition.specs.Answers.{naming_by, value_at}
+use Rattle.condition.specs.RefPlaces.{ref_end_at}
+use Rattle.text.specs.Walking.{next_word, past}
 use borrow.Author.Rules.{rules}
 use mathlib.Core.Path.{◌∙◌, ap, sym}
 use Rattle.condition.proofs.columns.value_place.Statement.{statement}
@@ -21,8 +21,8 @@ returns c =
     let entry = c.before.before.before.before.before.args in
     let s = entry.s.now in
     c.skip-byte.ensures
-    ∙ ap (past 32 s) (c.before.ref-close.ensures ∙ ap (refEndAt s) c.before.before.before.next_word.ensures)
-    ∙ ap (λ b. value_at (namingBy b) s entry.op) (sym c.before.before.if1.true)
+    ∙ ap (past 32 s) (c.before.ref-close.ensures ∙ ap (ref_end_at s) c.before.before.before.next_word.ensures)
+    ∙ ap (λ b. value_at (naming_by b) s entry.op) (sym c.before.before.if1.true)
 
 next-word-requires-2 : tie.Need-next-word-requires-2
 next-word-requires-2 c κs = search rules
@@ -31,7 +31,7 @@ returns-2 : tie.Need-returns-2
 returns-2 c =
     let entry = c.before.before.before.before.args in
     let s = entry.s.now in
-    c.next-word2.ensures ∙ ap (nextWord s) c.before.before.next_word.ensures ∙ ap (λ b. value_at (namingBy b) s entry.op) (sym c.before.if1.false)
+    c.next-word2.ensures ∙ ap (next_word s) c.before.before.next_word.ensures ∙ ap (λ b. value_at (naming_by b) s entry.op) (sym c.before.if1.false)
 
 pub value-place-spec : {M : Type 1} → statement M
 value-place-spec =

@@ -1,5 +1,5 @@
 use borrow.Author.Rules.{rules}
-use Rattle.condition.specs.CondForm.{conditionInJoin}
+use Rattle.condition.specs.CondForm.{condition_in_join}
 use Rattle.condition.proofs.conditions.read_joined.Statement.{statement}
 use Rattle.condition.proofs.conditions.read_joined.Tie as tie
 
@@ -7,7 +7,7 @@ count-condition-requires : tie.Need-count-condition-requires
 count-condition-requires c κs = search rules
 
 returns : tie.Need-returns
-unfolding conditionInJoin
+unfolding condition_in_join
 returns c = c.count-condition.ensures
 
 pub read-joined-spec : {M : Type 1} → statement M

@@ -1,5 +1,5 @@
 -- `condition::kinds::same_kind` meets its contract. Assumes nothing.
-use Rattle.condition.specs.Kinds.{sameKind}
+use Rattle.condition.specs.Kinds.{same_kind}
 use borrow.Author.Rules.{rules}
 use Rattle.condition.proofs.kinds.same_kind.Statement.{statement}
 use Rattle.condition.proofs.kinds.same_kind.Tie as tie
@@ -41,39 +41,39 @@ enum-told-12 : tie.Need-enum-told-12
 enum-told-12 c = search rules
 
 returns : tie.Need-returns
-unfolding sameKind
+unfolding same_kind
 returns c = search rules
 
 returns-2 : tie.Need-returns-2
-unfolding sameKind
+unfolding same_kind
 returns-2 c = search rules
 
 returns-3 : tie.Need-returns-3
-unfolding sameKind
+unfolding same_kind
 returns-3 c = search rules
 
 returns-4 : tie.Need-returns-4
-unfolding sameKind
+unfolding same_kind
 returns-4 c = search rules
 
 returns-5 : tie.Need-returns-5
-unfolding sameKind
+unfolding same_kind
 returns-5 c = search rules
 
 returns-6 : tie.Need-returns-6
-unfolding sameKind
+unfolding same_kind
 returns-6 c = search rules
 
 returns-7 : tie.Need-returns-7
-unfolding sameKind
+unfolding same_kind
 returns-7 c = search rules
 
 returns-8 : tie.Need-returns-8
-unfolding sameKind
+unfolding same_kind
 returns-8 c = search rules
 
 returns-9 : tie.Need-returns-9
-unfolding sameKind
+unfolding same_kind
 returns-9 c = search rules
 
 pub same-kind-spec : {M : Type 1} → statement M

@@ -1,6 +1,6 @@
 use borrow.Author.Rules.{rules}
 use mathlib.Core.Path.{◌∙◌, sym}
-use Rattle.condition.proofs.EndsLaws.{word-ends}
+use Rattle.condition.proofs.EndsLaws.{word_ends}
 use Rattle.condition.proofs.ranges.ends_at.Statement.{statement}
 use Rattle.condition.proofs.ranges.ends_at.Tie as tie
 
@@ -21,7 +21,7 @@ returns-2 : tie.Need-returns-2
 returns-2 c =
     let s = c.before.before.before.before.args.s.now in
     let at = c.before.before.before.before.args.at in
-    word-ends s at c.known-rank.result (λ z. c.before.if1.left (c.before.before.byte_at.ensures ∙ z)) c.known-rank.ensures
+    word_ends s at c.known-rank.result (λ z. c.before.if1.left (c.before.before.byte_at.ensures ∙ z)) c.known-rank.ensures
 
 pub ends-at-spec : {M : Type 1} → statement M
 ends-at-spec =

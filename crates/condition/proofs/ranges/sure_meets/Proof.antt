@@ -1,6 +1,6 @@
 use mathlib.Core.Bool.{not}
 use mathlib.Core.Path.{◌∙◌, ap}
-use Rattle.condition.specs.Ranges.{rangeMeets}
+use Rattle.condition.specs.Ranges.{range_meets}
 use borrow.Author.Rules.{rules}
 use Rattle.condition.proofs.ranges.sure_meets.Statement.{statement}
 use Rattle.condition.proofs.ranges.sure_meets.Tie as tie
@@ -30,27 +30,27 @@ enum-told-6 : tie.Need-enum-told-6
 enum-told-6 c = search rules
 
 returns : tie.Need-returns
-unfolding rangeMeets
+unfolding range_meets
 returns c = c.ends-are.ensures ∙ rw c.before.enum_told.given.1
 
 returns-2 : tie.Need-returns-2
-unfolding rangeMeets
+unfolding range_meets
 returns-2 c = ap not c.is-inside.ensures ∙ rw c.before.enum-told2.given.1
 
 returns-3 : tie.Need-returns-3
-unfolding rangeMeets
+unfolding range_meets
 returns-3 c = rw c.enum-told3.given.1
 
 returns-4 : tie.Need-returns-4
-unfolding rangeMeets
+unfolding range_meets
 returns-4 c = rw c.enum-told4.given.1
 
 returns-5 : tie.Need-returns-5
-unfolding rangeMeets
+unfolding range_meets
 returns-5 c = rw c.enum-told5.given.1
 
 returns-6 : tie.Need-returns-6
-unfolding rangeMeets
+unfolding range_meets
 returns-6 c = rw c.enum-told6.given.1
 
 pub sure-meets-spec : {M : Type 1} → statement M

@@ -1,6 +1,6 @@
 use borrow.Author.Rules.{rules}
 use mathlib.Core.Path.{◌∙◌}
-use Rattle.condition.proofs.SubjectLaws.{subject-flat, subject-name, subject-ref}
+use Rattle.condition.proofs.SubjectLaws.{subject_flat, subject_name, subject_ref}
 use Rattle.condition.proofs.walk.subject_end.Statement.{statement}
 use Rattle.condition.proofs.walk.subject_end.Tie as tie
 
@@ -10,12 +10,12 @@ name-end-requires c κs = search rules
 returns : tie.Need-returns
 returns c =
     let x = c.before.before.before.args in
-    c.name-end.ensures ∙ subject-name x.s.now x.at x.joined x.depth c.before.if1.true
+    c.name-end.ensures ∙ subject_name x.s.now x.at x.joined x.depth c.before.if1.true
 
 returns-2 : tie.Need-returns-2
 returns-2 c =
     let x = c.before.before.before.args in
-    subject-flat x.s.now x.at x.joined x.depth c.before.if1.false c.if2.true
+    subject_flat x.s.now x.at x.joined x.depth c.before.if1.false c.if2.true
 
 ref-end-requires : tie.Need-ref-end-requires
 ref-end-requires c κs = search rules
@@ -23,7 +23,7 @@ ref-end-requires c κs = search rules
 returns-3 : tie.Need-returns-3
 returns-3 c =
     let x = c.before.before.before.before.args in
-    c.ref-end.ensures ∙ subject-ref x.s.now x.at x.joined x.depth c.before.before.if1.false c.before.if2.false
+    c.ref-end.ensures ∙ subject_ref x.s.now x.at x.joined x.depth c.before.before.if1.false c.before.if2.false
 
 pub subject-end-spec : {M : Type 1} → statement M
 subject-end-spec =

@@ -1,7 +1,7 @@
 -- `csv::fields::digits_end` meets its contract. The loop's invariant: the digits from the loop's place on end where all of them end. Assumes nothing.
 use Prim.Native.Nat.{◌+◌, ◌-◌}
-use Rattle.csv.proofs.ShortValues.{digits_more, digits-none, digits-stop}
-use Rattle.csv.specs.Scanned.{digitBytes}
+use Rattle.csv.proofs.ShortValues.{digits_more, digits_none, digits_stop}
+use Rattle.csv.specs.Scanned.{digit_bytes}
 use borrow.Author.Rules.{rules}
 use borrow.Author.Tests.{not-false, not-true}
 use lib.ListN.{drop, length}
@@ -11,7 +11,7 @@ use Rattle.csv.proofs.fields.digits_end.Statement.{statement}
 use Rattle.csv.proofs.fields.digits_end.Tie as tie
 
 abbrev invariant-loop : tie.invariant-loop
-invariant-loop s at i₀ i = i + length (digitBytes (drop i s)) ≡ at + length (digitBytes (drop at s))
+invariant-loop s at i₀ i = i + length (digit_bytes (drop i s)) ≡ at + length (digit_bytes (drop at s))
 
 abbrev decreases-loop : tie.decreases-loop
 decreases-loop s at i₀ i = length s - i
@@ -26,7 +26,7 @@ is-digit-requires : tie.Need-is-digit-requires invariant-loop decreases-loop
 is-digit-requires c κs = search rules
 
 returns : tie.Need-returns invariant-loop decreases-loop
-returns c = omega (arith, c.before.before.before.before.loop.invariant, ap length (digits-stop c.before.before.before.before.before.before.args.s.now c.before.before.before.before.loop.i c.before.before.before.loop-test.true (sym c.before.is_digit.ensures ∙ not-true _ c.if1.true)))
+returns c = omega (arith, c.before.before.before.before.loop.invariant, ap length (digits_stop c.before.before.before.before.before.before.args.s.now c.before.before.before.before.loop.i c.before.before.before.loop-test.true (sym c.before.is_digit.ensures ∙ not-true _ c.if1.true)))
 
 add-i : tie.Need-overflow-add-i invariant-loop decreases-loop
 add-i c = omega arith
@@ -38,7 +38,7 @@ loop-again : tie.Need-loop-preserved invariant-loop decreases-loop
 loop-again c = omega (arith, c.before.before.before.before.loop.invariant, ap length (digits_more c.before.before.before.before.before.before.args.s.now c.before.before.before.before.loop.i c.before.before.before.loop-test.true (sym c.before.is_digit.ensures ∙ not-false _ c.if1.false)))
 
 returns-2 : tie.Need-returns-2 invariant-loop decreases-loop
-returns-2 c = omega (arith, c.before.loop.invariant, ap length (digits-none c.before.before.before.args.s.now c.before.loop.i c.loop-test.false))
+returns-2 c = omega (arith, c.before.loop.invariant, ap length (digits_none c.before.before.before.args.s.now c.before.loop.i c.loop-test.false))
 
 pub digits-end-spec : {M : Type 1} → statement M
 digits-end-spec =

@@ -1,7 +1,7 @@
 -- `csv::fields::short_value_end` meets its contract. Assumes nothing.
-use Rattle.csv.proofs.ShortValues.{letter-here, name-ended}
+use Rattle.csv.proofs.ShortValues.{letter_here, name_ended}
 use Rattle.text.proofs.Lefts.{test_of}
-use Rattle.text.specs.Bytes.{isLetter}
+use Rattle.text.specs.Bytes.{is_letter}
 use borrow.Author.Rules.{rules}
 use mathlib.Core.Path.{sym}
 use native.Mathlib.Omega.{arith}
@@ -15,7 +15,7 @@ is-letter-requires : tie.Need-is-letter-requires
 is-letter-requires c κs = search rules
 
 add-word-end : tie.Need-overflow-add-word-end
-add-word-end c = omega (arith, letter-here c.before.before.before.before.args.s.now c.before.before.before.before.args.at (test_of isLetter c.before.before.byte_at.ensures c.before.is-letter.ensures c.if1.true))
+add-word-end c = omega (arith, letter_here c.before.before.before.before.args.s.now c.before.before.before.before.args.at (test_of is_letter c.before.before.byte_at.ensures c.before.is-letter.ensures c.if1.true))
 
 word-end-requires : tie.Need-word-end-requires
 word-end-requires c κs = search rules
@@ -24,7 +24,7 @@ sub-if2 : tie.Need-overflow-sub-if2
 sub-if2 c = omega (arith, c.word-end.ensures)
 
 returns : tie.Need-returns
-returns c = name-ended c.before.before.before.before.before.before.args.s.now c.before.before.before.before.before.before.args.at (test_of isLetter c.before.before.before.before.byte_at.ensures c.before.before.before.is-letter.ensures c.before.before.if1.true) c.before.word-end.ensures c.if2.true
+returns c = name_ended c.before.before.before.before.before.before.args.s.now c.before.before.before.before.before.before.args.at (test_of is_letter c.before.before.before.before.byte_at.ensures c.before.before.before.is-letter.ensures c.before.before.if1.true) c.before.word-end.ensures c.if2.true
 
 value-end-requires : tie.Need-value-end-requires
 value-end-requires c κs = search rules

@@ -1,7 +1,7 @@
 -- `csv::fields::word_end` meets its contract. The loop's invariant: the word from the loop's place on ends where the whole word ends. Assumes nothing.
 use Prim.Native.Nat.{◌+◌, ◌-◌}
 use Rattle.csv.proofs.ShortValues.{word_none}
-use Rattle.text.proofs.WordLaws.{word_more, word-stop}
+use Rattle.text.proofs.WordLaws.{word_more, word_stop}
 use Rattle.text.specs.Words.{word_at}
 use borrow.Author.Rules.{rules}
 use borrow.Author.Tests.{not-false, not-true}
@@ -27,7 +27,7 @@ is-word-byte-requires : tie.Need-is-word-byte-requires invariant-loop decreases-
 is-word-byte-requires c κs = search rules
 
 returns : tie.Need-returns invariant-loop decreases-loop
-returns c = omega (arith, c.before.before.before.before.loop.invariant, ap length (word-stop c.before.before.before.before.before.before.args.s.now c.before.before.before.before.loop.i (sym c.before.is-word-byte.ensures ∙ not-true _ c.if1.true)))
+returns c = omega (arith, c.before.before.before.before.loop.invariant, ap length (word_stop c.before.before.before.before.before.before.args.s.now c.before.before.before.before.loop.i (sym c.before.is-word-byte.ensures ∙ not-true _ c.if1.true)))
 
 add-i : tie.Need-overflow-add-i invariant-loop decreases-loop
 add-i c = omega arith

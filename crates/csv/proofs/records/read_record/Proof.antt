@@ -1,8 +1,8 @@
 -- `csv::records::read_record` meets its contract. The loop's invariant: what is gathered, and what comes from the fields from the
 -- loop's place on, is what the whole record comes to. Assumes nothing.
 use Prim.Native.Nat.{◌-◌}
-use Rattle.csv.proofs.RecordLaws.{FieldGot, Gathering, field-got, field-lost, gather-broken, gather-last, gather-more, gather-start, gather-wrong}
-use Rattle.text.proofs.Lefts.{before-end}
+use Rattle.csv.proofs.RecordLaws.{FieldGot, Gathering, field_got, field_lost, gather_broken, gather_last, gather_more, gather_start, gather_wrong}
+use Rattle.text.proofs.Lefts.{before_end}
 use borrow.Author.Rules.{rules}
 use lib.ListN.{length}
 use mathlib.Core.Path.{◌∙◌, sym}
@@ -17,7 +17,7 @@ abbrev decreases-loop : tie.decreases-loop
 decreases-loop s at i₀ count₀ size₀ unfit₀ i count size unfit = length s - i
 
 loop-holds : tie.Need-loop-init invariant-loop decreases-loop
-loop-holds c = gather-start _ _
+loop-holds c = gather_start _ _
 
 read-field-requires : tie.Need-read-field-requires invariant-loop decreases-loop
 read-field-requires c κs = search rules
@@ -29,11 +29,11 @@ enum_told : tie.Need-enum-told invariant-loop decreases-loop
 enum_told c = search rules
 
 returns : tie.Need-returns invariant-loop decreases-loop
-returns c = gather-broken c.before.before.before.before.before.args.s.now c.before.before.before.before.before.args.at c.before.before.before.loop.invariant (field-lost c.before.before.before.before.before.args.s.now c.before.before.before.loop.i (sym c.before.before.read-field.ensures ∙ c.enum_told.given.1))
+returns c = gather_broken c.before.before.before.before.before.args.s.now c.before.before.before.before.before.args.at c.before.before.before.loop.invariant (field_lost c.before.before.before.before.before.args.s.now c.before.before.before.loop.i (sym c.before.before.read-field.ensures ∙ c.enum_told.given.1))
 
 -- the field that was read in this turn
 turn : (c : tie.After-known-told invariant-loop decreases-loop) → FieldGot c.before.before.before.before.before.before.args.s.now c.before.before.before.before.loop.i c.before.f.given.0.0 c.before.f.given.0.1.0 c.before.f.given.0.1.1.0
-turn c = field-got c.before.before.before.before.before.before.args.s.now c.before.before.before.before.loop.i c.before.f.given.0.0 c.before.f.given.0.1.0 c.before.f.given.0.1.1.0 (sym c.before.before.before.read-field.ensures ∙ c.before.f.given.1)
+turn c = field_got c.before.before.before.before.before.before.args.s.now c.before.before.before.before.loop.i c.before.f.given.0.0 c.before.f.given.0.1.0 c.before.f.given.0.1.1.0 (sym c.before.before.before.read-field.ensures ∙ c.before.f.given.1)
 
 add-count : tie.Need-overflow-add-count invariant-loop decreases-loop
 add-count c = omega (arith, c.before.before.before.before.loop.invariant.fewer)
@@ -57,19 +57,19 @@ enum-told-2 : tie.Need-enum-told-2 invariant-loop decreases-loop
 enum-told-2 c = search rules
 
 returns-2 : tie.Need-returns-2 invariant-loop decreases-loop
-returns-2 c = gather-wrong c.before.before.before.before.before.before.before.before.before.before.before.args.s.now c.before.before.before.before.before.before.before.before.before.before.before.args.at c.before.before.before.before.before.before.before.before.before.loop.invariant (turn c.before.before.before.before.before) (λ e. c.before.before.before.if1.true (c.before.before.before.before.byte_at.ensures ∙ e)) (sym c.before.before.record-end.ensures ∙ c.enum-told2.given.1)
+returns-2 c = gather_wrong c.before.before.before.before.before.before.before.before.before.before.before.args.s.now c.before.before.before.before.before.before.before.before.before.before.before.args.at c.before.before.before.before.before.before.before.before.before.loop.invariant (turn c.before.before.before.before.before) (λ e. c.before.before.before.if1.true (c.before.before.before.before.byte_at.ensures ∙ e)) (sym c.before.before.record-end.ensures ∙ c.enum-told2.given.1)
 
 returns-3 : tie.Need-returns-3 invariant-loop decreases-loop
-returns-3 c = gather-last c.before.before.before.before.before.before.before.before.before.before.before.before.args.s.now c.before.before.before.before.before.before.before.before.before.before.before.before.args.at c.before.before.before.before.before.before.before.before.before.before.loop.invariant (turn c.before.before.before.before.before.before) (λ e. c.before.before.before.before.if1.true (c.before.before.before.before.before.byte_at.ensures ∙ e)) (sym c.before.before.before.record-end.ensures ∙ c.before.x.given.1)
+returns-3 c = gather_last c.before.before.before.before.before.before.before.before.before.before.before.before.args.s.now c.before.before.before.before.before.before.before.before.before.before.before.before.args.at c.before.before.before.before.before.before.before.before.before.before.loop.invariant (turn c.before.before.before.before.before.before) (λ e. c.before.before.before.before.if1.true (c.before.before.before.before.before.byte_at.ensures ∙ e)) (sym c.before.before.before.record-end.ensures ∙ c.before.x.given.1)
 
 add-i : tie.Need-overflow-add-i invariant-loop decreases-loop
-add-i c = omega (arith, before-end c.before.before.before.before.before.before.before.before.args.s.now c.before.before.before.f.given.0.0 (λ o. absurd (omega (arith, o, c.before.byte_at.ensures, c.if1.false))))
+add-i c = omega (arith, before_end c.before.before.before.before.before.before.before.before.args.s.now c.before.before.before.f.given.0.0 (λ o. absurd (omega (arith, o, c.before.byte_at.ensures, c.if1.false))))
 
 loop-less : tie.Need-loop-smaller invariant-loop decreases-loop
-loop-less c = omega (arith, (turn c.before.before).past, before-end c.before.before.before.before.before.before.before.before.args.s.now c.before.before.before.f.given.0.0 (λ o. absurd (omega (arith, o, c.before.byte_at.ensures, c.if1.false))))
+loop-less c = omega (arith, (turn c.before.before).past, before_end c.before.before.before.before.before.before.before.before.args.s.now c.before.before.before.f.given.0.0 (λ o. absurd (omega (arith, o, c.before.byte_at.ensures, c.if1.false))))
 
 loop-again : tie.Need-loop-preserved invariant-loop decreases-loop
-loop-again c = gather-more c.before.before.before.before.before.before.before.before.args.s.now c.before.before.before.before.before.before.before.before.args.at c.before.before.before.before.before.before.loop.invariant (turn c.before.before) (sym c.before.byte_at.ensures ∙ c.if1.false)
+loop-again c = gather_more c.before.before.before.before.before.before.before.before.args.s.now c.before.before.before.before.before.before.before.before.args.at c.before.before.before.before.before.before.loop.invariant (turn c.before.before) (sym c.before.byte_at.ensures ∙ c.if1.false)
 
 pub read-record-spec : {M : Type 1} → statement M
 read-record-spec =

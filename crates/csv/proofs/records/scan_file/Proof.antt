@@ -1,8 +1,8 @@
 -- `csv::records::scan_file` meets its contract. The loop's invariant: what is counted, and what comes from the records from the
 -- loop's place on, is what the whole file comes to. Assumes nothing.
 use Prim.Native.Nat.{◌-◌}
-use Rattle.csv.proofs.RecordLaws.{RecordGot, record-got, record-lost}
-use Rattle.csv.proofs.ScanLaws.{Widely, scan-broken, scan-done, scan-other, widely-more, widely-start, width-now}
+use Rattle.csv.proofs.RecordLaws.{RecordGot, record_got, record_lost}
+use Rattle.csv.proofs.ScanLaws.{Widely, scan_broken, scan_done, scan_other, widely_more, widely_start, width_now}
 use Rattle.csv.specs.Records.{width}
 use borrow.Author.Rules.{rules}
 use lib.ListN.{length}
@@ -18,7 +18,7 @@ abbrev decreases-loop : tie.decreases-loop
 decreases-loop s w₀ i₀ count₀ size₀ unfit₀ w i count size unfit = length s - i
 
 loop-holds : tie.Need-loop-init invariant-loop decreases-loop
-loop-holds c = widely-start _
+loop-holds c = widely_start _
 
 read-record-requires : tie.Need-read-record-requires invariant-loop decreases-loop
 read-record-requires c κs = search rules
@@ -30,21 +30,21 @@ enum_told : tie.Need-enum-told invariant-loop decreases-loop
 enum_told c = search rules
 
 returns : tie.Need-returns invariant-loop decreases-loop
-returns c = scan-broken c.before.before.before.before.before.before.args.s.now (width c.before.before.before.before.before.before.args.s.now) c.before.before.before.before.loop.invariant.scanning c.before.before.before.loop-test.true (record-lost c.before.before.before.before.before.before.args.s.now c.before.before.before.before.loop.i (sym c.before.before.read-record.ensures ∙ c.enum_told.given.1))
+returns c = scan_broken c.before.before.before.before.before.before.args.s.now (width c.before.before.before.before.before.before.args.s.now) c.before.before.before.before.loop.invariant.scanning c.before.before.before.loop-test.true (record_lost c.before.before.before.before.before.before.args.s.now c.before.before.before.before.loop.i (sym c.before.before.read-record.ensures ∙ c.enum_told.given.1))
 
 -- the record that was read in this turn
 turn : (c : tie.After-known-told invariant-loop decreases-loop) → RecordGot c.before.before.before.before.before.before.before.args.s.now c.before.before.before.before.before.loop.i c.before.x.given.0.0 c.before.x.given.0.1.0 c.before.x.given.0.1.1.0 c.before.x.given.0.1.1.1.0
-turn c = record-got c.before.before.before.before.before.before.before.args.s.now c.before.before.before.before.before.loop.i c.before.x.given.0.0 c.before.x.given.0.1.0 c.before.x.given.0.1.1.0 c.before.x.given.0.1.1.1.0 (sym c.before.before.before.read-record.ensures ∙ c.before.x.given.1)
+turn c = record_got c.before.before.before.before.before.before.before.args.s.now c.before.before.before.before.before.loop.i c.before.x.given.0.0 c.before.x.given.0.1.0 c.before.x.given.0.1.1.0 c.before.x.given.0.1.1.1.0 (sym c.before.before.before.read-record.ensures ∙ c.before.x.given.1)
 
 -- the width that is expected of it
 wide : (c : tie.After-expected-width invariant-loop decreases-loop) → c.expected-width.result ≡ width c.before.before.before.before.before.before.before.before.args.s.now
-wide c = c.expected-width.ensures ∙ width-now c.before.before.before.before.before.before.before.before.args.s.now c.before.before.before.before.before.before.loop.w c.before.before.before.before.before.before.loop.invariant (turn c.before)
+wide c = c.expected-width.ensures ∙ width_now c.before.before.before.before.before.before.before.before.args.s.now c.before.before.before.before.before.before.loop.w c.before.before.before.before.before.before.loop.invariant (turn c.before)
 
 expected-width-requires : tie.Need-expected-width-requires invariant-loop decreases-loop
 expected-width-requires c κs = search rules
 
 returns-2 : tie.Need-returns-2 invariant-loop decreases-loop
-returns-2 c = scan-other c.before.before.before.before.before.before.before.before.before.args.s.now (width c.before.before.before.before.before.before.before.before.before.args.s.now) c.before.before.before.before.before.before.before.loop.invariant.scanning c.before.before.before.before.before.before.loop-test.true (turn c.before.before) (λ e. c.if1.true (e ∙ sym (wide c.before)))
+returns-2 c = scan_other c.before.before.before.before.before.before.before.before.before.args.s.now (width c.before.before.before.before.before.before.before.before.before.args.s.now) c.before.before.before.before.before.before.before.loop.invariant.scanning c.before.before.before.before.before.before.loop-test.true (turn c.before.before) (λ e. c.if1.true (e ∙ sym (wide c.before)))
 
 add-count : tie.Need-overflow-add-count invariant-loop decreases-loop
 add-count c = omega (arith, c.before.before.before.before.before.before.before.loop.invariant.scanning.few, c.before.before.before.before.before.before.before.loop.invariant.scanning.inside)
@@ -59,10 +59,10 @@ loop-less : tie.Need-loop-smaller invariant-loop decreases-loop
 loop-less c = omega (arith, c.before.before.before.before.before.before.before.loop-test.true, (turn c.before.before.before).past c.before.before.before.before.before.before.before.loop-test.true)
 
 loop-again : tie.Need-loop-preserved invariant-loop decreases-loop
-loop-again c = widely-more c.before.before.before.before.before.before.before.before.before.before.args.s.now c.before.before.before.before.before.before.before.before.loop.w c.before.before.before.before.before.before.before.before.loop.invariant (turn c.before.before.before) c.before.before.before.before.before.before.before.loop-test.true (c.before.if1.false ∙ wide c.before.before) c.first_of.ensures (wide c.before.before)
+loop-again c = widely_more c.before.before.before.before.before.before.before.before.before.before.args.s.now c.before.before.before.before.before.before.before.before.loop.w c.before.before.before.before.before.before.before.before.loop.invariant (turn c.before.before.before) c.before.before.before.before.before.before.before.loop-test.true (c.before.if1.false ∙ wide c.before.before) c.first_of.ensures (wide c.before.before)
 
 returns-3 : tie.Need-returns-3 invariant-loop decreases-loop
-returns-3 c = scan-done c.before.before.before.args.s.now (width c.before.before.before.args.s.now) c.before.loop.invariant.scanning c.loop-test.false
+returns-3 c = scan_done c.before.before.before.args.s.now (width c.before.before.before.args.s.now) c.before.loop.invariant.scanning c.loop-test.false
 
 pub scan-file-spec : {M : Type 1} → statement M
 scan-file-spec =

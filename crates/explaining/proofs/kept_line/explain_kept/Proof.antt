@@ -4,11 +4,11 @@ use Prim.Native.Nat.{ℕ}
 use lib.ListN.{length, take}
 use mathlib.Core.List.{List}
 use mathlib.Core.Path.{◌∙◌, ap, sym}
-use Rattle.explaining.proofs.KeptLaws.{reason_kept, refusal-kept}
-use Rattle.explaining.specs.Kept.{lineBytes}
-use Rattle.programs.specs.Kept.{partLength}
-use Rattle.reasons.specs.Explaining.{explainLine, explainedAs, reasonOf}
-use Rattle.text.specs.Reasons.{refusalOf}
+use Rattle.explaining.proofs.KeptLaws.{reason_kept, refusal_kept}
+use Rattle.explaining.specs.Kept.{line_bytes}
+use Rattle.programs.specs.Kept.{part_length}
+use Rattle.reasons.specs.Explaining.{explain_line, explained_as, reason_of}
+use Rattle.text.specs.Reasons.{refusal_of}
 use Rattle.explaining.proofs.kept_line.explain_kept.Statement.{statement}
 use Rattle.explaining.proofs.kept_line.explain_kept.Tie as tie
 
@@ -25,21 +25,21 @@ part-len-requires : tie.Need-part-len-requires
 part-len-requires c κs = search rules
 
 returns : tie.Need-returns
-unfolding explainedAs
+unfolding explained_as
 returns c d line K kept long =
     let found = c.before.before.before.explain-line.ensures d K in
-    reason_kept d line (reasonOf c.before.before.before.before.before.before.args.text.now c.before.e.given.0.0)
-    (ap (explainedAs c.before.before.before.before.before.before.args.text.now) (sym c.before.e.given.1) ∙ found ∙ ap (explainLine d) kept)
+    reason_kept d line (reason_of c.before.before.before.before.before.before.args.text.now c.before.e.given.0.0)
+    (ap (explained_as c.before.before.before.before.before.before.args.text.now) (sym c.before.e.given.1) ∙ found ∙ ap (explain_line d) kept)
 
 returns-2 : tie.Need-returns-2
-unfolding explainedAs
+unfolding explained_as
 returns-2 c d line K kept long =
     let entry = c.before.before.before.before.before.before.before.args in
     let r = c.before.before.e2.given.0.0 in
     let found = c.before.before.before.before.explain-line.ensures d K in
-    refusal-kept d line (refusalOf r) c.part-len.result
-    (c.part-len.ensures ∙ ap (λ (k : List ℕ). partLength r.len (length k) entry.len) kept ∙ ap (partLength r.len (length (take lineBytes line))) long)
-    (ap (explainedAs entry.text.now) (sym c.before.before.e2.given.1) ∙ found ∙ ap (explainLine d) kept)
+    refusal_kept d line (refusal_of r) c.part-len.result
+    (c.part-len.ensures ∙ ap (λ (k : List ℕ). part_length r.len (length k) entry.len) kept ∙ ap (part_length r.len (length (take line_bytes line))) long)
+    (ap (explained_as entry.text.now) (sym c.before.before.e2.given.1) ∙ found ∙ ap (explain_line d) kept)
 
 pub explain-kept-spec : {M : Type 1} → statement M
 explain-kept-spec =

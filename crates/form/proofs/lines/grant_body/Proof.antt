@@ -4,9 +4,9 @@ use Prim.Native.Nat.{◌+◌}
 use borrow.Author.Rules.{rules}
 use mathlib.Core.Path.{◌∙◌, sym}
 use native.Mathlib.Omega.{arith}
-use Rattle.form.proofs.PartLaws.{Behind, name-to}
+use Rattle.form.proofs.PartLaws.{Behind, name_to}
 use Rattle.form.specs.BodyPlaces.{BodyWithin, body_at}
-use Rattle.form.specs.FormReader.{grantForm}
+use Rattle.form.specs.FormReader.{grant_form}
 use Rattle.form.specs.Places.{Within, line_at}
 use Rattle.text.proofs.EndLaws.{end_none}
 use Rattle.text.specs.Brackets.{next}
@@ -15,10 +15,10 @@ use Rattle.form.proofs.lines.grant_body.Statement.{statement}
 use Rattle.form.proofs.lines.grant_body.Tie as tie
 
 first : (c : tie.After-n) → Behind name (word_of c.before.before.before.before.args.s.now (c.before.before.before.before.args.at + 1)) c.before.before.before.before.args.s.now c.before.before.before.before.args.at c.n.given.0.0
-first c = name-to c.before.before.before.before.args.s.now c.before.before.before.before.args.at c.n.given.0.0 c.before.before.spaced-name-end.ensures c.n.given.1
+first c = name_to c.before.before.before.before.args.s.now c.before.before.before.before.args.at c.n.given.0.0 c.before.before.spaced-name-end.ensures c.n.given.1
 
 second : (c : tie.After-q) → Behind name (word_of c.before.before.before.before.before.before.before.before.args.s.now (c.before.before.before.before.n.given.0.0 + 1)) c.before.before.before.before.before.before.before.before.args.s.now c.before.before.before.before.n.given.0.0 c.q.given.0.0
-second c = name-to c.before.before.before.before.before.before.before.before.args.s.now c.before.before.before.before.n.given.0.0 c.q.given.0.0 c.before.before.spaced-name-end2.ensures c.q.given.1
+second c = name_to c.before.before.before.before.before.before.before.before.args.s.now c.before.before.before.before.n.given.0.0 c.q.given.0.0 c.before.before.spaced-name-end2.ensures c.q.given.1
 
 spaced-name-end-requires : tie.Need-spaced-name-end-requires
 spaced-name-end-requires c κs = search rules
@@ -30,7 +30,7 @@ enum_told : tie.Need-enum-told
 enum_told c = search rules
 
 returns : tie.Need-returns
-unfolding grantForm body_at BodyWithin
+unfolding grant_form body_at BodyWithin
 returns c = record { is = rw (end_none (next name) c.before.before.before.before.args.s.now c.before.before.before.before.args.at (sym c.before.before.spaced-name-end.ensures ∙ c.enum_told.given.1)); within = tt }
 
 spaced-name-end-requires-2 : tie.Need-spaced-name-end-requires-2
@@ -43,7 +43,7 @@ enum-told-2 : tie.Need-enum-told-2
 enum-told-2 c = search rules
 
 returns-2 : tie.Need-returns-2
-unfolding grantForm body_at BodyWithin
+unfolding grant_form body_at BodyWithin
 returns-2 c = record { is = rw ((first c.before.before.before.before).is, end_none (next name) c.before.before.before.before.before.before.before.before.args.s.now c.before.before.before.before.n.given.0.0 (sym c.before.before.spaced-name-end2.ensures ∙ c.enum-told2.given.1)); within = tt }
 
 add-t7 : tie.Need-overflow-add-t7
@@ -53,7 +53,7 @@ add-t8 : tie.Need-overflow-add-t8
 add-t8 c = omega (arith, second c.before)
 
 returns-3 : tie.Need-returns-3
-unfolding grantForm body_at line_at BodyWithin Within
+unfolding grant_form body_at line_at BodyWithin Within
 returns-3 c = record { is = rw ((first c.before.before.before.before.before).is, (second c.before).is); within = omega (arith, first c.before.before.before.before.before, second c.before) }
 
 pub grant-body-spec : {M : Type 1} → statement M

@@ -6,10 +6,10 @@ use lib.ListN.{length}
 use mathlib.Core.Option.{some}
 use mathlib.Core.Path.{◌∙◌, ◌≡◌, ap, subst, sym}
 use native.Mathlib.Omega.{arith}
-use Rattle.form.proofs.LabelPlaces.{deny-stands}
-use Rattle.form.proofs.PartLaws.{Behind, name-to}
+use Rattle.form.proofs.LabelPlaces.{deny_stands}
+use Rattle.form.proofs.PartLaws.{Behind, name_to}
 use Rattle.form.specs.BodyPlaces.{BodyWithin, SetWithin, body_at, set_at}
-use Rattle.form.specs.FormReader.{labelForm, purposeSet}
+use Rattle.form.specs.FormReader.{label_form, purpose_set}
 use Rattle.form.specs.Places.{Within, line_at}
 use Rattle.form.specs.Walks.{names_at}
 use Rattle.text.proofs.EndLaws.{end_none}
@@ -21,23 +21,23 @@ use Rattle.form.proofs.lines.label_body.Statement.{statement}
 use Rattle.form.proofs.lines.label_body.Tie as tie
 
 first : (c : tie.After-n) → Behind name (word_of c.before.before.before.before.args.s.now (c.before.before.before.before.args.at + 1)) c.before.before.before.before.args.s.now c.before.before.before.before.args.at c.n.given.0.0
-first c = name-to c.before.before.before.before.args.s.now c.before.before.before.before.args.at c.n.given.0.0 c.before.before.spaced-name-end.ensures c.n.given.1
+first c = name_to c.before.before.before.before.args.s.now c.before.before.before.before.args.at c.n.given.0.0 c.before.before.spaced-name-end.ensures c.n.given.1
 
-allowed : (c : tie.After-a) → next (purposeSet (ascii "allow")) (from c.before.before.before.before.before.before.before.before.before.args.s.now c.before.before.before.before.before.n.given.0.0) ≡ some (names_at c.before.before.before.before.before.before.before.before.before.args.s.now c.a.given.0.0, from c.before.before.before.before.before.before.before.before.before.args.s.now c.a.given.0.1.0)
+allowed : (c : tie.After-a) → next (purpose_set (ascii "allow")) (from c.before.before.before.before.before.before.before.before.before.args.s.now c.before.before.before.before.before.n.given.0.0) ≡ some (names_at c.before.before.before.before.before.before.before.before.before.args.s.now c.a.given.0.0, from c.before.before.before.before.before.before.before.before.before.args.s.now c.a.given.0.1.0)
 unfolding set_at
 allowed c = c.before.before.read_set.ensures.is ∙ ap (set_at c.before.before.before.before.before.before.before.before.before.args.s.now) c.a.given.1
 
-allowed-in : (c : tie.After-a) → c.a.given.0.0 ≤ length c.before.before.before.before.before.before.before.before.before.args.s.now
+allowed_in : (c : tie.After-a) → c.a.given.0.0 ≤ length c.before.before.before.before.before.before.before.before.before.args.s.now
 unfolding SetWithin
-allowed-in c = subst (SetWithin c.before.before.before.before.before.before.before.before.before.args.s.now) c.a.given.1 c.before.before.read_set.ensures.within
+allowed_in c = subst (SetWithin c.before.before.before.before.before.before.before.before.before.args.s.now) c.a.given.1 c.before.before.read_set.ensures.within
 
-denied : (c : tie.After-d) → next (purposeSet (ascii "deny")) (from c.before.before.before.before.before.before.before.before.before.before.before.before.before.before.args.s.now c.before.before.before.before.before.a.given.0.1.0) ≡ some (names_at c.before.before.before.before.before.before.before.before.before.before.before.before.before.before.args.s.now c.d.given.0.0, from c.before.before.before.before.before.before.before.before.before.before.before.before.before.before.args.s.now c.d.given.0.1.0)
+denied : (c : tie.After-d) → next (purpose_set (ascii "deny")) (from c.before.before.before.before.before.before.before.before.before.before.before.before.before.before.args.s.now c.before.before.before.before.before.a.given.0.1.0) ≡ some (names_at c.before.before.before.before.before.before.before.before.before.before.before.before.before.before.args.s.now c.d.given.0.0, from c.before.before.before.before.before.before.before.before.before.before.before.before.before.before.args.s.now c.d.given.0.1.0)
 unfolding set_at
 denied c = c.before.before.read-set2.ensures.is ∙ ap (set_at c.before.before.before.before.before.before.before.before.before.before.before.before.before.before.args.s.now) c.d.given.1
 
-denied-in : (c : tie.After-d) → c.d.given.0.0 ≤ length c.before.before.before.before.before.before.before.before.before.before.before.before.before.before.args.s.now
+denied_in : (c : tie.After-d) → c.d.given.0.0 ≤ length c.before.before.before.before.before.before.before.before.before.before.before.before.before.before.args.s.now
 unfolding SetWithin
-denied-in c = subst (SetWithin c.before.before.before.before.before.before.before.before.before.before.before.before.before.before.args.s.now) c.d.given.1 c.before.before.read-set2.ensures.within
+denied_in c = subst (SetWithin c.before.before.before.before.before.before.before.before.before.before.before.before.before.before.args.s.now) c.d.given.1 c.before.before.read-set2.ensures.within
 
 spaced-name-end-requires : tie.Need-spaced-name-end-requires
 spaced-name-end-requires c κs = search rules
@@ -49,7 +49,7 @@ enum_told : tie.Need-enum-told
 enum_told c = search rules
 
 returns : tie.Need-returns
-unfolding labelForm body_at BodyWithin
+unfolding label_form body_at BodyWithin
 returns c = record { is = rw (end_none (next name) c.before.before.before.before.args.s.now c.before.before.before.before.args.at (sym c.before.before.spaced-name-end.ensures ∙ c.enum_told.given.1)); within = tt }
 
 slice-aggregate-read-set : tie.Need-slice-aggregate-read-set
@@ -65,7 +65,7 @@ enum-told-2 : tie.Need-enum-told-2
 enum-told-2 c = search rules
 
 returns-2 : tie.Need-returns-2
-unfolding labelForm body_at BodyWithin set_at
+unfolding label_form body_at BodyWithin set_at
 returns-2 c = record { is = rw ((first c.before.before.before.before.before).is, c.before.before.read_set.ensures.is ∙ ap (set_at c.before.before.before.before.before.before.before.before.before.args.s.now) c.enum-told2.given.1); within = tt }
 
 slice-aggregate-read-set-2 : tie.Need-slice-aggregate-read-set-2
@@ -81,15 +81,15 @@ enum-told-3 : tie.Need-enum-told-3
 enum-told-3 c = search rules
 
 returns-3 : tie.Need-returns-3
-unfolding labelForm body_at BodyWithin set_at
+unfolding label_form body_at BodyWithin set_at
 returns-3 c = record { is = rw ((first c.before.before.before.before.before.before.before.before.before.before).is, allowed c.before.before.before.before.before, c.before.before.read-set2.ensures.is ∙ ap (set_at c.before.before.before.before.before.before.before.before.before.before.before.before.before.before.args.s.now) c.enum-told3.given.1); within = tt }
 
 add-t17 : tie.Need-overflow-add-t17
 add-t17 c = omega (arith, first c.before.before.before.before.before.before.before.before.before.before.before)
 
 returns-4 : tie.Need-returns-4
-unfolding labelForm body_at line_at BodyWithin Within
-returns-4 c = record { is = rw ((first c.before.before.before.before.before.before.before.before.before.before.before).is, allowed c.before.before.before.before.before.before, denied c.before); within = (omega (arith, first c.before.before.before.before.before.before.before.before.before.before.before), allowed-in c.before.before.before.before.before.before, denied-in c.before, deny-stands c.before.before.before.before.before.before.before.before.before.before.before.before.before.before.before.args.s.now _ _ _ _ _ _ _ _ (first c.before.before.before.before.before.before.before.before.before.before.before).is (allowed c.before.before.before.before.before.before) (denied c.before)) }
+unfolding label_form body_at line_at BodyWithin Within
+returns-4 c = record { is = rw ((first c.before.before.before.before.before.before.before.before.before.before.before).is, allowed c.before.before.before.before.before.before, denied c.before); within = (omega (arith, first c.before.before.before.before.before.before.before.before.before.before.before), allowed_in c.before.before.before.before.before.before, denied_in c.before, deny_stands c.before.before.before.before.before.before.before.before.before.before.before.before.before.before.before.args.s.now _ _ _ _ _ _ _ _ (first c.before.before.before.before.before.before.before.before.before.before.before).is (allowed c.before.before.before.before.before.before) (denied c.before)) }
 
 pub label-body-spec : {M : Type 1} → statement M
 label-body-spec =

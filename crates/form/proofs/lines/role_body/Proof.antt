@@ -4,7 +4,7 @@ use Prim.Native.Nat.{◌+◌}
 use borrow.Author.Rules.{rules}
 use mathlib.Core.Path.{◌∙◌, sym}
 use native.Mathlib.Omega.{arith}
-use Rattle.form.proofs.PartLaws.{Behind, OptionalTo, name-to, optional-absent, optional-to, optional-wrong}
+use Rattle.form.proofs.PartLaws.{Behind, OptionalTo, name_to, optional_absent, optional_to, optional_wrong}
 use Rattle.form.specs.BodyPlaces.{BodyWithin, body_at}
 use Rattle.form.specs.FormReader.{node}
 use Rattle.form.specs.Places.{Within, line_at}
@@ -15,10 +15,10 @@ use Rattle.form.proofs.lines.role_body.Statement.{statement}
 use Rattle.form.proofs.lines.role_body.Tie as tie
 
 first : (c : tie.After-n) → Behind name (word_of c.before.before.before.before.args.s.now (c.before.before.before.before.args.at + 1)) c.before.before.before.before.args.s.now c.before.before.before.before.args.at c.n.given.0.0
-first c = name-to c.before.before.before.before.args.s.now c.before.before.before.before.args.at c.n.given.0.0 c.before.before.spaced-name-end.ensures c.n.given.1
+first c = name_to c.before.before.before.before.args.s.now c.before.before.before.before.args.at c.n.given.0.0 c.before.before.spaced-name-end.ensures c.n.given.1
 
 below : (c : tie.After-p) → OptionalTo c.before.before.before.before.before.before.before.before.args.s.now c.before.before.before.before.n.given.0.0 c.p.given.0.0 c.p.given.0.1.0
-below c = optional-to c.before.before.before.before.before.before.before.before.args.s.now c.before.before.before.before.n.given.0.0 c.before.before.optional-name.ensures c.p.given.0.0 c.p.given.0.1.0 c.p.given.1
+below c = optional_to c.before.before.before.before.before.before.before.before.args.s.now c.before.before.before.before.n.given.0.0 c.before.before.optional-name.ensures c.p.given.0.0 c.p.given.0.1.0 c.p.given.1
 
 spaced-name-end-requires : tie.Need-spaced-name-end-requires
 spaced-name-end-requires c κs = search rules
@@ -57,11 +57,11 @@ returns-2 c = record { is = rw ((first c.before.before.before.before.before).is,
 
 returns-3 : tie.Need-returns-3
 unfolding node body_at line_at BodyWithin Within
-returns-3 c = record { is = rw ((first c.before.before.before.before.before).is, optional-absent c.before.before.before.before.before.before.before.before.before.args.s.now c.before.before.before.before.before.n.given.0.0 c.before.before.before.optional-name.ensures c.before.p2.given.0.0 c.before.p2.given.1); within = omega (arith, first c.before.before.before.before.before) }
+returns-3 c = record { is = rw ((first c.before.before.before.before.before).is, optional_absent c.before.before.before.before.before.before.before.before.before.args.s.now c.before.before.before.before.before.n.given.0.0 c.before.before.before.optional-name.ensures c.before.p2.given.0.0 c.before.p2.given.1); within = omega (arith, first c.before.before.before.before.before) }
 
 returns-4 : tie.Need-returns-4
 unfolding node body_at BodyWithin
-returns-4 c = record { is = rw ((first c.before.before.before.before).is, optional-wrong c.before.before.before.before.before.before.before.before.args.s.now c.before.before.before.before.n.given.0.0 c.before.before.optional-name.ensures c.enum-told2.given.1); within = tt }
+returns-4 c = record { is = rw ((first c.before.before.before.before).is, optional_wrong c.before.before.before.before.before.before.before.before.args.s.now c.before.before.before.before.n.given.0.0 c.before.before.optional-name.ensures c.enum-told2.given.1); within = tt }
 
 pub role-body-spec : {M : Type 1} → statement M
 role-body-spec =

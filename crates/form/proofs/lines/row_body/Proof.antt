@@ -4,9 +4,9 @@ use Prim.Native.Nat.{◌+◌}
 use borrow.Author.Rules.{rules}
 use mathlib.Core.Path.{◌∙◌, sym}
 use native.Mathlib.Omega.{arith}
-use Rattle.form.proofs.PartLaws.{Behind, items-to, name-to}
+use Rattle.form.proofs.PartLaws.{Behind, items_to, name_to}
 use Rattle.form.specs.BodyPlaces.{BodyWithin, body_at}
-use Rattle.form.specs.FormReader.{item, rowForm}
+use Rattle.form.specs.FormReader.{item, row_form}
 use Rattle.form.specs.Places.{Within, line_at}
 use Rattle.text.proofs.EndLaws.{end_none}
 use Rattle.text.specs.Brackets.{many, next}
@@ -15,7 +15,7 @@ use Rattle.form.proofs.lines.row_body.Statement.{statement}
 use Rattle.form.proofs.lines.row_body.Tie as tie
 
 first : (c : tie.After-n) → Behind name (word_of c.before.before.before.before.args.s.now (c.before.before.before.before.args.at + 1)) c.before.before.before.before.args.s.now c.before.before.before.before.args.at c.n.given.0.0
-first c = name-to c.before.before.before.before.args.s.now c.before.before.before.before.args.at c.n.given.0.0 c.before.before.spaced-name-end.ensures c.n.given.1
+first c = name_to c.before.before.before.before.args.s.now c.before.before.before.before.args.at c.n.given.0.0 c.before.before.spaced-name-end.ensures c.n.given.1
 
 spaced-name-end-requires : tie.Need-spaced-name-end-requires
 spaced-name-end-requires c κs = search rules
@@ -27,7 +27,7 @@ enum_told : tie.Need-enum-told
 enum_told c = search rules
 
 returns : tie.Need-returns
-unfolding rowForm body_at BodyWithin
+unfolding row_form body_at BodyWithin
 returns c = record { is = rw (end_none (next name) c.before.before.before.before.args.s.now c.before.before.before.before.args.at (sym c.before.before.spaced-name-end.ensures ∙ c.enum_told.given.1)); within = tt }
 
 items-end-requires : tie.Need-items-end-requires
@@ -40,15 +40,15 @@ enum-told-2 : tie.Need-enum-told-2
 enum-told-2 c = search rules
 
 returns-2 : tie.Need-returns-2
-unfolding rowForm body_at BodyWithin
+unfolding row_form body_at BodyWithin
 returns-2 c = record { is = rw ((first c.before.before.before.before).is, end_none (many item) c.before.before.before.before.before.before.before.before.args.s.now c.before.before.before.before.n.given.0.0 (sym c.before.before.items-end.ensures ∙ c.enum-told2.given.1)); within = tt }
 
 add-t7 : tie.Need-overflow-add-t7
 add-t7 c = omega (arith, first c.before.before.before.before.before)
 
 returns-3 : tie.Need-returns-3
-unfolding rowForm body_at line_at BodyWithin Within
-returns-3 c = record { is = rw ((first c.before.before.before.before.before).is, items-to c.before.before.before.before.before.before.before.before.before.args.s.now c.before.before.before.before.before.n.given.0.0 c.before.i.given.0.0 c.before.before.before.items-end.ensures c.before.i.given.1); within = omega (arith, first c.before.before.before.before.before) }
+unfolding row_form body_at line_at BodyWithin Within
+returns-3 c = record { is = rw ((first c.before.before.before.before.before).is, items_to c.before.before.before.before.before.before.before.before.before.args.s.now c.before.before.before.before.before.n.given.0.0 c.before.i.given.0.0 c.before.before.before.items-end.ensures c.before.i.given.1); within = omega (arith, first c.before.before.before.before.before) }
 
 pub row-body-spec : {M : Type 1} → statement M
 row-body-spec =

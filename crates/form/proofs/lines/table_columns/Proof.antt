@@ -5,59 +5,59 @@ use borrow.Author.Rules.{rules}
 use mathlib.Core.Bool.{false, true}
 use mathlib.Core.Path.{◌∙◌, ◌≡◌, refl, sym}
 use native.Mathlib.Omega.{arith}
-use Rattle.form.proofs.KeywordLaws.{keyword-at}
-use Rattle.form.proofs.PartLaws.{Behind, name-to}
-use Rattle.form.proofs.TableLaws.{labelled-table, plain-table}
-use Rattle.form.specs.BodyPlaces.{ColumnsWithin, tableTo}
-use Rattle.form.specs.FormReader.{columnsUnderLabel, schemes}
-use Rattle.form.specs.TableWords.{columnWords, schemeWords}
+use Rattle.form.proofs.KeywordLaws.{keyword_at}
+use Rattle.form.proofs.PartLaws.{Behind, name_to}
+use Rattle.form.proofs.TableLaws.{labelled_table, plain_table}
+use Rattle.form.specs.BodyPlaces.{ColumnsWithin, table_to}
+use Rattle.form.specs.FormReader.{columns_under_label, schemes}
+use Rattle.form.specs.TableWords.{column_words, scheme_words}
 use Rattle.text.proofs.EndLaws.{end_none}
 use Rattle.text.specs.Brackets.{among, next}
 use Rattle.text.specs.Bytes.{ascii}
-use Rattle.text.specs.Names.{sameName}
-use Rattle.text.specs.Words.{isCalled, name, word_at, word_of}
+use Rattle.text.specs.Names.{same_name}
+use Rattle.text.specs.Words.{is_called, name, word_at, word_of}
 use Rattle.form.specs.declared.lines.Scheme.TheVariants as scheme
 use Rattle.form.proofs.lines.table_columns.Statement.{statement}
 use Rattle.form.proofs.lines.table_columns.Tie as tie
 
-is_none : (c : tie.Then1) → sameName (word_at c.before.before.before.before.before.args.s.now c.before.before.before.before.before.args.at) (ascii "none") ≡ true
+is_none : (c : tie.Then1) → same_name (word_at c.before.before.before.before.before.args.s.now c.before.before.before.before.before.args.at) (ascii "none") ≡ true
 is_none c = sym c.before.is_IsWord.ensures ∙ c.if1.true
 
-not_none : (c : tie.Else1) → sameName (word_at c.before.before.before.before.before.args.s.now c.before.before.before.before.before.args.at) (ascii "none") ≡ false
+not_none : (c : tie.Else1) → same_name (word_at c.before.before.before.before.before.args.s.now c.before.before.before.before.before.args.at) (ascii "none") ≡ false
 not_none c = sym c.before.is_IsWord.ensures ∙ c.if1.false
 
-is-table : (c : tie.Then2) → sameName (word_at c.before.before.before.before.before.before.before.before.args.s.now c.before.before.before.before.before.before.before.before.args.at) (ascii "table") ≡ true
-is-table c = sym c.before.is-word2.ensures ∙ c.if2.true
+is_table : (c : tie.Then2) → same_name (word_at c.before.before.before.before.before.before.before.before.args.s.now c.before.before.before.before.before.before.before.before.args.at) (ascii "table") ≡ true
+is_table c = sym c.before.is-word2.ensures ∙ c.if2.true
 
-not_table : (c : tie.Else2) → sameName (word_at c.before.before.before.before.before.before.before.before.args.s.now c.before.before.before.before.before.before.before.before.args.at) (ascii "table") ≡ false
+not_table : (c : tie.Else2) → same_name (word_at c.before.before.before.before.before.before.before.before.args.s.now c.before.before.before.before.before.before.before.before.args.at) (ascii "table") ≡ false
 not_table c = sym c.before.is-word2.ensures ∙ c.if2.false
 
-is-column : (c : tie.Then3) → sameName (word_at c.before.before.before.before.before.before.before.before.before.before.before.args.s.now c.before.before.before.before.before.before.before.before.before.before.before.args.at) (ascii "column") ≡ true
-is-column c = sym c.before.is-word3.ensures ∙ c.if3.true
+is_column : (c : tie.Then3) → same_name (word_at c.before.before.before.before.before.before.before.before.before.before.before.args.s.now c.before.before.before.before.before.before.before.before.before.before.before.args.at) (ascii "column") ≡ true
+is_column c = sym c.before.is-word3.ensures ∙ c.if3.true
 
-not-column : (c : tie.Else3) → sameName (word_at c.before.before.before.before.before.before.before.before.before.before.before.args.s.now c.before.before.before.before.before.before.before.before.before.before.before.args.at) (ascii "column") ≡ false
-not-column c = sym c.before.is-word3.ensures ∙ c.if3.false
+not_column : (c : tie.Else3) → same_name (word_at c.before.before.before.before.before.before.before.before.before.before.before.args.s.now c.before.before.before.before.before.before.before.before.before.before.before.args.at) (ascii "column") ≡ false
+not_column c = sym c.before.is-word3.ensures ∙ c.if3.false
 
-is-row : (c : tie.Then4) → sameName (word_at c.before.before.before.before.before.before.before.before.before.before.before.before.before.before.args.s.now c.before.before.before.before.before.before.before.before.before.before.before.before.before.before.args.at) (ascii "row") ≡ true
-is-row c = sym c.before.is-word4.ensures ∙ c.if4.true
+is_row_lem : (c : tie.Then4) → same_name (word_at c.before.before.before.before.before.before.before.before.before.before.before.before.before.before.args.s.now c.before.before.before.before.before.before.before.before.before.before.before.before.before.before.args.at) (ascii "row") ≡ true
+is_row_lem c = sym c.before.is-word4.ensures ∙ c.if4.true
 
-not-row : (c : tie.Else4) → sameName (word_at c.before.before.before.before.before.before.before.before.before.before.before.before.before.before.args.s.now c.before.before.before.before.before.before.before.before.before.before.before.before.before.before.args.at) (ascii "row") ≡ false
-not-row c = sym c.before.is-word4.ensures ∙ c.if4.false
+not_row : (c : tie.Else4) → same_name (word_at c.before.before.before.before.before.before.before.before.before.before.before.before.before.before.args.s.now c.before.before.before.before.before.before.before.before.before.before.before.before.before.before.args.at) (ascii "row") ≡ false
+not_row c = sym c.before.is-word4.ensures ∙ c.if4.false
 
-is-cell : (c : tie.Then5) → sameName (word_at c.before.before.before.before.before.before.before.before.before.before.before.before.before.before.before.before.before.args.s.now c.before.before.before.before.before.before.before.before.before.before.before.before.before.before.before.before.before.args.at) (ascii "cell") ≡ true
-is-cell c = sym c.before.is-word5.ensures ∙ c.if5.true
+is_cell : (c : tie.Then5) → same_name (word_at c.before.before.before.before.before.before.before.before.before.before.before.before.before.before.before.before.before.args.s.now c.before.before.before.before.before.before.before.before.before.before.before.before.before.before.before.before.before.args.at) (ascii "cell") ≡ true
+is_cell c = sym c.before.is-word5.ensures ∙ c.if5.true
 
-not-cell : (c : tie.Else5) → sameName (word_at c.before.before.before.before.before.before.before.before.before.before.before.before.before.before.before.before.before.args.s.now c.before.before.before.before.before.before.before.before.before.before.before.before.before.before.before.before.before.args.at) (ascii "cell") ≡ false
-not-cell c = sym c.before.is-word5.ensures ∙ c.if5.false
+not_cell : (c : tie.Else5) → same_name (word_at c.before.before.before.before.before.before.before.before.before.before.before.before.before.before.before.before.before.args.s.now c.before.before.before.before.before.before.before.before.before.before.before.before.before.before.before.before.before.args.at) (ascii "cell") ≡ false
+not_cell c = sym c.before.is-word5.ensures ∙ c.if5.false
 
-is-nest : (c : tie.Then6) → sameName (word_at c.before.before.before.before.before.before.before.before.before.before.before.before.before.before.before.before.before.before.before.before.args.s.now c.before.before.before.before.before.before.before.before.before.before.before.before.before.before.before.before.before.before.before.before.args.at) (ascii "nest") ≡ true
-is-nest c = sym c.before.is-word6.ensures ∙ c.if6.true
+is_nest : (c : tie.Then6) → same_name (word_at c.before.before.before.before.before.before.before.before.before.before.before.before.before.before.before.before.before.before.before.before.args.s.now c.before.before.before.before.before.before.before.before.before.before.before.before.before.before.before.before.before.before.before.before.args.at) (ascii "nest") ≡ true
+is_nest c = sym c.before.is-word6.ensures ∙ c.if6.true
 
-not-nest : (c : tie.Else6) → sameName (word_at c.before.before.before.before.before.before.before.before.before.before.before.before.before.before.before.before.before.before.before.before.args.s.now c.before.before.before.before.before.before.before.before.before.before.before.before.before.before.before.before.before.before.before.before.args.at) (ascii "nest") ≡ false
-not-nest c = sym c.before.is-word6.ensures ∙ c.if6.false
+not_nest : (c : tie.Else6) → same_name (word_at c.before.before.before.before.before.before.before.before.before.before.before.before.before.before.before.before.before.before.before.before.args.s.now c.before.before.before.before.before.before.before.before.before.before.before.before.before.before.before.before.before.before.before.before.args.at) (ascii "nest") ≡ false
+not_nest c = sym c.before.is-word6.ensures ∙ c.if6.false
 
 label : (c : tie.After-n) → Behind name (word_of c.before.before.before.before.before.before.before.before.before.before.before.args.s.now (c.before.before.before.before.before.before.before.before.before.word-end.result + 1)) c.before.before.before.before.before.before.before.before.before.before.before.args.s.now c.before.before.before.before.before.before.before.before.before.word-end.result c.n.given.0.0
-label c = name-to c.before.before.before.before.before.before.before.before.before.before.before.args.s.now c.before.before.before.before.before.before.before.before.before.word-end.result c.n.given.0.0 c.before.before.spaced-name-end.ensures c.n.given.1
+label c = name_to c.before.before.before.before.before.before.before.before.before.before.before.args.s.now c.before.before.before.before.before.before.before.before.before.word-end.result c.n.given.0.0 c.before.before.spaced-name-end.ensures c.n.given.1
 
 word-end-requires : tie.Need-word-end-requires
 word-end-requires c κs = search rules
@@ -75,10 +75,10 @@ under-scheme-requires : tie.Need-under-scheme-requires
 under-scheme-requires c κs = search rules
 
 returns : tie.Need-returns
-unfolding schemes among isCalled schemeWords columnWords
+unfolding schemes among is_called scheme_words column_words
 returns c =
-    plain-table c.before.before.before.before.before.before.before.args.s.now c.before.before.before.before.before.before.before.args.at c.before.before.before.before.before.word-end.result scheme.Unlabelled 0 c.before.columns-end.result c.under-scheme.ensures c.before.columns-end.ensures refl (omega arith) (λ t.
-    rw (keyword-at (schemes t) c.before.before.before.before.before.before.before.args.s.now c.before.before.before.before.before.before.before.args.at c.before.before.before.before.before.word-end.result c.before.before.before.before.before.word-end.ensures, is_none c.before.before))
+    plain_table c.before.before.before.before.before.before.before.args.s.now c.before.before.before.before.before.before.before.args.at c.before.before.before.before.before.word-end.result scheme.Unlabelled 0 c.before.columns-end.result c.under-scheme.ensures c.before.columns-end.ensures refl (omega arith) (λ t.
+    rw (keyword_at (schemes t) c.before.before.before.before.before.before.before.args.s.now c.before.before.before.before.before.before.before.args.at c.before.before.before.before.before.word-end.result c.before.before.before.before.before.word-end.ensures, is_none c.before.before))
 
 slice-aggregate-is-word-2 : tie.Need-slice-aggregate-is-word-2
 slice-aggregate-is-word-2 c = search rules
@@ -96,8 +96,8 @@ enum_told : tie.Need-enum-told
 enum_told c = search rules
 
 returns-2 : tie.Need-returns-2
-unfolding schemes among isCalled columnsUnderLabel tableTo ColumnsWithin
-returns-2 c = record { is = λ t. rw (keyword-at (schemes t) c.before.before.before.before.before.before.before.before.before.before.before.args.s.now c.before.before.before.before.before.before.before.before.before.before.before.args.at c.before.before.before.before.before.before.before.before.before.word-end.result c.before.before.before.before.before.before.before.before.before.word-end.ensures, not_none c.before.before.before.before.before.before, is-table c.before.before.before, end_none (next name) c.before.before.before.before.before.before.before.before.before.before.before.args.s.now c.before.before.before.before.before.before.before.before.before.word-end.result (sym c.before.before.spaced-name-end.ensures ∙ c.enum_told.given.1)); within = tt }
+unfolding schemes among is_called columns_under_label table_to ColumnsWithin
+returns-2 c = record { is = λ t. rw (keyword_at (schemes t) c.before.before.before.before.before.before.before.before.before.before.before.args.s.now c.before.before.before.before.before.before.before.before.before.before.before.args.at c.before.before.before.before.before.before.before.before.before.word-end.result c.before.before.before.before.before.before.before.before.before.word-end.ensures, not_none c.before.before.before.before.before.before, is_table c.before.before.before, end_none (next name) c.before.before.before.before.before.before.before.before.before.before.before.args.s.now c.before.before.before.before.before.before.before.before.before.word-end.result (sym c.before.before.spaced-name-end.ensures ∙ c.enum_told.given.1)); within = tt }
 
 add-under-scheme : tie.Need-overflow-add-under-scheme
 add-under-scheme c = omega (arith, label c.before)
@@ -109,10 +109,10 @@ under-scheme-requires-2 : tie.Need-under-scheme-requires-2
 under-scheme-requires-2 c κs = search rules
 
 returns-3 : tie.Need-returns-3
-unfolding schemes among isCalled columnsUnderLabel schemeWords columnWords
+unfolding schemes among is_called columns_under_label scheme_words column_words
 returns-3 c =
-    plain-table c.before.before.before.before.before.before.before.before.before.before.before.before.before.before.args.s.now c.before.before.before.before.before.before.before.before.before.before.before.before.before.before.args.at c.before.before.before.n.given.0.0 scheme.ByTable (c.before.before.before.before.before.before.before.before.before.before.before.before.word-end.result + 1) c.before.columns-end2.result c.under-scheme2.ensures c.before.columns-end2.ensures refl (omega (arith, label c.before.before.before)) (λ t.
-    rw (keyword-at (schemes t) c.before.before.before.before.before.before.before.before.before.before.before.before.before.before.args.s.now c.before.before.before.before.before.before.before.before.before.before.before.before.before.before.args.at c.before.before.before.before.before.before.before.before.before.before.before.before.word-end.result c.before.before.before.before.before.before.before.before.before.before.before.before.word-end.ensures, not_none c.before.before.before.before.before.before.before.before.before, is-table c.before.before.before.before.before.before, (label c.before.before.before).is))
+    plain_table c.before.before.before.before.before.before.before.before.before.before.before.before.before.before.args.s.now c.before.before.before.before.before.before.before.before.before.before.before.before.before.before.args.at c.before.before.before.n.given.0.0 scheme.ByTable (c.before.before.before.before.before.before.before.before.before.before.before.before.word-end.result + 1) c.before.columns-end2.result c.under-scheme2.ensures c.before.columns-end2.ensures refl (omega (arith, label c.before.before.before)) (λ t.
+    rw (keyword_at (schemes t) c.before.before.before.before.before.before.before.before.before.before.before.before.before.before.args.s.now c.before.before.before.before.before.before.before.before.before.before.before.before.before.before.args.at c.before.before.before.before.before.before.before.before.before.before.before.before.word-end.result c.before.before.before.before.before.before.before.before.before.before.before.before.word-end.ensures, not_none c.before.before.before.before.before.before.before.before.before, is_table c.before.before.before.before.before.before, (label c.before.before.before).is))
 
 slice-aggregate-is-word-3 : tie.Need-slice-aggregate-is-word-3
 slice-aggregate-is-word-3 c = search rules
@@ -127,10 +127,10 @@ under-scheme-requires-3 : tie.Need-under-scheme-requires-3
 under-scheme-requires-3 c κs = search rules
 
 returns-4 : tie.Need-returns-4
-unfolding schemes among isCalled
+unfolding schemes among is_called
 returns-4 c =
-    labelled-table c.before.before.before.before.before.before.before.before.before.before.before.before.before.args.s.now c.before.before.before.before.before.before.before.before.before.before.before.before.before.args.at c.before.before.before.before.before.before.before.before.before.before.before.word-end.result c.before.labelled-columns-end.result c.under-scheme3.ensures c.before.labelled-columns-end.ensures (λ t.
-    rw (keyword-at (schemes t) c.before.before.before.before.before.before.before.before.before.before.before.before.before.args.s.now c.before.before.before.before.before.before.before.before.before.before.before.before.before.args.at c.before.before.before.before.before.before.before.before.before.before.before.word-end.result c.before.before.before.before.before.before.before.before.before.before.before.word-end.ensures, not_none c.before.before.before.before.before.before.before.before, not_table c.before.before.before.before.before, is-column c.before.before))
+    labelled_table c.before.before.before.before.before.before.before.before.before.before.before.before.before.args.s.now c.before.before.before.before.before.before.before.before.before.before.before.before.before.args.at c.before.before.before.before.before.before.before.before.before.before.before.word-end.result c.before.labelled-columns-end.result c.under-scheme3.ensures c.before.labelled-columns-end.ensures (λ t.
+    rw (keyword_at (schemes t) c.before.before.before.before.before.before.before.before.before.before.before.before.before.args.s.now c.before.before.before.before.before.before.before.before.before.before.before.before.before.args.at c.before.before.before.before.before.before.before.before.before.before.before.word-end.result c.before.before.before.before.before.before.before.before.before.before.before.word-end.ensures, not_none c.before.before.before.before.before.before.before.before, not_table c.before.before.before.before.before, is_column c.before.before))
 
 slice-aggregate-is-word-4 : tie.Need-slice-aggregate-is-word-4
 slice-aggregate-is-word-4 c = search rules
@@ -145,10 +145,10 @@ under-scheme-requires-4 : tie.Need-under-scheme-requires-4
 under-scheme-requires-4 c κs = search rules
 
 returns-5 : tie.Need-returns-5
-unfolding schemes among isCalled schemeWords columnWords
+unfolding schemes among is_called scheme_words column_words
 returns-5 c =
-    plain-table c.before.before.before.before.before.before.before.before.before.before.before.before.before.before.before.before.args.s.now c.before.before.before.before.before.before.before.before.before.before.before.before.before.before.before.before.args.at c.before.before.before.before.before.before.before.before.before.before.before.before.before.before.word-end.result scheme.ByRow 0 c.before.columns-end3.result c.under-scheme4.ensures c.before.columns-end3.ensures refl (omega arith) (λ t.
-    rw (keyword-at (schemes t) c.before.before.before.before.before.before.before.before.before.before.before.before.before.before.before.before.args.s.now c.before.before.before.before.before.before.before.before.before.before.before.before.before.before.before.before.args.at c.before.before.before.before.before.before.before.before.before.before.before.before.before.before.word-end.result c.before.before.before.before.before.before.before.before.before.before.before.before.before.before.word-end.ensures, not_none c.before.before.before.before.before.before.before.before.before.before.before, not_table c.before.before.before.before.before.before.before.before, not-column c.before.before.before.before.before, is-row c.before.before))
+    plain_table c.before.before.before.before.before.before.before.before.before.before.before.before.before.before.before.before.args.s.now c.before.before.before.before.before.before.before.before.before.before.before.before.before.before.before.before.args.at c.before.before.before.before.before.before.before.before.before.before.before.before.before.before.word-end.result scheme.ByRow 0 c.before.columns-end3.result c.under-scheme4.ensures c.before.columns-end3.ensures refl (omega arith) (λ t.
+    rw (keyword_at (schemes t) c.before.before.before.before.before.before.before.before.before.before.before.before.before.before.before.before.args.s.now c.before.before.before.before.before.before.before.before.before.before.before.before.before.before.before.before.args.at c.before.before.before.before.before.before.before.before.before.before.before.before.before.before.word-end.result c.before.before.before.before.before.before.before.before.before.before.before.before.before.before.word-end.ensures, not_none c.before.before.before.before.before.before.before.before.before.before.before, not_table c.before.before.before.before.before.before.before.before, not_column c.before.before.before.before.before, is_row_lem c.before.before))
 
 slice-aggregate-is-word-5 : tie.Need-slice-aggregate-is-word-5
 slice-aggregate-is-word-5 c = search rules
@@ -163,10 +163,10 @@ under-scheme-requires-5 : tie.Need-under-scheme-requires-5
 under-scheme-requires-5 c κs = search rules
 
 returns-6 : tie.Need-returns-6
-unfolding schemes among isCalled schemeWords columnWords
+unfolding schemes among is_called scheme_words column_words
 returns-6 c =
-    plain-table c.before.before.before.before.before.before.before.before.before.before.before.before.before.before.before.before.before.before.before.args.s.now c.before.before.before.before.before.before.before.before.before.before.before.before.before.before.before.before.before.before.before.args.at c.before.before.before.before.before.before.before.before.before.before.before.before.before.before.before.before.before.word-end.result scheme.ByCell 0 c.before.columns-end4.result c.under-scheme5.ensures c.before.columns-end4.ensures refl (omega arith) (λ t.
-    rw (keyword-at (schemes t) c.before.before.before.before.before.before.before.before.before.before.before.before.before.before.before.before.before.before.before.args.s.now c.before.before.before.before.before.before.before.before.before.before.before.before.before.before.before.before.before.before.before.args.at c.before.before.before.before.before.before.before.before.before.before.before.before.before.before.before.before.before.word-end.result c.before.before.before.before.before.before.before.before.before.before.before.before.before.before.before.before.before.word-end.ensures, not_none c.before.before.before.before.before.before.before.before.before.before.before.before.before.before, not_table c.before.before.before.before.before.before.before.before.before.before.before, not-column c.before.before.before.before.before.before.before.before, not-row c.before.before.before.before.before, is-cell c.before.before))
+    plain_table c.before.before.before.before.before.before.before.before.before.before.before.before.before.before.before.before.before.before.before.args.s.now c.before.before.before.before.before.before.before.before.before.before.before.before.before.before.before.before.before.before.before.args.at c.before.before.before.before.before.before.before.before.before.before.before.before.before.before.before.before.before.word-end.result scheme.ByCell 0 c.before.columns-end4.result c.under-scheme5.ensures c.before.columns-end4.ensures refl (omega arith) (λ t.
+    rw (keyword_at (schemes t) c.before.before.before.before.before.before.before.before.before.before.before.before.before.before.before.before.before.before.before.args.s.now c.before.before.before.before.before.before.before.before.before.before.before.before.before.before.before.before.before.before.before.args.at c.before.before.before.before.before.before.before.before.before.before.before.before.before.before.before.before.before.word-end.result c.before.before.before.before.before.before.before.before.before.before.before.before.before.before.before.before.before.word-end.ensures, not_none c.before.before.before.before.before.before.before.before.before.before.before.before.before.before, not_table c.before.before.before.before.before.before.before.before.before.before.before, not_column c.before.before.before.before.before.before.before.before, not_row c.before.before.before.before.before, is_cell c.before.before))
 
 slice-aggregate-is-word-6 : tie.Need-slice-aggregate-is-word-6
 slice-aggregate-is-word-6 c = search rules
@@ -181,14 +181,14 @@ under-scheme-requires-6 : tie.Need-under-scheme-requires-6
 under-scheme-requires-6 c κs = search rules
 
 returns-7 : tie.Need-returns-7
-unfolding schemes among isCalled schemeWords columnWords
+unfolding schemes among is_called scheme_words column_words
 returns-7 c =
-    plain-table c.before.before.before.before.before.before.before.before.before.before.before.before.before.before.before.before.before.before.before.before.before.before.args.s.now c.before.before.before.before.before.before.before.before.before.before.before.before.before.before.before.before.before.before.before.before.before.before.args.at c.before.before.before.before.before.before.before.before.before.before.before.before.before.before.before.before.before.before.before.before.word-end.result scheme.Nested 0 c.before.columns-end5.result c.under-scheme6.ensures c.before.columns-end5.ensures refl (omega arith) (λ t.
-    rw (keyword-at (schemes t) c.before.before.before.before.before.before.before.before.before.before.before.before.before.before.before.before.before.before.before.before.before.before.args.s.now c.before.before.before.before.before.before.before.before.before.before.before.before.before.before.before.before.before.before.before.before.before.before.args.at c.before.before.before.before.before.before.before.before.before.before.before.before.before.before.before.before.before.before.before.before.word-end.result c.before.before.before.before.before.before.before.before.before.before.before.before.before.before.before.before.before.before.before.before.word-end.ensures, not_none c.before.before.before.before.before.before.before.before.before.before.before.before.before.before.before.before.before, not_table c.before.before.before.before.before.before.before.before.before.before.before.before.before.before, not-column c.before.before.before.before.before.before.before.before.before.before.before, not-row c.before.before.before.before.before.before.before.before, not-cell c.before.before.before.before.before, is-nest c.before.before))
+    plain_table c.before.before.before.before.before.before.before.before.before.before.before.before.before.before.before.before.before.before.before.before.before.before.args.s.now c.before.before.before.before.before.before.before.before.before.before.before.before.before.before.before.before.before.before.before.before.before.before.args.at c.before.before.before.before.before.before.before.before.before.before.before.before.before.before.before.before.before.before.before.before.word-end.result scheme.Nested 0 c.before.columns-end5.result c.under-scheme6.ensures c.before.columns-end5.ensures refl (omega arith) (λ t.
+    rw (keyword_at (schemes t) c.before.before.before.before.before.before.before.before.before.before.before.before.before.before.before.before.before.before.before.before.before.before.args.s.now c.before.before.before.before.before.before.before.before.before.before.before.before.before.before.before.before.before.before.before.before.before.before.args.at c.before.before.before.before.before.before.before.before.before.before.before.before.before.before.before.before.before.before.before.before.word-end.result c.before.before.before.before.before.before.before.before.before.before.before.before.before.before.before.before.before.before.before.before.word-end.ensures, not_none c.before.before.before.before.before.before.before.before.before.before.before.before.before.before.before.before.before, not_table c.before.before.before.before.before.before.before.before.before.before.before.before.before.before, not_column c.before.before.before.before.before.before.before.before.before.before.before, not_row c.before.before.before.before.before.before.before.before, not_cell c.before.before.before.before.before, is_nest c.before.before))
 
 returns-8 : tie.Need-returns-8
-unfolding schemes among isCalled tableTo ColumnsWithin
-returns-8 c = record { is = λ t. rw (keyword-at (schemes t) c.before.before.before.before.before.before.before.before.before.before.before.before.before.before.before.before.before.before.before.before.args.s.now c.before.before.before.before.before.before.before.before.before.before.before.before.before.before.before.before.before.before.before.before.args.at c.before.before.before.before.before.before.before.before.before.before.before.before.before.before.before.before.before.before.word-end.result c.before.before.before.before.before.before.before.before.before.before.before.before.before.before.before.before.before.before.word-end.ensures, not_none c.before.before.before.before.before.before.before.before.before.before.before.before.before.before.before, not_table c.before.before.before.before.before.before.before.before.before.before.before.before, not-column c.before.before.before.before.before.before.before.before.before, not-row c.before.before.before.before.before.before, not-cell c.before.before.before, not-nest c); within = tt }
+unfolding schemes among is_called table_to ColumnsWithin
+returns-8 c = record { is = λ t. rw (keyword_at (schemes t) c.before.before.before.before.before.before.before.before.before.before.before.before.before.before.before.before.before.before.before.before.args.s.now c.before.before.before.before.before.before.before.before.before.before.before.before.before.before.before.before.before.before.before.before.args.at c.before.before.before.before.before.before.before.before.before.before.before.before.before.before.before.before.before.before.word-end.result c.before.before.before.before.before.before.before.before.before.before.before.before.before.before.before.before.before.before.word-end.ensures, not_none c.before.before.before.before.before.before.before.before.before.before.before.before.before.before.before, not_table c.before.before.before.before.before.before.before.before.before.before.before.before, not_column c.before.before.before.before.before.before.before.before.before, not_row c.before.before.before.before.before.before, not_cell c.before.before.before, not_nest c); within = tt }
 
 pub table-columns-spec : {M : Type 1} → statement M
 table-columns-spec =

@@ -4,9 +4,9 @@ use Prim.Native.Nat.{◌+◌}
 use borrow.Author.Rules.{rules}
 use mathlib.Core.Path.{◌∙◌, sym}
 use native.Mathlib.Omega.{arith}
-use Rattle.form.proofs.PartLaws.{Behind, givens-to, name-to}
+use Rattle.form.proofs.PartLaws.{Behind, givens_to, name_to}
 use Rattle.form.specs.BodyPlaces.{BodyWithin, body_at}
-use Rattle.form.specs.FormReader.{givenForm, userForm}
+use Rattle.form.specs.FormReader.{given_form, user_form}
 use Rattle.form.specs.Places.{Within, line_at}
 use Rattle.text.proofs.EndLaws.{end_none}
 use Rattle.text.specs.Brackets.{many, next}
@@ -15,10 +15,10 @@ use Rattle.form.proofs.lines.user_body.Statement.{statement}
 use Rattle.form.proofs.lines.user_body.Tie as tie
 
 first : (c : tie.After-n) → Behind name (word_of c.before.before.before.before.args.s.now (c.before.before.before.before.args.at + 1)) c.before.before.before.before.args.s.now c.before.before.before.before.args.at c.n.given.0.0
-first c = name-to c.before.before.before.before.args.s.now c.before.before.before.before.args.at c.n.given.0.0 c.before.before.spaced-name-end.ensures c.n.given.1
+first c = name_to c.before.before.before.before.args.s.now c.before.before.before.before.args.at c.n.given.0.0 c.before.before.spaced-name-end.ensures c.n.given.1
 
 second : (c : tie.After-q) → Behind name (word_of c.before.before.before.before.before.before.before.before.args.s.now (c.before.before.before.before.n.given.0.0 + 1)) c.before.before.before.before.before.before.before.before.args.s.now c.before.before.before.before.n.given.0.0 c.q.given.0.0
-second c = name-to c.before.before.before.before.before.before.before.before.args.s.now c.before.before.before.before.n.given.0.0 c.q.given.0.0 c.before.before.spaced-name-end2.ensures c.q.given.1
+second c = name_to c.before.before.before.before.before.before.before.before.args.s.now c.before.before.before.before.n.given.0.0 c.q.given.0.0 c.before.before.spaced-name-end2.ensures c.q.given.1
 
 spaced-name-end-requires : tie.Need-spaced-name-end-requires
 spaced-name-end-requires c κs = search rules
@@ -30,7 +30,7 @@ enum_told : tie.Need-enum-told
 enum_told c = search rules
 
 returns : tie.Need-returns
-unfolding userForm body_at BodyWithin
+unfolding user_form body_at BodyWithin
 returns c = record { is = rw (end_none (next name) c.before.before.before.before.args.s.now c.before.before.before.before.args.at (sym c.before.before.spaced-name-end.ensures ∙ c.enum_told.given.1)); within = tt }
 
 spaced-name-end-requires-2 : tie.Need-spaced-name-end-requires-2
@@ -43,7 +43,7 @@ enum-told-2 : tie.Need-enum-told-2
 enum-told-2 c = search rules
 
 returns-2 : tie.Need-returns-2
-unfolding userForm body_at BodyWithin
+unfolding user_form body_at BodyWithin
 returns-2 c = record { is = rw ((first c.before.before.before.before).is, end_none (next name) c.before.before.before.before.before.before.before.before.args.s.now c.before.before.before.before.n.given.0.0 (sym c.before.before.spaced-name-end2.ensures ∙ c.enum-told2.given.1)); within = tt }
 
 givens-end-requires : tie.Need-givens-end-requires
@@ -56,8 +56,8 @@ enum-told-3 : tie.Need-enum-told-3
 enum-told-3 c = search rules
 
 returns-3 : tie.Need-returns-3
-unfolding userForm body_at BodyWithin
-returns-3 c = record { is = rw ((first c.before.before.before.before.before.before.before.before).is, (second c.before.before.before.before).is, end_none (many givenForm) c.before.before.before.before.before.before.before.before.before.before.before.before.args.s.now c.before.before.before.before.q.given.0.0 (sym c.before.before.givens-end.ensures ∙ c.enum-told3.given.1)); within = tt }
+unfolding user_form body_at BodyWithin
+returns-3 c = record { is = rw ((first c.before.before.before.before.before.before.before.before).is, (second c.before.before.before.before).is, end_none (many given_form) c.before.before.before.before.before.before.before.before.before.before.before.before.args.s.now c.before.before.before.before.q.given.0.0 (sym c.before.before.givens-end.ensures ∙ c.enum-told3.given.1)); within = tt }
 
 add-t9 : tie.Need-overflow-add-t9
 add-t9 c = omega (arith, first c.before.before.before.before.before.before.before.before.before)
@@ -66,10 +66,10 @@ add-t10 : tie.Need-overflow-add-t10
 add-t10 c = omega (arith, second c.before.before.before.before.before)
 
 returns-4 : tie.Need-returns-4
-unfolding userForm body_at line_at BodyWithin Within
+unfolding user_form body_at line_at BodyWithin Within
 returns-4 c =
     record {
-      is = rw ((first c.before.before.before.before.before.before.before.before.before).is, (second c.before.before.before.before.before).is, givens-to c.before.before.before.before.before.before.before.before.before.before.before.before.before.args.s.now c.before.before.before.before.before.q.given.0.0 c.before.g.given.0.0 c.before.before.before.givens-end.ensures c.before.g.given.1);
+      is = rw ((first c.before.before.before.before.before.before.before.before.before).is, (second c.before.before.before.before.before).is, givens_to c.before.before.before.before.before.before.before.before.before.before.before.before.before.args.s.now c.before.before.before.before.before.q.given.0.0 c.before.g.given.0.0 c.before.before.before.givens-end.ensures c.before.g.given.1);
       within = omega (arith, first c.before.before.before.before.before.before.before.before.before, second c.before.before.before.before.before);
     }
 

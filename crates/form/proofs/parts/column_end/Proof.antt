@@ -2,9 +2,9 @@
 -- Assumes nothing.
 use borrow.Author.Rules.{rules}
 use mathlib.Core.Path.{◌∙◌, sym}
-use Rattle.form.proofs.FormForward.{forward-columnBody}
-use Rattle.form.specs.FormReader.{column, columnBody}
-use Rattle.text.proofs.EndLaws.{bracket-end, bracket-none, bracket-wrong}
+use Rattle.form.proofs.FormForward.{forward_column_body}
+use Rattle.form.specs.FormReader.{column, column_body}
+use Rattle.text.proofs.EndLaws.{bracket_end, bracket_none, bracket_wrong}
 use Rattle.form.proofs.parts.column_end.Statement.{statement}
 use Rattle.form.proofs.parts.column_end.Tie as tie
 
@@ -22,7 +22,7 @@ unfolding column
 returns c =
     let s = c.before.before.before.before.args.s.now in
     let at = c.before.before.before.before.args.at in
-    bracket-none columnBody s at c.before.before.byte-end.ensures c.enum_told.given.1
+    bracket_none column_body s at c.before.before.byte-end.ensures c.enum_told.given.1
 
 column-body-end-requires : tie.Need-column-body-end-requires
 column-body-end-requires c κs = search rules
@@ -38,7 +38,7 @@ unfolding column
 returns-2 c =
     let s = c.before.before.before.before.before.before.before.before.args.s.now in
     let at = c.before.before.before.before.before.before.before.before.args.at in
-    bracket-wrong columnBody s at c.before.before.before.before.before.before.byte-end.ensures c.before.before.before.before.o.given.1 (sym c.enum-told2.given.1 ∙ c.before.before.column-body-end.ensures)
+    bracket_wrong column_body s at c.before.before.before.before.before.before.byte-end.ensures c.before.before.before.before.o.given.1 (sym c.enum-told2.given.1 ∙ c.before.before.column-body-end.ensures)
 
 byte-end-requires-2 : tie.Need-byte-end-requires-2
 byte-end-requires-2 c κs = search rules
@@ -48,7 +48,7 @@ unfolding column
 returns-3 c =
     let s = c.before.before.before.before.before.before.before.before.before.before.args.s.now in
     let at = c.before.before.before.before.before.before.before.before.before.before.args.at in
-    bracket-end columnBody s at c.before.before.before.before.before.before.before.before.byte-end.ensures forward-columnBody c.before.before.before.before.before.before.o.given.1 (sym c.before.before.n.given.1 ∙ c.before.before.before.before.column-body-end.ensures) c.byte-end2.ensures
+    bracket_end column_body s at c.before.before.before.before.before.before.before.before.byte-end.ensures forward_column_body c.before.before.before.before.before.before.o.given.1 (sym c.before.before.n.given.1 ∙ c.before.before.before.before.column-body-end.ensures) c.byte-end2.ensures
 
 pub column-end-spec : {M : Type 1} → statement M
 column-end-spec =

@@ -5,18 +5,18 @@ use borrow.Author.Rules.{rules}
 use lib.ListN.{length}
 use mathlib.Core.Path.{◌≡◌, refl}
 use native.Mathlib.Omega.{arith}
-use Rattle.form.proofs.FormForward.{forward-given}
-use Rattle.form.specs.FormReader.{givenForm}
-use Rattle.text.proofs.EndLaws.{list-less, list-more, list-stop, list-wrong}
-use Rattle.text.proofs.Spaces.{space-here}
+use Rattle.form.proofs.FormForward.{forward_given}
+use Rattle.form.specs.FormReader.{given_form}
+use Rattle.text.proofs.EndLaws.{list_less, list_more, list_stop, list_wrong}
+use Rattle.text.proofs.Spaces.{space_here}
 use Rattle.text.specs.Brackets.{many}
-use Rattle.text.specs.CodeEnds.{wordEnd}
+use Rattle.text.specs.CodeEnds.{word_end}
 use Rattle.text.specs.Reader.{from}
 use Rattle.form.proofs.parts.givens_end.Statement.{statement}
 use Rattle.form.proofs.parts.givens_end.Tie as tie
 
 abbrev invariant-loop : tie.invariant-loop
-invariant-loop s at i₀ i = wordEnd (many givenForm (from s i)) ≡ wordEnd (many givenForm (from s at))
+invariant-loop s at i₀ i = word_end (many given_form (from s i)) ≡ word_end (many given_form (from s at))
 
 abbrev decreases-loop : tie.decreases-loop
 decreases-loop s at i₀ i = length s - i
@@ -31,7 +31,7 @@ add-given-end : tie.Need-overflow-add-given-end invariant-loop decreases-loop
 add-given-end c =
     let s = c.before.before.before.before.args.s.now in
     let i = c.before.before.loop.i in
-    omega (arith, (space-here s i _ c.before.byte_at.ensures c.if1.true).1)
+    omega (arith, (space_here s i _ c.before.byte_at.ensures c.if1.true).1)
 
 given-end-requires : tie.Need-given-end-requires invariant-loop decreases-loop
 given-end-requires c κs = search rules
@@ -46,25 +46,25 @@ returns : tie.Need-returns invariant-loop decreases-loop
 returns c =
     let s = c.before.before.before.before.before.before.before.args.s.now in
     let i = c.before.before.before.before.before.loop.i in
-    list-wrong givenForm forward-given s i c.before.before.before.before.byte_at.ensures c.before.before.before.if1.true c.before.before.given-end.ensures c.enum_told.given.1 c.before.before.before.before.before.loop.invariant
+    list_wrong given_form forward_given s i c.before.before.before.before.byte_at.ensures c.before.before.before.if1.true c.before.before.given-end.ensures c.enum_told.given.1 c.before.before.before.before.before.loop.invariant
 
 loop-less : tie.Need-loop-smaller invariant-loop decreases-loop
 loop-less c =
     let s = c.before.before.before.before.before.before.before.before.args.s.now in
     let i = c.before.before.before.before.before.before.loop.i in
-    list-less givenForm forward-given s i c.before.before.before.before.before.byte_at.ensures c.before.before.before.before.if1.true c.before.before.before.given-end.ensures c.before.n.given.1
+    list_less given_form forward_given s i c.before.before.before.before.before.byte_at.ensures c.before.before.before.before.if1.true c.before.before.before.given-end.ensures c.before.n.given.1
 
 loop-again : tie.Need-loop-preserved invariant-loop decreases-loop
 loop-again c =
     let s = c.before.before.before.before.before.before.before.before.args.s.now in
     let i = c.before.before.before.before.before.before.loop.i in
-    list-more givenForm forward-given s i c.before.before.before.before.before.byte_at.ensures c.before.before.before.before.if1.true c.before.before.before.given-end.ensures c.before.n.given.1 c.before.before.before.before.before.before.loop.invariant
+    list_more given_form forward_given s i c.before.before.before.before.before.byte_at.ensures c.before.before.before.before.if1.true c.before.before.before.given-end.ensures c.before.n.given.1 c.before.before.before.before.before.before.loop.invariant
 
 returns-2 : tie.Need-returns-2 invariant-loop decreases-loop
 returns-2 c =
     let s = c.before.before.before.before.args.s.now in
     let i = c.before.before.loop.i in
-    list-stop givenForm forward-given s i c.before.byte_at.ensures c.if1.false c.before.before.loop.invariant
+    list_stop given_form forward_given s i c.before.byte_at.ensures c.if1.false c.before.before.loop.invariant
 
 pub givens-end-spec : {M : Type 1} → statement M
 givens-end-spec =

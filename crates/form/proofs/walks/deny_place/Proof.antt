@@ -1,8 +1,8 @@
 -- `form::walks::deny_place` meets its contract: each step of the walk is one of the definition. Assumes nothing.
 use borrow.Author.Rules.{rules}
 use mathlib.Core.Path.{◌∙◌, ap}
-use Rattle.form.specs.Walks.{allowPlace, denyPlace, firstIn, listEndAt}
-use Rattle.text.specs.Walking.{past, wordEndAt}
+use Rattle.form.specs.Walks.{allow_place, deny_place, first_in, list_end_at}
+use Rattle.text.specs.Walking.{past, word_end_at}
 use Rattle.form.proofs.walks.deny_place.Statement.{statement}
 use Rattle.form.proofs.walks.deny_place.Tie as tie
 
@@ -31,16 +31,16 @@ word-end-requires-2 : tie.Need-word-end-requires-2
 word-end-requires-2 c κs = search rules
 
 returns : tie.Need-returns
-unfolding denyPlace allowPlace wordEndAt
+unfolding deny_place allow_place word_end_at
 returns c =
     let s = c.before.before.before.before.before.before.before.before.before.args.line.now in
     c.word-end2.ensures
-    ∙ ap (wordEndAt s) (c.before.first-in2.ensures
-    ∙ ap (firstIn s) (c.before.before.skip-byte2.ensures
+    ∙ ap (word_end_at s) (c.before.first-in2.ensures
+    ∙ ap (first_in s) (c.before.before.skip-byte2.ensures
     ∙ ap (past 32 s) (c.before.before.before.skip-byte.ensures
     ∙ ap (past 41 s) (c.before.before.before.before.words-end.ensures
-    ∙ ap (listEndAt wordEndAt s) (c.before.before.before.before.before.word-end.ensures
-    ∙ ap (wordEndAt s) (c.before.before.before.before.before.before.first-in.ensures ∙ ap (firstIn s) c.before.before.before.before.before.before.before.next_word.ensures))))))
+    ∙ ap (list_end_at word_end_at s) (c.before.before.before.before.before.word-end.ensures
+    ∙ ap (word_end_at s) (c.before.before.before.before.before.before.first-in.ensures ∙ ap (first_in s) c.before.before.before.before.before.before.before.next_word.ensures))))))
 
 pub deny-place-spec : {M : Type 1} → statement M
 deny-place-spec =

@@ -1,6 +1,6 @@
 -- `gate::arrays::clock_of` meets its contract. Assumes nothing.
-use Rattle.gate.specs.Arrays.{clockIn}
-use Rattle.query.specs.HostClock.{clockOf}
+use Rattle.gate.specs.Arrays.{clock_in}
+use Rattle.query.specs.HostClock.{clock_of}
 use borrow.Author.Rules.{rules}
 use mathlib.Core.Path.{refl}
 use Rattle.gate.proofs.arrays.clock_of.Statement.{statement}
@@ -16,7 +16,7 @@ element-copy-out-t10 : tie.Need-element-copy-out-t10
 element-copy-out-t10 c = search rules
 
 returns : tie.Need-returns
-unfolding clockOf clockIn
+unfolding clock_of clock_in
 returns c = refl
 
 pub clock-of-spec : {M : Type 1} → statement M

@@ -1,5 +1,5 @@
 -- `gate::documents::hold` meets its contract, by that of the checker. Assumes nothing.
-use Rattle.gate.proofs.LoadLaws.{held-accepted, held-refused}
+use Rattle.gate.proofs.LoadLaws.{held_accepted, held_refused}
 use borrow.Author.Rules.{rules}
 use Rattle.gate.proofs.documents.hold.Statement.{statement}
 use Rattle.gate.proofs.documents.hold.Tie as tie
@@ -20,10 +20,10 @@ store-none-requires : tie.Need-store-none-requires
 store-none-requires c κs = search rules
 
 returns : tie.Need-returns
-returns c = held-accepted (c.before.before.before.before.before.load.ensures.accepts _ _ c.before.before.before.r.given.1) c.store-counts.ensures
+returns c = held_accepted (c.before.before.before.before.before.load.ensures.accepts _ _ c.before.before.before.r.given.1) c.store-counts.ensures
 
 returns-2 : tie.Need-returns-2
-returns-2 c = held-refused (c.before.before.before.before.before.load.ensures.refuses _ c.before.before.before.r2.given.1) c.store-none.ensures
+returns-2 c = held_refused (c.before.before.before.before.before.load.ensures.refuses _ c.before.before.before.r2.given.1) c.store-none.ensures
 
 pub hold-spec : {M : Type 1} → statement M
 hold-spec =

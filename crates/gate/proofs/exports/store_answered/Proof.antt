@@ -1,5 +1,5 @@
 -- `gate::exports::store_answered` meets its contract. Assumes nothing.
-use Rattle.gate.proofs.ExportLaws.{given-answer, refused-answer}
+use Rattle.gate.proofs.ExportLaws.{given_answer, refused_answer}
 use borrow.Author.Rules.{rules}
 use Rattle.gate.proofs.exports.store_answered.Statement.{statement}
 use Rattle.gate.proofs.exports.store_answered.Tie as tie
@@ -17,10 +17,10 @@ store-five-requires : tie.Need-store-five-requires
 store-five-requires c κs = search rules
 
 returns : tie.Need-returns
-returns c = refused-answer _ _ _ _ c.before.before.before.x.given.1 c.store-refusal.ensures
+returns c = refused_answer _ _ _ _ c.before.before.before.x.given.1 c.store-refusal.ensures
 
 returns-2 : tie.Need-returns-2
-returns-2 c = given-answer _ _ _ c.before.before.before.x2.given.1 c.store-five.ensures
+returns-2 c = given_answer _ _ _ c.before.before.before.x2.given.1 c.store-five.ensures
 
 pub store-answered-spec : {M : Type 1} → statement M
 store-answered-spec =

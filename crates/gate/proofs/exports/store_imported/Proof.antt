@@ -1,6 +1,6 @@
 -- `gate::exports::store_imported` meets its contract. Assumes nothing.
-use Rattle.gate.proofs.ExportLaws.{refused-length, stored-length}
-use Rattle.import.specs.Outside.{importedAs}
+use Rattle.gate.proofs.ExportLaws.{refused_length, stored_length}
+use Rattle.import.specs.Outside.{imported_as}
 use borrow.Author.Rules.{rules}
 use mathlib.Core.Path.{ap}
 use Rattle.gate.proofs.exports.store_imported.Statement.{statement}
@@ -19,10 +19,10 @@ store-five-requires : tie.Need-store-five-requires
 store-five-requires c κs = search rules
 
 returns : tie.Need-returns
-returns c = refused-length _ _ _ c.before.before.before.x.given.0.0 (ap importedAs c.before.before.before.x.given.1) c.store-refusal.ensures
+returns c = refused_length _ _ _ c.before.before.before.x.given.0.0 (ap imported_as c.before.before.before.x.given.1) c.store-refusal.ensures
 
 returns-2 : tie.Need-returns-2
-returns-2 c = stored-length _ _ c.before.before.before.x2.given.0.0 (ap importedAs c.before.before.before.x2.given.1) c.store-five.ensures
+returns-2 c = stored_length _ _ c.before.before.before.x2.given.0.0 (ap imported_as c.before.before.before.x2.given.1) c.store-five.ensures
 
 pub store-imported-spec : {M : Type 1} → statement M
 store-imported-spec =

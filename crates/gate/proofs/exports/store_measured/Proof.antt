@@ -1,6 +1,6 @@
 -- `gate::exports::store_measured` meets its contract. Assumes nothing.
-use Rattle.gate.proofs.ExportLaws.{refused-length, stored-length}
-use Rattle.loaded.specs.Outside.{measuredAs}
+use Rattle.gate.proofs.ExportLaws.{refused_length, stored_length}
+use Rattle.loaded.specs.Outside.{measured_as}
 use borrow.Author.Rules.{rules}
 use mathlib.Core.Path.{ap}
 use Rattle.gate.proofs.exports.store_measured.Statement.{statement}
@@ -19,12 +19,12 @@ store-five-requires : tie.Need-store-five-requires
 store-five-requires c κs = search rules
 
 returns : tie.Need-returns
-unfolding measuredAs
-returns c = refused-length _ _ _ c.before.before.before.x.given.0.0 (ap measuredAs c.before.before.before.x.given.1) c.store-refusal.ensures
+unfolding measured_as
+returns c = refused_length _ _ _ c.before.before.before.x.given.0.0 (ap measured_as c.before.before.before.x.given.1) c.store-refusal.ensures
 
 returns-2 : tie.Need-returns-2
-unfolding measuredAs
-returns-2 c = stored-length _ _ c.before.before.before.x2.given.0.0 (ap measuredAs c.before.before.before.x2.given.1) c.store-five.ensures
+unfolding measured_as
+returns-2 c = stored_length _ _ c.before.before.before.x2.given.0.0 (ap measured_as c.before.before.before.x2.given.1) c.store-five.ensures
 
 pub store-measured-spec : {M : Type 1} → statement M
 store-measured-spec =

@@ -2,7 +2,7 @@
 use borrow.Author.Rules.{rules}
 use mathlib.Core.List.{[], ◌∷◌}
 use mathlib.Core.Path.{◌∙◌, ap}
-use Rattle.gate.specs.Exports.{refusalFigures}
+use Rattle.gate.specs.Exports.{refusal_figures}
 use Rattle.gate.proofs.exports.store_refusal.Statement.{statement}
 use Rattle.gate.proofs.exports.store_refusal.Tie as tie
 
@@ -16,7 +16,7 @@ store-five-requires : tie.Need-store-five-requires
 store-five-requires c κs = search rules
 
 returns : tie.Need-returns
-unfolding refusalFigures
+unfolding refusal_figures
 returns c = record {
   code = c.before.before.number.ensures;
   filled = c.store-five.ensures ∙ ap (λ s. s ∷ c.before.before.before.before.args.r.start ∷ c.before.before.before.before.args.r.len ∷ 0 ∷ 0 ∷ []) c.before.before.before.source-code.ensures;

@@ -1,5 +1,5 @@
 -- `gate::measuring::measure` meets its contract: the document's refusal, or the measure over the arrays that hold it. Assumes nothing.
-use Rattle.gate.proofs.LoadLaws.{measured-refused, told-accepted, told-refused}
+use Rattle.gate.proofs.LoadLaws.{measured_refused, told_accepted, told_refused}
 use borrow.Author.Rules.{rules}
 use Rattle.gate.proofs.measuring.measure.Statement.{statement}
 use Rattle.gate.proofs.measuring.measure.Tie as tie
@@ -17,10 +17,10 @@ measure-loaded-requires : tie.Need-measure-loaded-requires
 measure-loaded-requires c κs = search rules
 
 returns : tie.Need-returns
-returns c = measured-refused _ _ _ _ (told-refused c.before.before.before.hold.ensures c.before.r.given.1).0
+returns c = measured_refused _ _ _ _ (told_refused c.before.before.before.hold.ensures c.before.r.given.1).0
 
 returns-2 : tie.Need-returns-2
-returns-2 c = c.measure-loaded.ensures (told-accepted c.before.before.before.before.before.before.before.before.before.before.before.before.before.hold.ensures c.before.before.before.before.before.before.before.before.before.before.before.enum_told.given.1).holds
+returns-2 c = c.measure-loaded.ensures (told_accepted c.before.before.before.before.before.before.before.before.before.before.before.before.before.hold.ensures c.before.before.before.before.before.before.before.before.before.before.before.enum_told.given.1).holds
 
 pub measure-spec : {M : Type 1} → statement M
 measure-spec =

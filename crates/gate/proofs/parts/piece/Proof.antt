@@ -1,7 +1,7 @@
 -- `gate::parts::piece` meets its contract. Assumes nothing.
 use borrow.Author.Rules.{rules}
 use native.Mathlib.Omega.{arith}
-use Rattle.gate.proofs.PartLaws.{piece-behind, piece-end, piece_inside}
+use Rattle.gate.proofs.PartLaws.{piece_behind, piece_end, piece_inside}
 use Rattle.gate.proofs.parts.piece.Statement.{statement}
 use Rattle.gate.proofs.parts.piece.Tie as tie
 
@@ -9,7 +9,7 @@ slice-aggregate-result : tie.Need-slice-aggregate-result
 slice-aggregate-result c = search rules
 
 returns : tie.Need-returns
-returns c = piece-behind c.before.before.args.s.now c.before.before.args.start c.before.before.args.len (omega (arith, c.before.if1.true))
+returns c = piece_behind c.before.before.args.s.now c.before.before.args.start c.before.before.args.len (omega (arith, c.before.if1.true))
 
 sub-if2 : tie.Need-overflow-sub-if2
 sub-if2 c = search rules
@@ -39,7 +39,7 @@ part-result-end-2 : tie.Need-slice-bounds-result-end-2
 part-result-end-2 c = search rules
 
 returns-3 : tie.Need-returns-3
-returns-3 c = piece-end c.before.before.before.args.s.now c.before.before.before.args.start c.before.before.before.args.len (omega (arith, c.before.if2.false))
+returns-3 c = piece_end c.before.before.before.args.s.now c.before.before.before.args.start c.before.before.before.args.len (omega (arith, c.before.if2.false))
 
 pub piece-spec : {M : Type 1} → statement M
 piece-spec =

@@ -1,7 +1,7 @@
 -- `import::importing::judge_scanned` meets its contract. Assumes nothing.
-use Rattle.import.proofs.ImportLaws.{and_first, and_second, judged-fit, judged-nameless, judged-short, judged-unfit, name-short}
+use Rattle.import.proofs.ImportLaws.{and_first, and_second, judged_fit, judged_nameless, judged_short, judged_unfit, name_short}
 use Rattle.lists.proofs.Tests.{and_both}
-use Rattle.text.specs.Names.{isName}
+use Rattle.text.specs.Names.{is_name}
 use borrow.Author.Rules.{rules}
 use borrow.Author.Tests.{not-false, not-true}
 use mathlib.Core.Path.{◌∙◌, sym}
@@ -18,7 +18,7 @@ refusal-at-requires c κs = search rules
 returns : tie.Need-returns
 returns c =
     let entry = c.before.before.before.before.before.args in
-    λ es s. judged-nameless entry.table.now entry.label.now entry.room es s c.refusal-at.result (and_first (isName entry.table.now) (isName entry.label.now) (sym c.before.before.is_name.ensures ∙ not-true _ c.before.if1.true)) c.refusal-at.ensures
+    λ es s. judged_nameless entry.table.now entry.label.now entry.room es s c.refusal-at.result (and_first (is_name entry.table.now) (is_name entry.label.now) (sym c.before.before.is_name.ensures ∙ not-true _ c.before.if1.true)) c.refusal-at.ensures
 
 is-name-requires-2 : tie.Need-is-name-requires-2
 is-name-requires-2 c κs = search rules
@@ -29,7 +29,7 @@ refusal-at-requires-2 c κs = search rules
 returns-2 : tie.Need-returns-2
 returns-2 c =
     let entry = c.before.before.before.before.before.before.before.args in
-    λ es s. judged-nameless entry.table.now entry.label.now entry.room es s c.refusal-at2.result (and_second (isName entry.table.now) (isName entry.label.now) (sym c.before.before.is-name2.ensures ∙ not-true _ c.before.if2.true)) c.refusal-at2.ensures
+    λ es s. judged_nameless entry.table.now entry.label.now entry.room es s c.refusal-at2.result (and_second (is_name entry.table.now) (is_name entry.label.now) (sym c.before.before.is-name2.ensures ∙ not-true _ c.before.if2.true)) c.refusal-at2.ensures
 
 enum-known-unfit : tie.Need-enum-known-unfit
 enum-known-unfit c = search rules
@@ -40,7 +40,7 @@ refusal-at-requires-3 c κs = search rules
 returns-3 : tie.Need-returns-3
 returns-3 c =
     let entry = c.before.before.before.before.before.before.before.before.before.before.args in
-    λ es s. judged-unfit entry.table.now entry.label.now entry.room es s (and_both (isName entry.table.now) (isName entry.label.now) (sym c.before.before.before.before.before.before.before.is_name.ensures ∙ not-false _ c.before.before.before.before.before.before.if1.false) (sym c.before.before.before.before.before.is-name2.ensures ∙ not-false _ c.before.before.before.before.if2.false)) c.refusal-at3.result c.before.before.unfit.given.1 c.refusal-at3.ensures
+    λ es s. judged_unfit entry.table.now entry.label.now entry.room es s (and_both (is_name entry.table.now) (is_name entry.label.now) (sym c.before.before.before.before.before.before.before.is_name.ensures ∙ not-false _ c.before.before.before.before.before.before.if1.false) (sym c.before.before.before.before.before.is-name2.ensures ∙ not-false _ c.before.before.before.before.if2.false)) c.refusal-at3.result c.before.before.unfit.given.1 c.refusal-at3.ensures
 
 enum_told : tie.Need-enum-told
 enum_told c = search rules
@@ -51,7 +51,7 @@ add-length-within c = search rules
 add-length-within-2 : tie.Need-overflow-add-length-within-2
 add-length-within-2 c =
     let entry = c.before.before.before.before.before.before.before.before.args in
-    omega (arith, name-short entry.table.now (sym c.before.before.before.before.before.is_name.ensures ∙ not-false _ c.before.before.before.before.if1.false), name-short entry.label.now (sym c.before.before.before.is-name2.ensures ∙ not-false _ c.before.before.if2.false))
+    omega (arith, name_short entry.table.now (sym c.before.before.before.before.before.is_name.ensures ∙ not-false _ c.before.before.before.before.if1.false), name_short entry.label.now (sym c.before.before.before.is-name2.ensures ∙ not-false _ c.before.before.if2.false))
 
 length-within-requires : tie.Need-length-within-requires
 length-within-requires c κs = search rules
@@ -68,12 +68,12 @@ refusal-at-requires-4 c κs = search rules
 returns-4 : tie.Need-returns-4
 returns-4 c =
     let entry = c.before.before.before.before.before.before.before.before.before.before.before.before.args in
-    λ es s. judged-short entry.table.now entry.label.now entry.room es s (and_both (isName entry.table.now) (isName entry.label.now) (sym c.before.before.before.before.before.before.before.before.before.is_name.ensures ∙ not-false _ c.before.before.before.before.before.before.before.before.if1.false) (sym c.before.before.before.before.before.before.before.is-name2.ensures ∙ not-false _ c.before.before.before.before.before.before.if2.false)) c.before.before.before.before.enum_told.given.1 c.refusal-at4.result (sym c.before.before.before.length-within.ensures ∙ c.before.enum-told2.given.1) c.refusal-at4.ensures
+    λ es s. judged_short entry.table.now entry.label.now entry.room es s (and_both (is_name entry.table.now) (is_name entry.label.now) (sym c.before.before.before.before.before.before.before.before.before.is_name.ensures ∙ not-false _ c.before.before.before.before.before.before.before.before.if1.false) (sym c.before.before.before.before.before.before.before.is-name2.ensures ∙ not-false _ c.before.before.before.before.before.before.if2.false)) c.before.before.before.before.enum_told.given.1 c.refusal-at4.result (sym c.before.before.before.length-within.ensures ∙ c.before.enum-told2.given.1) c.refusal-at4.ensures
 
 returns-5 : tie.Need-returns-5
 returns-5 c =
     let entry = c.before.before.before.before.before.before.before.before.before.before.before.before.args in
-    λ es s. judged-fit entry.table.now entry.label.now entry.room es s (and_both (isName entry.table.now) (isName entry.label.now) (sym c.before.before.before.before.before.before.before.before.before.is_name.ensures ∙ not-false _ c.before.before.before.before.before.before.before.before.if1.false) (sym c.before.before.before.before.before.before.before.is-name2.ensures ∙ not-false _ c.before.before.before.before.before.before.if2.false)) c.before.before.before.before.enum_told.given.1 (sym c.before.before.before.length-within.ensures ∙ c.before.l.given.1)
+    λ es s. judged_fit entry.table.now entry.label.now entry.room es s (and_both (is_name entry.table.now) (is_name entry.label.now) (sym c.before.before.before.before.before.before.before.before.before.is_name.ensures ∙ not-false _ c.before.before.before.before.before.before.before.before.if1.false) (sym c.before.before.before.before.before.before.before.is-name2.ensures ∙ not-false _ c.before.before.before.before.before.before.if2.false)) c.before.before.before.before.enum_told.given.1 (sym c.before.before.before.length-within.ensures ∙ c.before.l.given.1)
 
 pub judge-scanned-spec : {M : Type 1} → statement M
 judge-scanned-spec =

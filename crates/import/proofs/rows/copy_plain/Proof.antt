@@ -1,5 +1,5 @@
 -- `import::rows::copy_plain` meets its contract. Assumes nothing.
-use Rattle.import.proofs.CopyLaws.{copy-all, copy_rest}
+use Rattle.import.proofs.CopyLaws.{copy_all, copy_rest}
 use borrow.Author.Rules.{rules}
 use mathlib.Core.Path.{◌∙◌}
 use Rattle.import.proofs.rows.copy_plain.Statement.{statement}
@@ -15,7 +15,7 @@ same_length : tie.Need-same-length
 same_length c = c.before.before.before.before.copy-sure.ensures.kept
 
 returns : tie.Need-returns
-returns c = let entry = c.before.before.before.before.before.before.before.before.before.args in copy-all entry.s.now entry.at c.before.before.before.before.copy-sure.result c.before.before.before.before.copy-sure.ensures c.if1.true
+returns c = let entry = c.before.before.before.before.before.before.before.before.before.args in copy_all entry.s.now entry.at c.before.before.before.before.copy-sure.result c.before.before.before.before.copy-sure.ensures c.if1.true
 
 copy-slowly-requires : tie.Need-copy-slowly-requires
 copy-slowly-requires c κs = search rules

@@ -1,7 +1,7 @@
 -- `import::rows::copy_slowly` meets its contract. The loop's invariant: to write the plain bytes from the loop's place on comes to
 -- the same as to write them all at the start. Assumes nothing.
 use Prim.Native.Nat.{◌-◌}
-use Rattle.import.proofs.CopyLaws.{Copying, copy_more, copy-none, copy_start, copy-stop}
+use Rattle.import.proofs.CopyLaws.{Copying, copy_more, copy_none, copy_start, copy_stop}
 use borrow.Author.Rules.{rules}
 use borrow.Author.Tests.{not-false, not-true}
 use lib.ListN.{length}
@@ -29,7 +29,7 @@ same_length : tie.Need-same-length invariant-loop decreases-loop
 same_length c = c.before.before.before.before.loop.invariant.ahead.kept
 
 returns : tie.Need-returns invariant-loop decreases-loop
-returns c = let entry = c.before.before.before.before.before.before.before.args in copy-stop entry.s.now entry.at c.before.before.before.before.loop.invariant c.before.before.before.loop-test.true (sym c.before.is_plain.ensures ∙ not-true _ c.if1.true) _ refl refl
+returns c = let entry = c.before.before.before.before.before.before.before.args in copy_stop entry.s.now entry.at c.before.before.before.before.loop.invariant c.before.before.before.loop-test.true (sym c.before.is_plain.ensures ∙ not-true _ c.if1.true) _ refl refl
 
 shared-slice-read-put-byte : tie.Need-shared-slice-read-put-byte invariant-loop decreases-loop
 shared-slice-read-put-byte c = search rules
@@ -50,7 +50,7 @@ same-length-2 : tie.Need-same-length-2 invariant-loop decreases-loop
 same-length-2 c = c.before.loop.invariant.ahead.kept
 
 returns-2 : tie.Need-returns-2 invariant-loop decreases-loop
-returns-2 c = let entry = c.before.before.before.before.args in copy-none entry.s.now entry.at c.before.loop.invariant c.loop-test.false _ refl refl
+returns-2 c = let entry = c.before.before.before.before.args in copy_none entry.s.now entry.at c.before.loop.invariant c.loop-test.false _ refl refl
 
 pub copy-slowly-spec : {M : Type 1} → statement M
 copy-slowly-spec =

@@ -1,9 +1,9 @@
 -- `import::rows::copy_sure` meets its contract. The loop's invariant: to write the plain bytes from the loop's place on comes to the
 -- same as to write them all at the start, and both places went on by as much. Assumes nothing.
 use Prim.Native.Nat.{◌+◌, ◌-◌, ◌<◌, ◌≤◌}
-use Rattle.import.proofs.CopyLaws.{Copying, copy_more, copy-part, copy_start}
-use Rattle.csv.proofs.FieldLaws.{plain-stop}
-use Rattle.writing.proofs.Writing.{wrote-byte}
+use Rattle.import.proofs.CopyLaws.{Copying, copy_more, copy_part, copy_start}
+use Rattle.csv.proofs.FieldLaws.{plain_stop}
+use Rattle.writing.proofs.Writing.{wrote_byte}
 use borrow.Author.Rules.{rules}
 use borrow.Author.Tests.{not-false, not-true}
 use lib.ListN.{length}
@@ -34,7 +34,7 @@ returns : tie.Need-returns invariant-loop decreases-loop
 returns c =
     let entry = c.before.before.before.before.before.before.before.args in
     let h : c.before.before.before.before.loop.i < length entry.s.now = omega (arith, c.before.before.before.loop-test.true, c.before.before.before.before.before.before.before.requires.inside (omega (arith, c.before.before.before.loop-test.true, c.before.before.before.before.loop.invariant.1))) in
-    copy-part entry.s.now entry.at c.before.before.before.before.loop.invariant.0 entry.end (λ k. plain-stop entry.s.now c.before.before.before.before.loop.i h (sym c.before.is_plain.ensures ∙ not-true _ c.if1.true))
+    copy_part entry.s.now entry.at c.before.before.before.before.loop.invariant.0 entry.end (λ k. plain_stop entry.s.now c.before.before.before.before.loop.i h (sym c.before.is_plain.ensures ∙ not-true _ c.if1.true))
 
 shared-slice-read-out : tie.Need-shared-slice-read-out invariant-loop decreases-loop
 shared-slice-read-out c = omega (arith, c.before.before.before.before.loop-test.true, c.before.before.before.before.before.before.before.before.requires.inside (omega (arith, c.before.before.before.before.loop-test.true, c.before.before.before.before.before.loop.invariant.1)))
@@ -55,13 +55,13 @@ loop-again : tie.Need-loop-preserved invariant-loop decreases-loop
 loop-again c =
     let entry = c.before.before.before.before.before.before.before.before.args in
     let h : c.before.before.before.before.before.loop.i < length entry.s.now = omega (arith, c.before.before.before.before.loop-test.true, c.before.before.before.before.before.before.before.before.requires.inside (omega (arith, c.before.before.before.before.loop-test.true, c.before.before.before.before.before.loop.invariant.1))) in
-    (copy_more entry.s.now entry.at c.before.before.before.before.before.loop.invariant.0 h (sym c.before.before.is_plain.ensures ∙ not-false _ c.before.if1.false) (wrote-byte _ _ _), omega (arith, c.before.before.before.before.before.loop.invariant.1), omega (arith, c.before.before.before.before.before.loop.invariant.2))
+    (copy_more entry.s.now entry.at c.before.before.before.before.before.loop.invariant.0 h (sym c.before.before.is_plain.ensures ∙ not-false _ c.before.if1.false) (wrote_byte _ _ _), omega (arith, c.before.before.before.before.before.loop.invariant.1), omega (arith, c.before.before.before.before.before.loop.invariant.2))
 
 same-length-2 : tie.Need-same-length-2 invariant-loop decreases-loop
 same-length-2 c = c.before.loop.invariant.0.ahead.kept
 
 returns-2 : tie.Need-returns-2 invariant-loop decreases-loop
-returns-2 c = let entry = c.before.before.before.before.args in copy-part entry.s.now entry.at c.before.loop.invariant.0 entry.end (λ k. absurd (omega (arith, k, c.loop-test.false)))
+returns-2 c = let entry = c.before.before.before.before.args in copy_part entry.s.now entry.at c.before.loop.invariant.0 entry.end (λ k. absurd (omega (arith, k, c.loop-test.false)))
 
 pub copy-sure-spec : {M : Type 1} → statement M
 copy-sure-spec =

@@ -1,6 +1,6 @@
 -- `import::rows::has_room` meets its contract. Assumes nothing.
 use Prim.Native.Nat.{◌-◌}
-use Rattle.lists.proofs.Tests.{true-not-false}
+use Rattle.lists.proofs.Tests.{true_not_false}
 use borrow.Author.Rules.{rules}
 use borrow.Author.Tests.{leb-true}
 use mathlib.Core.Path.{refl}
@@ -9,7 +9,7 @@ use Rattle.import.proofs.rows.has_room.Statement.{statement}
 use Rattle.import.proofs.rows.has_room.Tie as tie
 
 returns : tie.Need-returns
-returns c = λ e. true-not-false e refl
+returns c = λ e. true_not_false e refl
 
 sub-result : tie.Need-overflow-sub-result
 sub-result c = search rules

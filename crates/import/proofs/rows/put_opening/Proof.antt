@@ -1,5 +1,5 @@
 -- `import::rows::put_opening` meets its contract. Assumes nothing.
-use Rattle.writing.proofs.Writing.{both, wrote-byte}
+use Rattle.writing.proofs.Writing.{both, wrote_byte}
 use borrow.Author.Rules.{rules}
 use borrow.Author.Tests.{not-false}
 use lib.ListN.{length-set}
@@ -56,7 +56,7 @@ same-length-2 : tie.Need-same-length-2
 same-length-2 c = rw (length-set, length-set, length-set, length-set, length-set)
 
 returns-2 : tie.Need-returns-2
-returns-2 c = both (both (both (both (wrote-byte _ _ _) (wrote-byte _ _ _)) (wrote-byte _ _ _)) (wrote-byte _ _ _)) (wrote-byte _ _ _)
+returns-2 c = both (both (both (both (wrote_byte _ _ _) (wrote_byte _ _ _)) (wrote_byte _ _ _)) (wrote_byte _ _ _)) (wrote_byte _ _ _)
 
 pub put-opening-spec : {M : Type 1} → statement M
 put-opening-spec =

@@ -1,11 +1,11 @@
 -- `judging::constants::read_constant` meets its contract. Assumes nothing.
-use Rattle.judging.proofs.ConstantLaws.{date-missed, date-read, name-missed, name-read, number-missed, number_read}
-use Rattle.judging.proofs.DateLaws.{missing-date, missing-rank, other-date, other-rank, ranked-date, ranked-is}
-use Rattle.text.proofs.CodeLaws.{amount-is, amount-nothing, word-at, word-nothing}
-use Rattle.text.proofs.Enclosed.{written-isName, written-rank}
-use Rattle.text.specs.Names.{isName}
+use Rattle.judging.proofs.ConstantLaws.{date_missed, date_read, name_missed, name_read, number_missed, number_read}
+use Rattle.judging.proofs.DateLaws.{missing_date_lem, missing_rank, other_date, other_rank, ranked_date, ranked_is}
+use Rattle.text.proofs.CodeLaws.{amount_is, amount_nothing, word_at_lem, word_nothing}
+use Rattle.text.proofs.Enclosed.{written_is_name, written_rank}
+use Rattle.text.specs.Names.{is_name}
 use Rattle.text.specs.Numbers.{rank}
-use Rattle.text.specs.Words.{word_at, writtenAt}
+use Rattle.text.specs.Words.{word_at, written_at}
 use mathlib.Core.Path.{◌∙◌, sym}
 use borrow.Author.Rules.{rules}
 use Rattle.judging.proofs.constants.read_constant.Statement.{statement}
@@ -60,48 +60,48 @@ returns : tie.Need-returns
 returns c =
     let a = c.before.before.before.before.before.before.before.before.args in
     let s = a.query.now in
-    number_read a.kind (writtenAt s a.at) c.before.before.before.before.before.enum_told.given.1 _ c.rank-number.result
-    (written-rank s a.at ∙ amount-is (rank (word_at s a.at)) _ (sym c.before.before.before.before.rank-at.ensures ∙ c.before.before.n.given.1))
+    number_read a.kind (written_at s a.at) c.before.before.before.before.before.enum_told.given.1 _ c.rank-number.result
+    (written_rank s a.at ∙ amount_is (rank (word_at s a.at)) _ (sym c.before.before.before.before.rank-at.ensures ∙ c.before.before.n.given.1))
     c.rank-number.ensures
 
 returns-2 : tie.Need-returns-2
 returns-2 c =
     let a = c.before.before.before.before.before.before.args in
     let s = a.query.now in
-    number-missed a.kind (writtenAt s a.at) c.before.before.before.enum_told.given.1 (written-rank s a.at ∙ amount-nothing (rank (word_at s a.at)) (sym c.before.before.rank-at.ensures ∙ c.enum-told2.given.1))
+    number_missed a.kind (written_at s a.at) c.before.before.before.enum_told.given.1 (written_rank s a.at ∙ amount_nothing (rank (word_at s a.at)) (sym c.before.before.rank-at.ensures ∙ c.enum-told2.given.1))
 
 returns-3 : tie.Need-returns-3
 returns-3 c =
     let a = c.before.before.before.before.before.before.args in
     let s = a.query.now in
-    name-read a.kind (writtenAt s a.at) c.before.before.before.enum-told3.given.1 (written-isName s a.at ∙ (word-at s a.at isName _ (sym c.before.before.name-end.ensures ∙ c.enum-told4.given.1)).0)
+    name_read a.kind (written_at s a.at) c.before.before.before.enum-told3.given.1 (written_is_name s a.at ∙ (word_at_lem s a.at is_name _ (sym c.before.before.name-end.ensures ∙ c.enum-told4.given.1)).0)
 
 returns-4 : tie.Need-returns-4
 returns-4 c =
     let a = c.before.before.before.before.before.before.args in
     let s = a.query.now in
-    name-missed a.kind (writtenAt s a.at) c.before.before.before.enum-told3.given.1 (written-isName s a.at ∙ word-nothing s a.at isName (sym c.before.before.name-end.ensures ∙ c.enum-told5.given.1))
+    name_missed a.kind (written_at s a.at) c.before.before.before.enum-told3.given.1 (written_is_name s a.at ∙ word_nothing s a.at is_name (sym c.before.before.name-end.ensures ∙ c.enum-told5.given.1))
 
 returns-5 : tie.Need-returns-5
 returns-5 c =
     let a = c.before.before.before.before.before.before.before.before.args in
     let s = a.query.now in
     let e = sym c.before.before.before.before.read-date.ensures ∙ c.before.before.d.given.1 in
-    date-read a.kind (writtenAt s a.at) c.before.before.before.before.before.enum-told6.given.1 c.rank-number2.result (ranked-date s a.at _ _ e) (c.rank-number2.ensures ∙ ranked-is s a.at _ _ e)
+    date_read a.kind (written_at s a.at) c.before.before.before.before.before.enum-told6.given.1 c.rank-number2.result (ranked_date s a.at _ _ e) (c.rank-number2.ensures ∙ ranked_is s a.at _ _ e)
 
 returns-6 : tie.Need-returns-6
 returns-6 c =
     let a = c.before.before.before.before.before.before.args in
     let s = a.query.now in
     let e = sym c.before.before.read-date.ensures ∙ c.enum-told7.given.1 in
-    date-read a.kind (writtenAt s a.at) c.before.before.before.enum-told6.given.1 0 (missing-date s a.at _ e) (missing-rank s a.at _ e)
+    date_read a.kind (written_at s a.at) c.before.before.before.enum-told6.given.1 0 (missing_date_lem s a.at _ e) (missing_rank s a.at _ e)
 
 returns-7 : tie.Need-returns-7
 returns-7 c =
     let a = c.before.before.before.before.before.before.args in
     let s = a.query.now in
     let e = sym c.before.before.read-date.ensures ∙ c.enum-told8.given.1 in
-    date-missed a.kind (writtenAt s a.at) c.before.before.before.enum-told6.given.1 (other-date s a.at e) (other-rank s a.at e)
+    date_missed a.kind (written_at s a.at) c.before.before.before.enum-told6.given.1 (other_date s a.at e) (other_rank s a.at e)
 
 pub read-constant-spec : {M : Type 1} → statement M
 read-constant-spec =

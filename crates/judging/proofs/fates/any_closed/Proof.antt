@@ -1,10 +1,10 @@
 -- `judging::fates::any_closed` meets its contract. The loop's invariant: whether one of the columns from i on is
 -- closed is whether one of them all is. Assumes nothing.
 use Prim.Native.Nat.{◌-◌, ◌<◌, ◌≤◌}
-use Rattle.judging.proofs.OpenCells.{any_found, any-more, any_none}
-use Rattle.judging.specs.Marking.{openUnder}
+use Rattle.judging.proofs.OpenCells.{any_found, any_more, any_none}
+use Rattle.judging.specs.Marking.{open_under}
 use Rattle.lists.specs.Lists.{any_of}
-use Rattle.relations.specs.Rows.{labelCountIn, labelRoom, labelsIn}
+use Rattle.relations.specs.Rows.{label_count_in, label_room, labels_in}
 use borrow.Author.Rules.{rules}
 use lib.ListN.{drop, length}
 use mathlib.Core.Bool.{not}
@@ -14,7 +14,7 @@ use Rattle.judging.proofs.fates.any_closed.Statement.{statement}
 use Rattle.judging.proofs.fates.any_closed.Tie as tie
 
 abbrev invariant-loop : tie.invariant-loop
-invariant-loop rows said m r columns i₀ i = (r < 1024 → labelCountIn rows r ≤ labelRoom → any_of (λ k. not (openUnder said m (labelsIn rows r) k)) (drop i columns) ≡ any_of (λ k. not (openUnder said m (labelsIn rows r) k)) columns)
+invariant-loop rows said m r columns i₀ i = (r < 1024 → label_count_in rows r ≤ label_room → any_of (λ k. not (open_under said m (labels_in rows r) k)) (drop i columns) ≡ any_of (λ k. not (open_under said m (labels_in rows r) k)) columns)
 
 abbrev decreases-loop : tie.decreases-loop
 decreases-loop rows said m r columns i₀ i = length columns - i
@@ -35,7 +35,7 @@ returns : tie.Need-returns invariant-loop decreases-loop
 returns c =
     let a = c.before.before.before.before.before.before.args in
     let l = c.before.before.before.before.loop in
-    λ i f. sym (any_found (λ k. not (openUnder a.said.now a.m (labelsIn a.rows.now a.r) k)) a.columns.now l.i
+    λ i f. sym (any_found (λ k. not (open_under a.said.now a.m (labels_in a.rows.now a.r) k)) a.columns.now l.i
     c.before.before.before.loop-test.true
     (ap not (sym (c.before.cell-open.ensures i f)) ∙ c.if1.true)) ∙ l.invariant i f
 
@@ -49,14 +49,14 @@ loop-again : tie.Need-loop-preserved invariant-loop decreases-loop
 loop-again c =
     let a = c.before.before.before.before.before.before.args in
     let l = c.before.before.before.before.loop in
-    λ i f. sym (any-more (λ k. not (openUnder a.said.now a.m (labelsIn a.rows.now a.r) k)) a.columns.now l.i
+    λ i f. sym (any_more (λ k. not (open_under a.said.now a.m (labels_in a.rows.now a.r) k)) a.columns.now l.i
     c.before.before.before.loop-test.true
     (ap not (sym (c.before.cell-open.ensures i f)) ∙ c.if1.false)) ∙ l.invariant i f
 
 returns-2 : tie.Need-returns-2 invariant-loop decreases-loop
 returns-2 c =
     let a = c.before.before.before.args in
-    λ i f. sym (any_none (λ k. not (openUnder a.said.now a.m (labelsIn a.rows.now a.r) k)) a.columns.now c.before.loop.i c.loop-test.false) ∙ c.before.loop.invariant i f
+    λ i f. sym (any_none (λ k. not (open_under a.said.now a.m (labels_in a.rows.now a.r) k)) a.columns.now c.before.loop.i c.loop-test.false) ∙ c.before.loop.invariant i f
 
 pub any-closed-spec : {M : Type 1} → statement M
 any-closed-spec =

@@ -1,7 +1,7 @@
 -- `judging::fates::count_row` meets its contract. Assumes nothing.
 use borrow.Author.Rules.{rules}
 use mathlib.Core.Path.{ap, sym}
-use Rattle.judging.specs.Judging.{countedBy}
+use Rattle.judging.specs.Judging.{counted_by}
 use Rattle.judging.proofs.fates.count_row.Statement.{statement}
 use Rattle.judging.proofs.fates.count_row.Tie as tie
 
@@ -30,13 +30,13 @@ returns : tie.Need-returns
 returns c = search rules
 
 returns-2 : tie.Need-returns-2
-returns-2 c = ap (countedBy c.before.before.args.x) (sym c.enum-told2.given.1)
+returns-2 c = ap (counted_by c.before.before.args.x) (sym c.enum-told2.given.1)
 
 returns-3 : tie.Need-returns-3
-returns-3 c = ap (countedBy c.before.before.args.x) (sym c.enum-told3.given.1)
+returns-3 c = ap (counted_by c.before.before.args.x) (sym c.enum-told3.given.1)
 
 returns-4 : tie.Need-returns-4
-returns-4 c = ap (countedBy c.before.before.args.x) (sym c.enum-told4.given.1)
+returns-4 c = ap (counted_by c.before.before.args.x) (sym c.enum-told4.given.1)
 
 pub count-row-spec : {M : Type 1} → statement M
 count-row-spec =

@@ -1,8 +1,8 @@
 -- `judging::fates::fate_of` meets its contract. Assumes nothing.
 use Prim.Native.Nat.{◌+◌}
 use Rattle.answer.specs.Answer.{satisfies}
-use Rattle.judging.proofs.FateLaws.{fate-elsewhere, fate-tested, held-between, row_small}
-use Rattle.query.specs.QueryForm.{modeIn}
+use Rattle.judging.proofs.FateLaws.{fate_elsewhere, fate_tested, held_between, row_small}
+use Rattle.query.specs.QueryForm.{mode_in}
 use borrow.Author.Rules.{rules}
 use Rattle.judging.proofs.fates.fate_of.Statement.{statement}
 use Rattle.judging.proofs.fates.fate_of.Tie as tie
@@ -13,7 +13,7 @@ row-table-requires c κs = search rules
 returns : tie.Need-returns
 returns c =
     let a = c.before.before.before.before.before.args in
-    λ k d q jd l. fate-elsewhere a.text.now a.rows.now k a.said.now
+    λ k d q jd l. fate_elsewhere a.text.now a.rows.now k a.said.now
     a.query.now a.s a.first a.scheme a.columns.now a.tests.now d q jd a.r l c.before.before.row-table.result
     c.before.before.row-table.ensures c.if1.true
 
@@ -50,11 +50,11 @@ returns-2 c =
     let a = far.before.before.before.before.args in
     let t = c.before.before.before.before.before.before.before.before.before.row-table in
     let w = c.before.before.is-withheld in
-    λ k d q jd l. fate-tested a.text.now a.rows.now k a.said.now a.query.now a.s a.first a.scheme a.columns.now
+    λ k d q jd l. fate_tested a.text.now a.rows.now k a.said.now a.query.now a.s a.first a.scheme a.columns.now
     a.tests.now d q jd a.r l t.result t.ensures c.before.before.before.before.before.before.before.if1.false
-    w.result (held-between a.scheme a.rows.now a.said.now a.s.marking a.r a.columns.now a.first (a.s.chosen + a.s.tests) w.result w.ensures)
+    w.result (held_between a.scheme a.rows.now a.said.now a.s.marking a.r a.columns.now a.first (a.s.chosen + a.s.tests) w.result w.ensures)
     c.before.row-met.result
-    (c.before.row-met.ensures (modeIn q.wanted) q.condition jd.tested (row_small a.text.now a.rows.now k a.said.now a.query.now a.s a.first a.scheme a.columns.now a.tests.now d q jd a.r l) (jd.rows.narrow a.r l))
+    (c.before.row-met.ensures (mode_in q.wanted) q.condition jd.tested (row_small a.text.now a.rows.now k a.said.now a.query.now a.s a.first a.scheme a.columns.now a.tests.now d q jd a.r l) (jd.rows.narrow a.r l))
     c.fate-here.result c.fate-here.ensures
 
 pub fate-of-spec : {M : Type 1} → statement M

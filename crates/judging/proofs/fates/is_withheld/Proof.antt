@@ -1,5 +1,5 @@
 -- `judging::fates::is_withheld` meets its contract. Assumes nothing.
-use Rattle.judging.proofs.OpenCells.{withheld-cell, withheld-nest, withheld-none, withheld-row}
+use Rattle.judging.proofs.OpenCells.{withheld_cell, withheld_nest, withheld_none, withheld_row}
 use borrow.Author.Rules.{rules}
 use mathlib.Core.Logic.{inl, inr}
 use Rattle.judging.proofs.fates.is_withheld.Statement.{statement}
@@ -36,29 +36,29 @@ any-closed-requires-2 : tie.Need-any-closed-requires-2
 any-closed-requires-2 c κs = search rules
 
 returns : tie.Need-returns
-returns c = λ d p l ls ns o h i f. withheld-none d p l ls c.before.before.before.args.rows.now c.before.before.before.args.columns.now ns c.before.before.before.args.r _ (inl c.enum_told.given.1)
+returns c = λ d p l ls ns o h i f. withheld_none d p l ls c.before.before.before.args.rows.now c.before.before.before.args.columns.now ns c.before.before.before.args.r _ (inl c.enum_told.given.1)
 
 returns-2 : tie.Need-returns-2
-returns-2 c = λ d p l ls ns o h i f. withheld-none d p l ls c.before.before.before.args.rows.now c.before.before.before.args.columns.now ns c.before.before.before.args.r _ (inr (inl c.enum-told2.given.1))
+returns-2 c = λ d p l ls ns o h i f. withheld_none d p l ls c.before.before.before.args.rows.now c.before.before.before.args.columns.now ns c.before.before.before.args.r _ (inr (inl c.enum-told2.given.1))
 
 returns-3 : tie.Need-returns-3
-returns-3 c = λ d p l ls ns o h i f. withheld-none d p l ls c.before.before.before.args.rows.now c.before.before.before.args.columns.now ns c.before.before.before.args.r _ (inr (inr c.enum-told3.given.1))
+returns-3 c = λ d p l ls ns o h i f. withheld_none d p l ls c.before.before.before.args.rows.now c.before.before.before.args.columns.now ns c.before.before.before.args.r _ (inr (inr c.enum-told3.given.1))
 
 returns-4 : tie.Need-returns-4
 returns-4 c =
     let a = c.before.before.before.before.args in
-    λ d p l ls ns o h i f. withheld-row d p l ls a.rows.now a.columns.now ns a.r a.said.now o _ c.before.enum-told4.given.1 c.label-open.result (c.label-open.ensures i f)
+    λ d p l ls ns o h i f. withheld_row d p l ls a.rows.now a.columns.now ns a.r a.said.now o _ c.before.enum-told4.given.1 c.label-open.result (c.label-open.ensures i f)
 
 returns-5 : tie.Need-returns-5
 returns-5 c =
     let a = c.before.before.before.before.args in
-    λ d p l ls ns o h i f. withheld-cell d p l ls a.rows.now a.columns.now ns a.r a.said.now o _ a.m
+    λ d p l ls ns o h i f. withheld_cell d p l ls a.rows.now a.columns.now ns a.r a.said.now o _ a.m
     c.before.enum-told5.given.1 h c.any-closed.result (c.any-closed.ensures i f)
 
 returns-6 : tie.Need-returns-6
 returns-6 c =
     let a = c.before.before.before.before.before.args in
-    λ d p l ls ns o h i f. withheld-nest d p l ls a.rows.now a.columns.now ns a.r a.said.now o _ a.m c.before.under-row.result
+    λ d p l ls ns o h i f. withheld_nest d p l ls a.rows.now a.columns.now ns a.r a.said.now o _ a.m c.before.under-row.result
     c.before.before.enum-told6.given.1 h (c.before.under-row.ensures i f) c.any-closed2.result (c.any-closed2.ensures i f)
 
 pub is-withheld-spec : {M : Type 1} → statement M

@@ -1,6 +1,6 @@
 -- `judging::fates::judge_each` meets its contract. The loop's invariant: the rows gone through are judged. Assumes nothing.
 use Prim.Native.Nat.{◌-◌, ◌≤◌, ℕ}
-use Rattle.judging.proofs.FateLaws.{Fewer, fewer-more, judged-more, judged-none}
+use Rattle.judging.proofs.FateLaws.{Fewer, fewer_more, judged_more, judged_none}
 use Rattle.judging.specs.Judging.{Judgeable, JudgedTo}
 use Rattle.document.specs.Policy.{Doc}
 use Rattle.relations.specs.Rows.{row_in}
@@ -19,7 +19,7 @@ abbrev decreases-loop : tie.decreases-loop
 decreases-loop text rows count said query s first scheme columns tests marks₀ x₀ r₀ marks x r = count - r
 
 loop-holds : tie.Need-loop-init invariant-loop decreases-loop
-loop-holds c = let a = c.before.before.before.args in (omega arith, refl, record { passed = omega arith; withheld = omega arith; unmatched = omega arith }, λ d q jd. judged-none d q (row_in a.text.now a.rows.now) a.marks.now)
+loop-holds c = let a = c.before.before.before.args in (omega arith, refl, record { passed = omega arith; withheld = omega arith; unmatched = omega arith }, λ d q jd. judged_none d q (row_in a.text.now a.rows.now) a.marks.now)
 
 fate-of-requires : tie.Need-fate-of-requires invariant-loop decreases-loop
 fate-of-requires c κs = let h = c.before.before.before.before.before.requires in (h.0, h.1, h.4)
@@ -45,9 +45,9 @@ loop-again c =
     let l = c.before.before.before.before.loop in (
       omega arith,
       length-set l.marks l.r _ ∙ l.invariant.1,
-      fewer-more l.r l.x _ c.before.before.fate-of.result l.invariant.2
+      fewer_more l.r l.x _ c.before.before.fate-of.result l.invariant.2
           c.count-row.ensures,
-      λ d q jd. judged-more d q (row_in a.text.now a.rows.now) l.r l.marks l.x
+      λ d q jd. judged_more d q (row_in a.text.now a.rows.now) l.r l.marks l.x
           (omega (arith, c.before.before.before.before.loop.invariant.1, c.before.before.before.before.before.before.before.before.requires.3))
           (l.invariant.3 d q jd) c.before.before.fate-of.result
           (c.before.before.fate-of.ensures a.count d q jd c.before.before.before.loop-test.true) c.before.is-passed.result

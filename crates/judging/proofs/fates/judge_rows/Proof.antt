@@ -17,7 +17,7 @@ returns-3 : tie.Need-returns-3
 returns-3 c = λ d q pr. absurd (omega (arith, pr.tested.few, c.if2.false))
 
 returns-4 : tie.Need-returns-4
-returns-4 c = λ d q pr. absurd (omega (arith, pr.fewChosen, c.if1.false))
+returns-4 c = λ d q pr. absurd (omega (arith, pr.few_chosen, c.if1.false))
 
 pub judge-rows-spec : {M : Type 1} → statement M
 judge-rows-spec =

@@ -1,5 +1,5 @@
 -- `judging::marking::label_said` meets its contract. Assumes nothing.
-use Rattle.judging.proofs.OpenCells.{said-missing, said-there}
+use Rattle.judging.proofs.OpenCells.{said_missing, said_there}
 use Rattle.purpose.specs.Verdicts.{silent}
 use borrow.Author.Rules.{rules}
 use Rattle.judging.proofs.marking.label_said.Statement.{statement}
@@ -15,13 +15,13 @@ said-at-requires : tie.Need-said-at-requires
 said-at-requires c κs = search rules
 
 returns : tie.Need-returns
-returns c = said-there c.before.before.before.before.args.said.now c.before.before.before.before.args.rows.now
+returns c = said_there c.before.before.before.before.args.said.now c.before.before.before.before.args.rows.now
     c.before.before.before.before.args.r c.before.before.before.before.args.i _ c.before.before.before.row-labels.ensures
     c.before.before.if1.true c.before.row_label_lem.result c.before.row_label_lem.ensures c.Said-at.result c.Said-at.ensures
 
 returns-2 : tie.Need-returns-2
 unfolding silent
-returns-2 c = said-missing c.before.before.args.said.now c.before.before.args.rows.now c.before.before.args.r c.before.before.args.i _ c.before.row-labels.ensures c.if1.false
+returns-2 c = said_missing c.before.before.args.said.now c.before.before.args.rows.now c.before.before.args.r c.before.before.args.i _ c.before.row-labels.ensures c.if1.false
 
 pub label-said-spec : {M : Type 1} → statement M
 label-said-spec =

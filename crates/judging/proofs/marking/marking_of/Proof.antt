@@ -1,6 +1,6 @@
 -- `judging::marking::marking_of` meets its contract. Assumes nothing.
-use Rattle.document.specs.NoteFaults.{isNested}
-use Rattle.relations.specs.Labels.{verdictFor}
+use Rattle.document.specs.NoteFaults.{is_nested}
+use Rattle.relations.specs.Labels.{verdict_for}
 use borrow.Author.Rules.{rules}
 use mathlib.Core.Path.{◌∙◌, ap, sym}
 use Rattle.judging.proofs.marking.marking_of.Statement.{statement}
@@ -26,9 +26,9 @@ said-of-requires-2 c κs = search rules
 
 returns : tie.Need-returns
 returns c = record {
-  nested = λ l. c.before.before.before.before.is-nested.ensures _ _ ∙ ap isNested (sym (c.before.before.before.before.before.table-scheme.ensures l));
-  strong = λ l. c.before.before.said_of.ensures ∙ ap (verdictFor c.before.before.before.before.before.before.args.said.now) (c.before.before.before.strong-label.ensures l);
-  weak = λ l. c.said-of2.ensures ∙ ap (verdictFor c.before.before.before.before.before.before.args.said.now) (c.before.weak-label.ensures l);
+  nested = λ l. c.before.before.before.before.is-nested.ensures _ _ ∙ ap is_nested (sym (c.before.before.before.before.before.table-scheme.ensures l));
+  strong = λ l. c.before.before.said_of.ensures ∙ ap (verdict_for c.before.before.before.before.before.before.args.said.now) (c.before.before.before.strong-label.ensures l);
+  weak = λ l. c.said-of2.ensures ∙ ap (verdict_for c.before.before.before.before.before.before.args.said.now) (c.before.weak-label.ensures l);
 }
 
 pub marking-of-spec : {M : Type 1} → statement M

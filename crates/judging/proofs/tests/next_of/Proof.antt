@@ -1,5 +1,5 @@
 -- `judging::tests::next_of` meets its contract. Assumes nothing.
-use Rattle.judging.specs.Tests.{testIn}
+use Rattle.judging.specs.Tests.{test_in}
 use borrow.Author.Rules.{rules}
 use mathlib.Core.Bool.{Bool, cond}
 use mathlib.Core.Path.{ap, sym}
@@ -23,7 +23,7 @@ element-copy-out-result : tie.Need-element-copy-out-result
 element-copy-out-result c = search rules
 
 returns-2 : tie.Need-returns-2
-returns-2 c = λ few. ap (λ (b : Bool). cond b (testIn c.before.before.before.args.tests.now c.before.before.before.args.j).hit (testIn c.before.before.before.args.tests.now c.before.before.before.args.j).miss) (sym c.before.if2.true)
+returns-2 c = λ few. ap (λ (b : Bool). cond b (test_in c.before.before.before.args.tests.now c.before.before.before.args.j).hit (test_in c.before.before.before.args.tests.now c.before.before.before.args.j).miss) (sym c.before.if2.true)
 
 add-result-2 : tie.Need-overflow-add-result-2
 add-result-2 c = search rules
@@ -35,7 +35,7 @@ element-copy-out-result-2 : tie.Need-element-copy-out-result-2
 element-copy-out-result-2 c = search rules
 
 returns-3 : tie.Need-returns-3
-returns-3 c = λ few. ap (λ (b : Bool). cond b (testIn c.before.before.before.args.tests.now c.before.before.before.args.j).hit (testIn c.before.before.before.args.tests.now c.before.before.before.args.j).miss) (sym c.before.if2.false)
+returns-3 c = λ few. ap (λ (b : Bool). cond b (test_in c.before.before.before.args.tests.now c.before.before.before.args.j).hit (test_in c.before.before.before.args.tests.now c.before.before.before.args.j).miss) (sym c.before.if2.false)
 
 pub next-of-spec : {M : Type 1} → statement M
 next-of-spec =

@@ -1,5 +1,5 @@
 -- `judging::tests::read_comparisons` meets its contract. Assumes nothing.
-use Rattle.judging.proofs.MatchLaws.{comparisons-told}
+use Rattle.judging.proofs.MatchLaws.{comparisons_told}
 use borrow.Author.Rules.{rules}
 use native.Mathlib.Omega.{arith}
 use Rattle.judging.proofs.tests.read_comparisons.Statement.{statement}
@@ -29,7 +29,7 @@ store-tests-requires c κs = search rules
 returns-5 : tie.Need-returns-5
 returns-5 c =
     let a = c.before.before.before.before.before.before.before.before.before.before.before.before.before.before.before.before.args in
-    λ number kind pr. comparisons-told a.tables.now a.query.now a.g a.ops.now a.columns.now number kind pr _ _ _ _ c.store-tests.ensures
+    λ number kind pr. comparisons_told a.tables.now a.query.now a.g a.ops.now a.columns.now number kind pr _ _ _ _ c.store-tests.ensures
     c.before.before.before.before.before.store-program.ensures
 
 pub read-comparisons-spec : {M : Type 1} → statement M

@@ -1,9 +1,9 @@
 -- `judging::tests::read_test` meets its contract. Assumes nothing.
-use Rattle.condition.specs.Answers.{modeBy}
-use Rattle.condition.specs.Kinds.{hasKind}
-use Rattle.judging.proofs.ConstantLaws.{name-written}
+use Rattle.condition.specs.Answers.{mode_by}
+use Rattle.condition.specs.Kinds.{has_kind}
+use Rattle.judging.proofs.ConstantLaws.{name_written}
 use Rattle.judging.specs.Tests.{KindRead}
-use Rattle.text.specs.Words.{writtenAt}
+use Rattle.text.specs.Words.{written_at}
 use borrow.Author.Rules.{rules}
 use mathlib.Core.Path.{◌∙◌, ap, refl, subst, sym}
 use native.Mathlib.Omega.{arith}
@@ -38,7 +38,7 @@ flag-number-requires : tie.Need-flag-number-requires
 flag-number-requires c κs = search rules
 
 returns : tie.Need-returns
-unfolding hasKind
+unfolding has_kind
 returns c =
     let before = c.before.before.before.before.before.before in
     let s = before.before.before.before.args.query.now in
@@ -50,17 +50,17 @@ returns c =
       operator = c.before.before.op-code.ensures ∙ c.before.before.before.op-at.ensures;
       sign = refl;
       place = place.ensures;
-      fits = c.before.read-constant.ensures.fits ∙ ap (λ k. hasKind k (writtenAt s place.result)) (sym typed);
+      fits = c.before.read-constant.ensures.fits ∙ ap (λ k. has_kind k (written_at s place.result)) (sym typed);
       sized = λ fits. record {
         size = omega (arith, before.word-end.ensures);
         ranked = λ e. c.before.read-constant.ensures.ranked (sym typed ∙ e);
-        plain = λ e. name-written s place.result
-            (ap (λ k. hasKind k (writtenAt s place.result)) (sym (sym typed ∙ e)) ∙ sym c.before.read-constant.ensures.fits ∙ fits);
+        plain = λ e. name_written s place.result
+            (ap (λ k. has_kind k (written_at s place.result)) (sym (sym typed ∙ e)) ∙ sym c.before.read-constant.ensures.fits ∙ fits);
         dated = λ e. c.before.read-constant.ensures.dated (sym typed ∙ e);
       };
       hit = refl;
       miss = refl;
-      asked = ap modeBy c.flag-number.ensures;
+      asked = ap mode_by c.flag-number.ensures;
     }
 
 pub read-test-spec : {M : Type 1} → statement M

@@ -1,6 +1,6 @@
 -- `judging::tests::read_tests` meets its contract. Assumes nothing.
 use Prim.Native.Nat.{◌≤◌}
-use Rattle.judging.proofs.QueryTests.{query-known, tests-read}
+use Rattle.judging.proofs.QueryTests.{query_known, tests_read}
 use borrow.Author.Rules.{rules}
 use lib.ListN.{length}
 use native.Mathlib.Omega.{arith}
@@ -19,9 +19,9 @@ returns c =
     let certain = c.before.before.before.before.is-certain in
     λ text d pr.
     let long : a.s.tests ≤ length a.ops.now = omega (arith, pr.few, c.before.before.before.read-comparisons-arg.given.0) in
-    tests-read text a.tables.now a.query.now a.s a.ops.now a.columns.now d pr long certain.result certain.ensures _
+    tests_read text a.tables.now a.query.now a.s a.ops.now a.columns.now d pr long certain.result certain.ensures _
     (c.read-comparisons.ensures _ _
-    (query-known text a.tables.now a.query.now a.s a.ops.now a.columns.now d pr long certain.result (omega (arith, c.before.before.read-comparisons-arg2.given.0))))
+    (query_known text a.tables.now a.query.now a.s a.ops.now a.columns.now d pr long certain.result (omega (arith, c.before.before.read-comparisons-arg2.given.0))))
 
 pub read-tests-spec : {M : Type 1} → statement M
 read-tests-spec = tie.close (tie.spec is-certain-requires read-comparisons-requires returns)

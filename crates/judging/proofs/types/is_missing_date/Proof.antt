@@ -1,5 +1,5 @@
 -- `judging::types::is_missing_date` meets its contract. Assumes nothing.
-use Rattle.judging.proofs.DateLaws.{missing-there, other-there, ranked-there}
+use Rattle.judging.proofs.DateLaws.{missing_there, other_there, ranked_there}
 use borrow.Author.Rules.{rules}
 use mathlib.Core.Path.{◌∙◌, sym}
 use Rattle.judging.proofs.types.is_missing_date.Statement.{statement}
@@ -18,13 +18,13 @@ enum-told-3 : tie.Need-enum-told-3
 enum-told-3 c = search rules
 
 returns : tie.Need-returns
-returns c = let a = c.before.before.before.before.args in sym (ranked-there a.query.now a.at _ _ (sym c.before.before.read-date.ensures ∙ c.enum_told.given.1))
+returns c = let a = c.before.before.before.before.args in sym (ranked_there a.query.now a.at _ _ (sym c.before.before.read-date.ensures ∙ c.enum_told.given.1))
 
 returns-2 : tie.Need-returns-2
-returns-2 c = let a = c.before.before.before.before.args in sym (missing-there a.query.now a.at _ (sym c.before.before.read-date.ensures ∙ c.enum-told2.given.1))
+returns-2 c = let a = c.before.before.before.before.args in sym (missing_there a.query.now a.at _ (sym c.before.before.read-date.ensures ∙ c.enum-told2.given.1))
 
 returns-3 : tie.Need-returns-3
-returns-3 c = let a = c.before.before.before.before.args in sym (other-there a.query.now a.at (sym c.before.before.read-date.ensures ∙ c.enum-told3.given.1))
+returns-3 c = let a = c.before.before.before.before.args in sym (other_there a.query.now a.at (sym c.before.before.read-date.ensures ∙ c.enum-told3.given.1))
 
 pub is-missing-date-spec : {M : Type 1} → statement M
 is-missing-date-spec =

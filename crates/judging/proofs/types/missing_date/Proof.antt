@@ -1,9 +1,9 @@
 -- `judging::types::missing_date` meets its contract. The loop's invariant: no value that was passed is a date that does not exist.
 -- Assumes nothing.
 use Prim.Native.Nat.{◌-◌, ◌<◌, ◌≤◌, ℕ}
-use Rattle.judging.proofs.TypeLaws.{first_below, missing-here, missing-not, none_below}
-use Rattle.judging.specs.Reading.{firstMissing, missingBy}
-use Rattle.judging.specs.Tests.{testIn}
+use Rattle.judging.proofs.TypeLaws.{first_below, missing_here, missing_not, none_below}
+use Rattle.judging.specs.Reading.{first_missing, missing_by}
+use Rattle.judging.specs.Tests.{test_in}
 use Rattle.judging.specs.declared.tests.TestRead.{TestRead}
 use Rattle.text.specs.Words.{written_of}
 use borrow.Author.Count.{below_more, below_none}
@@ -16,7 +16,7 @@ use Rattle.judging.proofs.types.missing_date.Statement.{statement}
 use Rattle.judging.proofs.types.missing_date.Tie as tie
 
 abbrev invariant-loop : tie.invariant-loop
-invariant-loop query tests m j₀ j = (j ≤ m) × ((i : ℕ) → i < j → missingBy query (testIn tests i) ≡ none)
+invariant-loop query tests m j₀ j = (j ≤ m) × ((i : ℕ) → i < j → missing_by query (test_in tests i) ≡ none)
 
 abbrev decreases-loop : tie.decreases-loop
 decreases-loop query tests m j₀ j = m - j
@@ -34,15 +34,15 @@ is-missing-date-requires : tie.Need-is-missing-date-requires invariant-loop decr
 is-missing-date-requires c κs = search rules
 
 returns-2 : tie.Need-returns-2 invariant-loop decreases-loop
-unfolding firstMissing
+unfolding first_missing
 returns-2 c =
     let a = c.before.before.before.before.before.before.before.args in
     let l = c.before.before.before.before.before.loop in
     let x = c.before.before.test_at in
     let q = c.before.is-missing-date in
-    λ small. sym (first_below (λ i. missingBy a.query.now (testIn a.tests.now i)) a.m l.j (written_of a.query.now x.result.place)
+    λ small. sym (first_below (λ i. missing_by a.query.now (test_in a.tests.now i)) a.m l.j (written_of a.query.now x.result.place)
     c.before.before.before.before.loop-test.true l.invariant.1
-    (ap (missingBy a.query.now) (sym x.ensures) ∙ missing-here a.query.now x.result q.result q.ensures c.if2.true))
+    (ap (missing_by a.query.now) (sym x.ensures) ∙ missing_here a.query.now x.result q.result q.ensures c.if2.true))
 
 add-j : tie.Need-overflow-add-j invariant-loop decreases-loop
 add-j c = search rules
@@ -56,13 +56,13 @@ loop-again c =
     let l = c.before.before.before.before.before.loop in
     let x = c.before.before.test_at in
     let q = c.before.is-missing-date in
-    (omega arith, below_more _ l.j l.invariant.1 (ap (missingBy a.query.now) (sym x.ensures) ∙ missing-not a.query.now x.result q.result q.ensures c.if2.false))
+    (omega arith, below_more _ l.j l.invariant.1 (ap (missing_by a.query.now) (sym x.ensures) ∙ missing_not a.query.now x.result q.result q.ensures c.if2.false))
 
 returns-3 : tie.Need-returns-3 invariant-loop decreases-loop
-unfolding firstMissing
+unfolding first_missing
 returns-3 c =
     let a = c.before.before.before.args in
-    λ small. sym (none_below (λ i. missingBy a.query.now (testIn a.tests.now i)) a.m (λ i less. c.before.loop.invariant.1 i (omega (arith, less, c.loop-test.false))))
+    λ small. sym (none_below (λ i. missing_by a.query.now (test_in a.tests.now i)) a.m (λ i less. c.before.loop.invariant.1 i (omega (arith, less, c.loop-test.false))))
 
 pub missing-date-spec : {M : Type 1} → statement M
 missing-date-spec =

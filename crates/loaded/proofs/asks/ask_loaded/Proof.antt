@@ -1,5 +1,5 @@
 -- `loaded::asks::ask_loaded` meets its contract: the answer of asking without bounds, or 18. Assumes nothing.
-use Rattle.loaded.proofs.Chain.{gives-asks}
+use Rattle.loaded.proofs.Chain.{gives_asks}
 use borrow.Author.Rules.{rules}
 use Rattle.loaded.proofs.asks.ask_loaded.Statement.{statement}
 use Rattle.loaded.proofs.asks.ask_loaded.Tie as tie
@@ -14,7 +14,7 @@ same_length : tie.Need-same-length
 same_length c = search rules
 
 returns : tie.Need-returns
-returns c h = gives-asks (c.before.before.before.ask-unbounded.ensures h) c.within-room.ensures
+returns c h = gives_asks (c.before.before.before.ask-unbounded.ensures h) c.within-room.ensures
 
 pub ask-loaded-spec : {M : Type 1} → statement M
 ask-loaded-spec =

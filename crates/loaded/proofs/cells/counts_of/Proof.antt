@@ -1,5 +1,5 @@
 -- `loaded::cells::counts_of` meets its contract. Assumes nothing.
-use Rattle.loaded.specs.Cells.{countsIn}
+use Rattle.loaded.specs.Cells.{counts_in}
 use borrow.Author.Rules.{rules}
 use mathlib.Core.Path.{refl}
 use Rattle.loaded.proofs.cells.counts_of.Statement.{statement}
@@ -33,7 +33,7 @@ element-copy-out-t28 : tie.Need-element-copy-out-t28
 element-copy-out-t28 c = search rules
 
 returns : tie.Need-returns
-unfolding countsIn
+unfolding counts_in
 returns c = refl
 
 pub counts-of-spec : {M : Type 1} → statement M

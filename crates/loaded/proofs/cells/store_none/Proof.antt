@@ -1,11 +1,11 @@
 -- `loaded::cells::store_none` meets its contract. Assumes nothing.
-use Rattle.loaded.specs.Cells.{noCells}
+use Rattle.loaded.specs.Cells.{no_cells}
 use mathlib.Core.Path.{refl}
 use Rattle.loaded.proofs.cells.store_none.Statement.{statement}
 use Rattle.loaded.proofs.cells.store_none.Tie as tie
 
 returns : tie.Need-returns
-unfolding noCells
+unfolding no_cells
 returns c = refl
 
 pub store-none-spec : {M : Type 1} → statement M

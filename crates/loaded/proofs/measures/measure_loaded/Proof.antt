@@ -1,5 +1,5 @@
 -- `loaded::measures::measure_loaded` meets its contract: the figures of asking without bounds have the answer's length. Assumes nothing.
-use Rattle.loaded.proofs.Chain.{measures-length, measures-refused}
+use Rattle.loaded.proofs.Chain.{measures_length, measures_refused}
 use borrow.Author.Rules.{rules}
 use Rattle.loaded.proofs.measures.measure_loaded.Statement.{statement}
 use Rattle.loaded.proofs.measures.measure_loaded.Tie as tie
@@ -20,10 +20,10 @@ enum-known-a-2 : tie.Need-enum-known-a-2
 enum-known-a-2 c = search rules
 
 returns : tie.Need-returns
-returns c h = measures-refused _ _ _ (c.before.before.before.before.ask-unbounded.ensures h) c.before.a.given.1
+returns c h = measures_refused _ _ _ (c.before.before.before.before.ask-unbounded.ensures h) c.before.a.given.1
 
 returns-2 : tie.Need-returns-2
-returns-2 c h = measures-length _ _ _ (c.before.before.before.before.ask-unbounded.ensures h) c.before.a2.given.1
+returns-2 c h = measures_length _ _ _ (c.before.before.before.before.ask-unbounded.ensures h) c.before.a2.given.1
 
 pub measure-loaded-spec : {M : Type 1} → statement M
 measure-loaded-spec =

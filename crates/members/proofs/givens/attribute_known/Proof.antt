@@ -1,6 +1,6 @@
 -- `members::givens::attribute_known` meets its contract. Assumes nothing.
-use Rattle.document.specs.Lookup.{attributeOf}
-use Rattle.workspace.specs.Found.{foundAs}
+use Rattle.document.specs.Lookup.{attribute_of}
+use Rattle.workspace.specs.Found.{found_as}
 use Rattle.lists.specs.Lists.{there}
 use mathlib.Core.Path.{◌∙◌, ap, sym}
 use borrow.Author.Rules.{rules}
@@ -17,12 +17,12 @@ enum-told-2 : tie.Need-enum-told-2
 enum-told-2 c = search rules
 
 returns : tie.Need-returns
-unfolding attributeOf there
-returns c = λ d h. sym (ap (λ f. there (foundAs f)) c.enum_told.given.1) ∙ ap there (c.before.before.find-attribute.ensures.0 d.attributes h)
+unfolding attribute_of there
+returns c = λ d h. sym (ap (λ f. there (found_as f)) c.enum_told.given.1) ∙ ap there (c.before.before.find-attribute.ensures.0 d.attributes h)
 
 returns-2 : tie.Need-returns-2
-unfolding attributeOf there
-returns-2 c = λ d h. sym (ap (λ f. there (foundAs f)) c.enum-told2.given.1) ∙ ap there (c.before.before.find-attribute.ensures.0 d.attributes h)
+unfolding attribute_of there
+returns-2 c = λ d h. sym (ap (λ f. there (found_as f)) c.enum-told2.given.1) ∙ ap there (c.before.before.find-attribute.ensures.0 d.attributes h)
 
 pub attribute-known-spec : {M : Type 1} → statement M
 attribute-known-spec =

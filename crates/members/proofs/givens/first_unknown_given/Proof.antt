@@ -6,9 +6,9 @@ use borrow.Author.Tests.{not-false, not-true}
 use lib.ListN.{length}
 use mathlib.Core.Path.{◌∙◌, ◌≡◌, refl, sym}
 use native.Mathlib.Omega.{arith}
-use Rattle.document.specs.Lookup.{attributeOf}
+use Rattle.document.specs.Lookup.{attribute_of}
 use Rattle.document.specs.Policy.{Policy}
-use Rattle.members.proofs.GivenLaws.{first-near, givenNames, missing-found, missing-onward, missing-over, pair-less, space-here}
+use Rattle.members.proofs.GivenLaws.{first_near, given_names, missing_found, missing_onward, missing_over, pair_less, space_here}
 use Rattle.principals.specs.Attributes.{Attributes}
 use Rattle.lists.specs.Lists.{there}
 use Rattle.text.specs.Offending.{missing}
@@ -16,7 +16,7 @@ use Rattle.members.proofs.givens.first_unknown_given.Statement.{statement}
 use Rattle.members.proofs.givens.first_unknown_given.Tie as tie
 
 abbrev invariant-loop : tie.invariant-loop
-invariant-loop text attributes k line gs j₀ j = (d : Policy) → Attributes text attributes k d.attributes → missing (λ w. there (attributeOf d w)) (givenNames line j) ≡ missing (λ w. there (attributeOf d w)) (givenNames line gs)
+invariant-loop text attributes k line gs j₀ j = (d : Policy) → Attributes text attributes k d.attributes → missing (λ w. there (attribute_of d w)) (given_names line j) ≡ missing (λ w. there (attribute_of d w)) (given_names line gs)
 
 abbrev decreases-loop : tie.decreases-loop
 decreases-loop text attributes k line gs j₀ j = length line - j
@@ -28,7 +28,7 @@ byte-at-requires : tie.Need-byte-at-requires invariant-loop decreases-loop
 byte-at-requires c κs = search rules
 
 add-first-in : tie.Need-overflow-add-first-in invariant-loop decreases-loop
-add-first-in c = omega (arith, space-here c.before.before.before.before.before.args.line.now c.before.before.loop.j (sym c.before.byte_at.ensures ∙ c.if1.true))
+add-first-in c = omega (arith, space_here c.before.before.before.before.before.args.line.now c.before.before.loop.j (sym c.before.byte_at.ensures ∙ c.if1.true))
 
 first-in-requires : tie.Need-first-in-requires invariant-loop decreases-loop
 first-in-requires c κs = search rules
@@ -38,32 +38,32 @@ attribute-known-requires c κs = search rules
 
 returns : tie.Need-returns invariant-loop decreases-loop
 returns c = let entry = c.before.before.before.before.before.before.before.before.args in (
-  λ d h. sym (missing-found
-      (λ w. there (attributeOf d w)) entry.line.now c.before.before.before.before.before.loop.j c.before.before.first-in.result
+  λ d h. sym (missing_found
+      (λ w. there (attribute_of d w)) entry.line.now c.before.before.before.before.before.loop.j c.before.before.first-in.result
       (sym c.before.before.before.before.byte_at.ensures ∙ c.before.before.before.if1.true) c.before.before.first-in.ensures
       (sym (c.before.attribute-known.ensures d h) ∙ not-true _ c.if2.true)) ∙ c.before.before.before.before.before.loop.invariant d h,
   omega (
     arith,
-    first-near entry.line.now c.before.before.before.before.before.loop.j
+    first_near entry.line.now c.before.before.before.before.before.loop.j
         (sym c.before.before.before.before.byte_at.ensures ∙ c.before.before.before.if1.true),
     c.before.before.first-in.ensures,
   ),
 )
 
 add-pair-end : tie.Need-overflow-add-pair-end invariant-loop decreases-loop
-add-pair-end c = omega (arith, space-here c.before.before.before.before.before.before.before.before.args.line.now c.before.before.before.before.before.loop.j (sym c.before.before.before.before.byte_at.ensures ∙ c.before.before.before.if1.true))
+add-pair-end c = omega (arith, space_here c.before.before.before.before.before.before.before.before.args.line.now c.before.before.before.before.before.loop.j (sym c.before.before.before.before.byte_at.ensures ∙ c.before.before.before.if1.true))
 
 pair-end-requires : tie.Need-pair-end-requires invariant-loop decreases-loop
 pair-end-requires c κs = search rules
 
 loop-less : tie.Need-loop-smaller invariant-loop decreases-loop
-loop-less c = pair-less c.before.before.before.before.before.before.before.before.before.args.line.now
+loop-less c = pair_less c.before.before.before.before.before.before.before.before.before.args.line.now
     c.before.before.before.before.before.before.loop.j
     (sym c.before.before.before.before.before.byte_at.ensures ∙ c.before.before.before.before.if1.true) c.pair-end.result
     c.pair-end.ensures
 
 loop-again : tie.Need-loop-preserved invariant-loop decreases-loop
-loop-again c = λ d h. missing-onward (λ w. there (attributeOf d w))
+loop-again c = λ d h. missing_onward (λ w. there (attribute_of d w))
     c.before.before.before.before.before.before.before.before.before.args.line.now
     c.before.before.before.before.before.before.loop.j c.before.before.before.first-in.result
     (sym c.before.before.before.before.before.byte_at.ensures ∙ c.before.before.before.before.if1.true)
@@ -71,7 +71,7 @@ loop-again c = λ d h. missing-onward (λ w. there (attributeOf d w))
     (sym (c.before.before.attribute-known.ensures d h) ∙ not-false _ c.before.if2.false) ∙ c.before.before.before.before.before.before.loop.invariant d h
 
 returns-2 : tie.Need-returns-2 invariant-loop decreases-loop
-returns-2 c = (λ d h. sym (missing-over (λ w. there (attributeOf d w)) c.before.before.before.before.before.args.line.now c.before.before.loop.j (λ e. c.if1.false (c.before.byte_at.ensures ∙ e))) ∙ c.before.before.loop.invariant d h, tt)
+returns-2 c = (λ d h. sym (missing_over (λ w. there (attribute_of d w)) c.before.before.before.before.before.args.line.now c.before.before.loop.j (λ e. c.if1.false (c.before.byte_at.ensures ∙ e))) ∙ c.before.before.loop.invariant d h, tt)
 
 pub first-unknown-given-spec : {M : Type 1} → statement M
 first-unknown-given-spec =

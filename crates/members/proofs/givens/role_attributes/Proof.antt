@@ -8,7 +8,7 @@ use mathlib.Core.Path.{◌∙◌, ◌≡◌, ap, sym}
 use native.Mathlib.Omega.{arith}
 use Rattle.document.specs.Policy.{Policy}
 use Rattle.members.proofs.GivenLaws.{held_all, held_at, held_more, held_none, held_same, held_of}
-use Rattle.principals.specs.Attributes.{Attributes, attributeIn}
+use Rattle.principals.specs.Attributes.{Attributes, attribute_in}
 use Rattle.principals.specs.Nodes.{Nodes}
 use Rattle.members.proofs.givens.role_attributes.Statement.{statement}
 use Rattle.members.proofs.givens.role_attributes.Tie as tie
@@ -42,8 +42,8 @@ loop-less c = omega arith
 
 loop-again : tie.Need-loop-preserved invariant-loop decreases-loop
 loop-again c = let entry = c.before.before.before.before.before.args in ⊎_elim
-    (λ v. (omega arith, omega arith, omega arith, λ text d m h. omega (arith, v.1, held_more d entry.role text entry.attributes.now c.before.before.before.loop.i (sym (c.before.attribute-of-role.ensures text d (attributeIn text entry.attributes.now c.before.before.before.loop.i) m h (held_at d entry.role text entry.attributes.now entry.k h c.before.before.before.loop.i (omega arith))) ∙ v.0.taken), c.before.before.before.loop.invariant.3 text d m h)))
-    (λ v. (omega arith, omega arith, omega arith, λ text d m h. omega (arith, v.1, held_same d entry.role text entry.attributes.now c.before.before.before.loop.i (sym (c.before.attribute-of-role.ensures text d (attributeIn text entry.attributes.now c.before.before.before.loop.i) m h (held_at d entry.role text entry.attributes.now entry.k h c.before.before.before.loop.i (omega arith))) ∙ v.0.left), c.before.before.before.loop.invariant.3 text d m h)))
+    (λ v. (omega arith, omega arith, omega arith, λ text d m h. omega (arith, v.1, held_more d entry.role text entry.attributes.now c.before.before.before.loop.i (sym (c.before.attribute-of-role.ensures text d (attribute_in text entry.attributes.now c.before.before.before.loop.i) m h (held_at d entry.role text entry.attributes.now entry.k h c.before.before.before.loop.i (omega arith))) ∙ v.0.taken), c.before.before.before.loop.invariant.3 text d m h)))
+    (λ v. (omega arith, omega arith, omega arith, λ text d m h. omega (arith, v.1, held_same d entry.role text entry.attributes.now c.before.before.before.loop.i (sym (c.before.attribute-of-role.ensures text d (attribute_in text entry.attributes.now c.before.before.before.loop.i) m h (held_at d entry.role text entry.attributes.now entry.k h c.before.before.before.loop.i (omega arith))) ∙ v.0.left), c.before.before.before.loop.invariant.3 text d m h)))
     c.if2.branch
 
 returns-2 : tie.Need-returns-2 invariant-loop decreases-loop

@@ -1,9 +1,9 @@
 -- `members::givens::value_fits` meets its contract. Assumes nothing.
 use Rattle.condition.specs.Answers.{kind_of}
-use Rattle.condition.specs.Kinds.{hasKind}
-use Rattle.document.specs.Lookup.{attributeOf}
-use Rattle.members.proofs.GivenLaws.{kind_at, kind-none}
-use Rattle.workspace.specs.Found.{foundAs}
+use Rattle.condition.specs.Kinds.{has_kind}
+use Rattle.document.specs.Lookup.{attribute_of}
+use Rattle.members.proofs.GivenLaws.{kind_at, kind_none}
+use Rattle.workspace.specs.Found.{found_as}
 use Rattle.text.specs.Words.{word_at, word_of}
 use mathlib.Core.Path.{◌∙◌, ap, sym}
 use borrow.Author.Rules.{rules}
@@ -23,12 +23,12 @@ has-kind-requires : tie.Need-has-kind-requires
 has-kind-requires c κs = search rules
 
 returns : tie.Need-returns
-unfolding attributeOf
+unfolding attribute_of
 returns c = λ d h.
     let a = c.before.before.before.before.before.before.before.before.args in
-    c.has-kind.ensures ∙ ap (λ k. hasKind k (word_at a.line.now a.v)) (sym (kind_at d (word_of a.line.now a.at)
+    c.has-kind.ensures ∙ ap (λ k. has_kind k (word_at a.line.now a.v)) (sym (kind_at d (word_of a.line.now a.at)
     c.before.before.before.found.given.0.0 (kind_of c.before.attribute-kind.result)
-    (sym (c.before.before.before.before.before.find-attribute.ensures.0 d.attributes h) ∙ ap foundAs c.before.before.before.found.given.1)
+    (sym (c.before.before.before.before.before.find-attribute.ensures.0 d.attributes h) ∙ ap found_as c.before.before.before.found.given.1)
     (λ x e. sym (c.before.attribute-kind.ensures a.text.now d.attributes x h e))))
 
 enum_told : tie.Need-enum-told
@@ -38,10 +38,10 @@ has-kind-requires-2 : tie.Need-has-kind-requires-2
 has-kind-requires-2 c κs = search rules
 
 returns-2 : tie.Need-returns-2
-unfolding attributeOf
+unfolding attribute_of
 returns-2 c = let entry = c.before.before.before.before.before.before.args in λ d h. c.has-kind2.ensures ∙ ap
-    (λ k. hasKind k (word_at entry.line.now entry.v))
-    (sym (kind-none d (word_of entry.line.now entry.at) (sym (c.before.before.before.find-attribute.ensures.0 d.attributes h) ∙ ap foundAs c.before.enum_told.given.1)))
+    (λ k. has_kind k (word_at entry.line.now entry.v))
+    (sym (kind_none d (word_of entry.line.now entry.at) (sym (c.before.before.before.find-attribute.ensures.0 d.attributes h) ∙ ap found_as c.before.enum_told.given.1)))
 
 pub value-fits-spec : {M : Type 1} → statement M
 value-fits-spec =

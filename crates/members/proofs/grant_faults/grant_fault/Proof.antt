@@ -1,6 +1,6 @@
 -- `members::grant_faults::grant_fault` meets its contract: each answer by its law. Assumes nothing.
 use native.Mathlib.Omega.{arith}
-use Rattle.members.proofs.GrantFaults.{grant-cond, grant-fine, grant-full, grant-purpose}
+use Rattle.members.proofs.GrantFaults.{grant_cond, grant_fine, grant_full, grant_purpose}
 use borrow.Author.Rules.{rules}
 use Rattle.members.proofs.grant_faults.grant_fault.Statement.{statement}
 use Rattle.members.proofs.grant_faults.grant_fault.Tie as tie
@@ -8,7 +8,7 @@ use Rattle.members.proofs.grant_faults.grant_fault.Tie as tie
 returns : tie.Need-returns
 returns c =
     let a = c.before.before.before.args in
-    grant-full a.text.now a.purposes.now a.purposes-count a.conds.now a.conds-count a.k a.line.now a.p a.c (omega arith)
+    grant_full a.text.now a.purposes.now a.purposes-count a.conds.now a.conds-count a.k a.line.now a.p a.c (omega arith)
 
 find-purpose-requires : tie.Need-find-purpose-requires
 find-purpose-requires c κs = search rules
@@ -19,7 +19,7 @@ enum_told c = search rules
 returns-2 : tie.Need-returns-2
 returns-2 c =
     let a = c.before.before.before.before.before.before.args in
-    grant-purpose a.text.now a.purposes.now a.purposes-count a.conds.now a.conds-count a.k a.line.now a.p a.c (omega arith) c.before.before.find-purpose.result c.before.before.find-purpose.ensures.0 c.enum_told.given.1
+    grant_purpose a.text.now a.purposes.now a.purposes-count a.conds.now a.conds-count a.k a.line.now a.p a.c (omega arith) c.before.before.find-purpose.result c.before.before.find-purpose.ensures.0 c.enum_told.given.1
 
 enum-told-2 : tie.Need-enum-told-2
 enum-told-2 c = search rules
@@ -33,7 +33,7 @@ enum-told-3 c = search rules
 returns-3 : tie.Need-returns-3
 returns-3 c =
     let a = c.before.before.before.before.before.before.before.before.before.args in
-    grant-cond a.text.now a.purposes.now a.purposes-count a.conds.now a.conds-count a.k a.line.now a.p a.c
+    grant_cond a.text.now a.purposes.now a.purposes-count a.conds.now a.conds-count a.k a.line.now a.p a.c
     (omega arith) c.before.before.before.before.before.find-purpose.result
     c.before.before.before.before.before.find-purpose.ensures.0 c.before.before.before.enum-told2.given.0.0
     c.before.before.before.enum-told2.given.1 c.before.before.find-cond-role.result c.before.before.find-cond-role.ensures.0
@@ -45,7 +45,7 @@ enum-told-4 c = search rules
 returns-4 : tie.Need-returns-4
 returns-4 c =
     let a = c.before.before.before.before.before.before.before.before.before.args in
-    grant-fine a.text.now a.purposes.now a.purposes-count a.conds.now a.conds-count a.k a.line.now a.p a.c
+    grant_fine a.text.now a.purposes.now a.purposes-count a.conds.now a.conds-count a.k a.line.now a.p a.c
     (omega arith) c.before.before.before.before.before.find-purpose.result
     c.before.before.before.before.before.find-purpose.ensures.0 c.before.before.before.enum-told2.given.0.0
     c.before.before.before.enum-told2.given.1 c.before.before.find-cond-role.result c.before.before.find-cond-role.ensures.0

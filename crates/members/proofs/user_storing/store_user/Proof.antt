@@ -1,9 +1,9 @@
 -- `members::user_storing::store_user` meets its contract: the line is kept by its start and end. Assumes nothing.
 use Rattle.lists.specs.Lists.{or_zero}
-use Rattle.document.specs.Lookup.{roleOf}
+use Rattle.document.specs.Lookup.{role_of}
 use Rattle.text.specs.Words.{word_of}
 use mathlib.Core.Path.{◌∙◌, ap}
-use Rattle.stepping.proofs.NamedLaws.{print-placed, user-stored}
+use Rattle.stepping.proofs.NamedLaws.{print_placed, user_stored}
 use borrow.Author.Rules.{rules}
 use Rattle.members.proofs.user_storing.store_user.Statement.{statement}
 use Rattle.members.proofs.user_storing.store_user.Tie as tie
@@ -27,12 +27,12 @@ add-user-requires : tie.Need-add-user-requires
 add-user-requires c κs = search rules
 
 returns : tie.Need-returns
-unfolding roleOf
+unfolding role_of
 returns c d l R N ok h =
     let a = c.before.before.before.before.before.before.before.before.before.args in
-    user-stored l d a.u _ h c.before.before.before.before.place.ensures (word_of a.line.now a.r) a.gs _ _ N ok
+    user_stored l d a.u _ h c.before.before.before.before.place.ensures (word_of a.line.now a.r) a.gs _ _ N ok
     (c.before.before.before.before.before.number.ensures ∙ ap or_zero (c.before.before.before.before.before.before.find-role.ensures.0 _ R)) c.before.before.before.place2.ensures
-    (c.add-user.ensures d.policy a.text.now _ N (print-placed l d a.u _ h c.before.before.before.before.place.ensures _ c.before.before.print-word.ensures.is))
+    (c.add-user.ensures d.policy a.text.now _ N (print_placed l d a.u _ h c.before.before.before.before.place.ensures _ c.before.before.print-word.ensures.is))
 
 pub store-user-spec : {M : Type 1} → statement M
 store-user-spec =

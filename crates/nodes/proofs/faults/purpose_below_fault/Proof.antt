@@ -4,7 +4,7 @@ use borrow.Author.Rules.{rules}
 use lib.ListN.{length}
 use mathlib.Core.Option.{some}
 use native.Mathlib.Omega.{arith}
-use Rattle.nodes.proofs.NodeFaults.{below-fine, below-unknown, node-full, node-taken, purpose-kind}
+use Rattle.nodes.proofs.NodeFaults.{below_fine, below_unknown, node_full, node_taken, purpose_kind}
 use Rattle.form.specs.Form.{purpose}
 use Rattle.purpose.specs.Members.{limit}
 use Rattle.text.specs.Words.{word_of}
@@ -14,7 +14,7 @@ use Rattle.nodes.proofs.faults.purpose_below_fault.Tie as tie
 returns : tie.Need-returns
 returns c =
     let a = c.before.before.before.args in
-    node-full (λ d. d.purposes) purpose limit purpose-kind a.text.now a.purposes.now a.k a.line.now a.n (some (word_of a.line.now a.p)) ((a.n ≤ length a.line.now) × (a.p ≤ length a.line.now)) (omega arith)
+    node_full (λ d. d.purposes) purpose limit purpose_kind a.text.now a.purposes.now a.k a.line.now a.n (some (word_of a.line.now a.p)) ((a.n ≤ length a.line.now) × (a.p ≤ length a.line.now)) (omega arith)
 
 find-purpose-requires : tie.Need-find-purpose-requires
 find-purpose-requires c κs = search rules
@@ -25,7 +25,7 @@ enum_told c = search rules
 returns-2 : tie.Need-returns-2
 returns-2 c =
     let a = c.before.before.before.before.before.before.args in
-    node-taken (λ d. d.purposes) purpose limit purpose-kind a.text.now a.purposes.now a.k a.line.now a.n (some (word_of a.line.now a.p)) ((a.n ≤ length a.line.now) × (a.p ≤ length a.line.now)) (omega arith) c.before.before.find-purpose.result c.before.before.find-purpose.ensures.0 c.enum_told.given.0.0 c.enum_told.given.1 (λ q. q.0)
+    node_taken (λ d. d.purposes) purpose limit purpose_kind a.text.now a.purposes.now a.k a.line.now a.n (some (word_of a.line.now a.p)) ((a.n ≤ length a.line.now) × (a.p ≤ length a.line.now)) (omega arith) c.before.before.find-purpose.result c.before.before.find-purpose.ensures.0 c.enum_told.given.0.0 c.enum_told.given.1 (λ q. q.0)
 
 enum-told-2 : tie.Need-enum-told-2
 enum-told-2 c = search rules
@@ -39,7 +39,7 @@ enum-told-3 c = search rules
 returns-3 : tie.Need-returns-3
 returns-3 c =
     let a = c.before.before.before.before.before.before.before.before.before.args in
-    below-unknown (λ d. d.purposes) purpose limit purpose-kind a.text.now a.purposes.now a.k a.line.now a.n a.p ((a.n ≤ length a.line.now) × (a.p ≤ length a.line.now)) (omega arith) c.before.before.before.before.before.find-purpose.result c.before.before.before.before.before.find-purpose.ensures.0 c.before.before.before.enum-told2.given.1 c.before.before.find-purpose2.result c.before.before.find-purpose2.ensures.0 c.enum-told3.given.1 (λ q. q.1)
+    below_unknown (λ d. d.purposes) purpose limit purpose_kind a.text.now a.purposes.now a.k a.line.now a.n a.p ((a.n ≤ length a.line.now) × (a.p ≤ length a.line.now)) (omega arith) c.before.before.before.before.before.find-purpose.result c.before.before.before.before.before.find-purpose.ensures.0 c.before.before.before.enum-told2.given.1 c.before.before.find-purpose2.result c.before.before.find-purpose2.ensures.0 c.enum-told3.given.1 (λ q. q.1)
 
 enum-told-4 : tie.Need-enum-told-4
 enum-told-4 c = search rules
@@ -47,7 +47,7 @@ enum-told-4 c = search rules
 returns-4 : tie.Need-returns-4
 returns-4 c =
     let a = c.before.before.before.before.before.before.before.before.before.args in
-    below-fine (λ d. d.purposes) purpose limit purpose-kind a.text.now a.purposes.now a.k a.line.now a.n a.p ((a.n ≤ length a.line.now) × (a.p ≤ length a.line.now)) (omega arith) c.before.before.before.before.before.find-purpose.result c.before.before.before.before.before.find-purpose.ensures.0 c.before.before.before.enum-told2.given.1 c.before.before.find-purpose2.result c.before.before.find-purpose2.ensures.0 c.enum-told4.given.0.0 c.enum-told4.given.1
+    below_fine (λ d. d.purposes) purpose limit purpose_kind a.text.now a.purposes.now a.k a.line.now a.n a.p ((a.n ≤ length a.line.now) × (a.p ≤ length a.line.now)) (omega arith) c.before.before.before.before.before.find-purpose.result c.before.before.before.before.before.find-purpose.ensures.0 c.before.before.before.enum-told2.given.1 c.before.before.find-purpose2.result c.before.before.find-purpose2.ensures.0 c.enum-told4.given.0.0 c.enum-told4.given.1
 
 pub purpose-below-fault-spec : {M : Type 1} → statement M
 purpose-below-fault-spec =

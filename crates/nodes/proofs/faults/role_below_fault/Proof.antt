@@ -4,7 +4,7 @@ use borrow.Author.Rules.{rules}
 use lib.ListN.{length}
 use mathlib.Core.Option.{some}
 use native.Mathlib.Omega.{arith}
-use Rattle.nodes.proofs.NodeFaults.{below-fine, below-unknown, node-full, node-taken, role-kind}
+use Rattle.nodes.proofs.NodeFaults.{below_fine, below_unknown, node_full, node_taken, role_kind}
 use Rattle.form.specs.Form.{role}
 use Rattle.text.specs.Words.{word_of}
 use Rattle.nodes.proofs.faults.role_below_fault.Statement.{statement}
@@ -13,7 +13,7 @@ use Rattle.nodes.proofs.faults.role_below_fault.Tie as tie
 returns : tie.Need-returns
 returns c =
     let a = c.before.before.before.args in
-    node-full (λ d. d.roles) role 64 role-kind a.text.now a.roles.now a.k a.line.now a.n (some (word_of a.line.now a.p)) ((a.n ≤ length a.line.now) × (a.p ≤ length a.line.now)) (omega arith)
+    node_full (λ d. d.roles) role 64 role_kind a.text.now a.roles.now a.k a.line.now a.n (some (word_of a.line.now a.p)) ((a.n ≤ length a.line.now) × (a.p ≤ length a.line.now)) (omega arith)
 
 find-role-requires : tie.Need-find-role-requires
 find-role-requires c κs = search rules
@@ -24,7 +24,7 @@ enum_told c = search rules
 returns-2 : tie.Need-returns-2
 returns-2 c =
     let a = c.before.before.before.before.before.before.args in
-    node-taken (λ d. d.roles) role 64 role-kind a.text.now a.roles.now a.k a.line.now a.n (some (word_of a.line.now a.p)) ((a.n ≤ length a.line.now) × (a.p ≤ length a.line.now)) (omega arith) c.before.before.find-role.result c.before.before.find-role.ensures.0 c.enum_told.given.0.0 c.enum_told.given.1 (λ q. q.0)
+    node_taken (λ d. d.roles) role 64 role_kind a.text.now a.roles.now a.k a.line.now a.n (some (word_of a.line.now a.p)) ((a.n ≤ length a.line.now) × (a.p ≤ length a.line.now)) (omega arith) c.before.before.find-role.result c.before.before.find-role.ensures.0 c.enum_told.given.0.0 c.enum_told.given.1 (λ q. q.0)
 
 enum-told-2 : tie.Need-enum-told-2
 enum-told-2 c = search rules
@@ -38,7 +38,7 @@ enum-told-3 c = search rules
 returns-3 : tie.Need-returns-3
 returns-3 c =
     let a = c.before.before.before.before.before.before.before.before.before.args in
-    below-unknown (λ d. d.roles) role 64 role-kind a.text.now a.roles.now a.k a.line.now a.n a.p ((a.n ≤ length a.line.now) × (a.p ≤ length a.line.now)) (omega arith) c.before.before.before.before.before.find-role.result c.before.before.before.before.before.find-role.ensures.0 c.before.before.before.enum-told2.given.1 c.before.before.find-role2.result c.before.before.find-role2.ensures.0 c.enum-told3.given.1 (λ q. q.1)
+    below_unknown (λ d. d.roles) role 64 role_kind a.text.now a.roles.now a.k a.line.now a.n a.p ((a.n ≤ length a.line.now) × (a.p ≤ length a.line.now)) (omega arith) c.before.before.before.before.before.find-role.result c.before.before.before.before.before.find-role.ensures.0 c.before.before.before.enum-told2.given.1 c.before.before.find-role2.result c.before.before.find-role2.ensures.0 c.enum-told3.given.1 (λ q. q.1)
 
 enum-told-4 : tie.Need-enum-told-4
 enum-told-4 c = search rules
@@ -46,7 +46,7 @@ enum-told-4 c = search rules
 returns-4 : tie.Need-returns-4
 returns-4 c =
     let a = c.before.before.before.before.before.before.before.before.before.args in
-    below-fine (λ d. d.roles) role 64 role-kind a.text.now a.roles.now a.k a.line.now a.n a.p ((a.n ≤ length a.line.now) × (a.p ≤ length a.line.now)) (omega arith) c.before.before.before.before.before.find-role.result c.before.before.before.before.before.find-role.ensures.0 c.before.before.before.enum-told2.given.1 c.before.before.find-role2.result c.before.before.find-role2.ensures.0 c.enum-told4.given.0.0 c.enum-told4.given.1
+    below_fine (λ d. d.roles) role 64 role_kind a.text.now a.roles.now a.k a.line.now a.n a.p ((a.n ≤ length a.line.now) × (a.p ≤ length a.line.now)) (omega arith) c.before.before.before.before.before.find-role.result c.before.before.before.before.before.find-role.ensures.0 c.before.before.before.enum-told2.given.1 c.before.before.find-role2.result c.before.before.find-role2.ensures.0 c.enum-told4.given.0.0 c.enum-told4.given.1
 
 pub role-below-fault-spec : {M : Type 1} → statement M
 role-below-fault-spec =

@@ -1,8 +1,8 @@
 -- `nodes::storing::store_purpose_root` meets its contract: a root is its own parent. Assumes nothing.
 use mathlib.Core.Option.{bind, none}
 use mathlib.Core.Path.{◌∙◌, sym}
-use Rattle.principals.proofs.IndexLaws.{nodes-length}
-use Rattle.stepping.proofs.NamedLaws.{hash-placed, purpose-stored}
+use Rattle.principals.proofs.IndexLaws.{nodes_length}
+use Rattle.stepping.proofs.NamedLaws.{hash_placed, purpose_stored}
 use borrow.Author.Rules.{rules}
 use Rattle.nodes.proofs.storing.store_purpose_root.Statement.{statement}
 use Rattle.nodes.proofs.storing.store_purpose_root.Tie as tie
@@ -20,8 +20,8 @@ returns : tie.Need-returns
 unfolding bind
 returns c d l N ok h =
     let a = c.before.before.before.before.before.before.args in
-    purpose-stored l d a.n _ h c.before.before.before.place.ensures a.k none N ok (sym (nodes-length N))
-    (c.add-purpose.ensures a.text.now _ N (hash-placed l d a.n _ h c.before.before.before.place.ensures _ c.before.before.hash-word.ensures.is))
+    purpose_stored l d a.n _ h c.before.before.before.place.ensures a.k none N ok (sym (nodes_length N))
+    (c.add-purpose.ensures a.text.now _ N (hash_placed l d a.n _ h c.before.before.before.place.ensures _ c.before.before.hash-word.ensures.is))
 
 pub store-purpose-root-spec : {M : Type 1} → statement M
 store-purpose-root-spec = tie.close (tie.spec place-requires hash-word-requires add-purpose-requires returns)

@@ -1,10 +1,10 @@
 -- `nodes::storing::store_role_below` meets its contract: the parent is found by its name. Assumes nothing.
 use mathlib.Core.Option.{some}
 use Rattle.lists.specs.Lists.{or_zero}
-use Rattle.document.specs.Lookup.{roleOf}
+use Rattle.document.specs.Lookup.{role_of}
 use Rattle.text.specs.Words.{word_of}
 use mathlib.Core.Path.{◌∙◌, ap}
-use Rattle.stepping.proofs.NamedLaws.{hash-placed, role-parent, role-stored}
+use Rattle.stepping.proofs.NamedLaws.{hash_placed, role_parent, role_stored}
 use borrow.Author.Rules.{rules}
 use Rattle.nodes.proofs.storing.store_role_below.Statement.{statement}
 use Rattle.nodes.proofs.storing.store_role_below.Tie as tie
@@ -25,12 +25,12 @@ add-role-requires : tie.Need-add-role-requires
 add-role-requires c κs = search rules
 
 returns : tie.Need-returns
-unfolding roleOf
+unfolding role_of
 returns c d l N ok h =
     let a = c.before.before.before.before.before.before.before.before.before.args in
-    role-stored l d a.n _ h c.before.before.before.place.ensures _ (some (word_of a.line.now a.p)) N ok
-    (c.before.before.before.before.number.ensures ∙ ap or_zero (c.before.before.before.before.before.find-role.ensures.0 _ N) ∙ role-parent d a.line.now (word_of a.line.now a.n) (word_of a.line.now a.p) ok)
-    (c.add-role.ensures a.text.now _ N (hash-placed l d a.n _ h c.before.before.before.place.ensures _ c.before.before.hash-word.ensures.is))
+    role_stored l d a.n _ h c.before.before.before.place.ensures _ (some (word_of a.line.now a.p)) N ok
+    (c.before.before.before.before.number.ensures ∙ ap or_zero (c.before.before.before.before.before.find-role.ensures.0 _ N) ∙ role_parent d a.line.now (word_of a.line.now a.n) (word_of a.line.now a.p) ok)
+    (c.add-role.ensures a.text.now _ N (hash_placed l d a.n _ h c.before.before.before.place.ensures _ c.before.before.hash-word.ensures.is))
 
 pub store-role-below-spec : {M : Type 1} → statement M
 store-role-below-spec =

@@ -1,5 +1,5 @@
 -- `notes::note_faults::label_note_fault` meets its contract. Assumes nothing.
-use Rattle.notes.proofs.LabelNoteFaults.{in-its-place, no_label, no_table, out-of-its-place}
+use Rattle.notes.proofs.LabelNoteFaults.{in_its_place, no_label, no_table, out_of_its_place}
 use borrow.Author.Rules.{rules}
 use Rattle.notes.proofs.note_faults.label_note_fault.Statement.{statement}
 use Rattle.notes.proofs.note_faults.label_note_fault.Tie as tie
@@ -42,7 +42,7 @@ is-out-of-place-requires c κs = search rules
 returns-3 : tie.Need-returns-3
 returns-3 c =
     let a = c.before.before.before.before.before.before.before.before.before.before.before.args in
-    out-of-its-place a.text.now a.labels.now a.tables.now a.rows.now a.c a.line.now a.t a.l a.strong
+    out_of_its_place a.text.now a.labels.now a.tables.now a.rows.now a.c a.line.now a.t a.l a.strong
     c.before.before.before.before.before.before.before.before.find-table.result
     c.before.before.before.before.before.before.before.before.find-table.ensures.0
     c.before.before.before.before.before.before.f.given.0.0 c.before.before.before.before.before.before.f.given.1
@@ -54,7 +54,7 @@ returns-3 c =
 returns-4 : tie.Need-returns-4
 returns-4 c =
     let a = c.before.before.before.before.before.before.before.before.before.before.before.args in
-    in-its-place a.text.now a.labels.now a.tables.now a.rows.now a.c a.line.now a.t a.l a.strong
+    in_its_place a.text.now a.labels.now a.tables.now a.rows.now a.c a.line.now a.t a.l a.strong
     c.before.before.before.before.before.before.before.before.find-table.result
     c.before.before.before.before.before.before.before.before.find-table.ensures.0
     c.before.before.before.before.before.before.f.given.0.0 c.before.before.before.before.before.before.f.given.1

@@ -1,5 +1,5 @@
 -- `notes::note_faults::public_fault` meets its contract: each answer by its law. Assumes nothing.
-use Rattle.notes.proofs.NoteFaults.{no_table, public-once, public-twice}
+use Rattle.notes.proofs.NoteFaults.{no_table, public_once, public_twice}
 use borrow.Author.Rules.{rules}
 use Rattle.notes.proofs.note_faults.public_fault.Statement.{statement}
 use Rattle.notes.proofs.note_faults.public_fault.Tie as tie
@@ -24,7 +24,7 @@ is-public-requires c κs = search rules
 returns-2 : tie.Need-returns-2
 returns-2 c =
     let a = c.before.before.before.before.before.before.before.before.args in
-    public-twice a.text.now a.tables.now a.k a.line.now a.t c.before.before.before.before.before.find-table.result
+    public_twice a.text.now a.tables.now a.k a.line.now a.t c.before.before.before.before.before.find-table.result
     c.before.before.before.before.before.find-table.ensures.0 c.before.before.before.f.given.0.0
     c.before.before.before.f.given.1 c.before.before.before.before.before.find-table.ensures.1 c.before.is-public.result
     c.before.is-public.ensures c.if1.true
@@ -32,7 +32,7 @@ returns-2 c =
 returns-3 : tie.Need-returns-3
 returns-3 c =
     let a = c.before.before.before.before.before.before.before.before.args in
-    public-once a.text.now a.tables.now a.k a.line.now a.t c.before.before.before.before.before.find-table.result
+    public_once a.text.now a.tables.now a.k a.line.now a.t c.before.before.before.before.before.find-table.result
     c.before.before.before.before.before.find-table.ensures.0 c.before.before.before.f.given.0.0
     c.before.before.before.f.given.1 c.before.before.before.before.before.find-table.ensures.1 c.before.is-public.result
     c.before.is-public.ensures c.if1.false

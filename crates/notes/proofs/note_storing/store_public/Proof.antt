@@ -2,7 +2,7 @@
 use mathlib.Core.Path.{◌∙◌, ap}
 use Rattle.document.specs.Lookup.{table_of}
 use Rattle.lists.specs.Lists.{or_zero}
-use Rattle.notes.proofs.NoteStored.{note-stored}
+use Rattle.notes.proofs.NoteStored.{note_stored}
 use Rattle.text.specs.Words.{word_of}
 use borrow.Author.Rules.{rules}
 use Rattle.notes.proofs.note_storing.store_public.Statement.{statement}
@@ -21,7 +21,7 @@ returns : tie.Need-returns
 unfolding table_of
 returns c d T N ok =
     let a = c.before.before.before.before.before.before.before.args in
-    note-stored d a.line.now (word_of a.line.now a.t) T N ok (c.before.before.number.ensures ∙ ap or_zero (c.before.before.before.find-table.ensures.0 _ T)) c.set-public.ensures
+    note_stored d a.line.now (word_of a.line.now a.t) T N ok (c.before.before.number.ensures ∙ ap or_zero (c.before.before.before.find-table.ensures.0 _ T)) c.set-public.ensures
 
 pub store-public-spec : {M : Type 1} → statement M
 store-public-spec = tie.close (tie.spec find-table-requires number-requires set-public-requires returns)

@@ -1,5 +1,5 @@
 -- `pairing::faults::judge_join` meets its contract: each step is the definition's. Assumes nothing.
-use Rattle.pairing.proofs.FaultLaws.{later-absent, later-closed, later-fine, later-mistyped, later-ranged}
+use Rattle.pairing.proofs.FaultLaws.{later_absent, later_closed, later_fine, later_mistyped, later_ranged}
 use borrow.Author.Rules.{rules}
 use mathlib.Core.Path.{◌∙◌}
 use Rattle.pairing.proofs.faults.judge_join.Statement.{statement}
@@ -13,7 +13,7 @@ enum-known-typed c = search rules
 
 returns : tie.Need-returns
 returns c =
-    λ d j h. later-mistyped d j c.before.before.before.judge-types.result (c.before.before.before.judge-types.ensures _ _ _ _ _ d j h)
+    λ d j h. later_mistyped d j c.before.before.before.judge-types.result (c.before.before.before.judge-types.ensures _ _ _ _ _ d j h)
     c.before.type-inv.given.0.0 c.before.type-inv.given.1
 
 enum_told : tie.Need-enum-told
@@ -33,10 +33,10 @@ returns-2 c =
     let p9 = c.before.before.before.before.before.before.before.before.before in
     let a = p9.before.before.args in
     λ d j h.
-    later-ranged d j c.before.before.before.before.before.before.before.before.judge-types.result
+    later_ranged d j c.before.before.before.before.before.before.before.before.judge-types.result
     (c.before.before.before.before.before.before.before.before.judge-types.ensures _ _ _ _ _ d j h) c.before.before.before.before.before.before.enum_told.given.1
     a.query.now c.before.before.before.before.ranged-join.result
-    (c.before.before.before.before.ranged-join.ensures d a.query.now h.tableCount j h.known h.rows h.small h.refs)
+    (c.before.before.before.before.ranged-join.ensures d a.query.now h.table_count j h.known h.rows h.small h.refs)
     c.before.before.ranged.given.1 c.refusal-at.result c.refusal-at.ensures
 
 enum-told-2 : tie.Need-enum-told-2
@@ -56,9 +56,9 @@ returns-3 c =
     let p9 = c.before.before.before.before.before.before.before.before.before in
     let a = p9.before.before.before.before.before.args in
     λ d j h.
-    later-absent d j p9.before.before.judge-types.result (p9.before.before.judge-types.ensures _ _ _ _ _ d j h) p9.enum_told.given.1
+    later_absent d j p9.before.before.judge-types.result (p9.before.before.judge-types.ensures _ _ _ _ _ d j h) p9.enum_told.given.1
     a.query.now c.before.before.before.before.before.before.before.ranged-join.result
-    (c.before.before.before.before.before.before.before.ranged-join.ensures d a.query.now h.tableCount j h.known h.rows h.small h.refs)
+    (c.before.before.before.before.before.before.before.ranged-join.ensures d a.query.now h.table_count j h.known h.rows h.small h.refs)
     c.before.before.before.before.before.enum-told2.given.1 c.before.before.before.before.missing-date.result
     (c.before.before.before.before.missing-date.ensures h.few ∙ h.dates) c.before.before.absent.given.1 c.refusal-written.result c.refusal-written.ensures
 
@@ -79,14 +79,14 @@ returns-4 c =
     let p9 = c.before.before.before.before.before.before.before.before.before in
     let a = p9.before.before.before.before.before.before.before.before.args in
     λ d j h.
-    later-closed d j p9.before.before.before.before.before.judge-types.result (p9.before.before.before.before.before.judge-types.ensures _ _ _ _ _ d j h)
+    later_closed d j p9.before.before.before.before.before.judge-types.result (p9.before.before.before.before.before.judge-types.ensures _ _ _ _ _ d j h)
     p9.before.before.before.enum_told.given.1
-    a.query.now p9.before.ranged-join.result (p9.before.ranged-join.ensures d a.query.now h.tableCount j h.known h.rows h.small h.refs)
+    a.query.now p9.before.ranged-join.result (p9.before.ranged-join.ensures d a.query.now h.table_count j h.known h.rows h.small h.refs)
     c.before.before.before.before.before.before.before.before.enum-told2.given.1
     c.before.before.before.before.before.before.before.missing-date.result
     (c.before.before.before.before.before.before.before.missing-date.ensures h.few ∙ h.dates) c.before.before.before.before.before.enum-told3.given.1
     c.before.before.before.before.closed-join.result (c.before.before.before.before.closed-join.ensures d.policy a.text.now a.query.now
-    h.tableCount j h.known h.notes h.said h.small h.refs)
+    h.table_count j h.known h.notes h.said h.small h.refs)
     c.before.before.closed.given.1 c.refusal-at2.result c.refusal-at2.ensures
 
 enum-told-4 : tie.Need-enum-told-4
@@ -97,12 +97,12 @@ returns-5 c =
     let p9 = c.before.before.before.before.before.before.before.before.before in
     let a = p9.before.before.before.before.before.before.args in
     λ d j h.
-    later-fine d j p9.before.before.before.judge-types.result (p9.before.before.before.judge-types.ensures _ _ _ _ _ d j h) p9.before.enum_told.given.1
+    later_fine d j p9.before.before.before.judge-types.result (p9.before.before.before.judge-types.ensures _ _ _ _ _ d j h) p9.before.enum_told.given.1
     a.query.now c.before.before.before.before.before.before.before.before.ranged-join.result
-    (c.before.before.before.before.before.before.before.before.ranged-join.ensures d a.query.now h.tableCount j h.known h.rows h.small h.refs)
+    (c.before.before.before.before.before.before.before.before.ranged-join.ensures d a.query.now h.table_count j h.known h.rows h.small h.refs)
     c.before.before.before.before.before.before.enum-told2.given.1 c.before.before.before.before.before.missing-date.result
     (c.before.before.before.before.before.missing-date.ensures h.few ∙ h.dates) c.before.before.before.enum-told3.given.1
-    c.before.before.closed-join.result (c.before.before.closed-join.ensures d.policy a.text.now a.query.now h.tableCount j h.known h.notes h.said h.small h.refs)
+    c.before.before.closed-join.result (c.before.before.closed-join.ensures d.policy a.text.now a.query.now h.table_count j h.known h.notes h.said h.small h.refs)
     c.enum-told4.given.1
 
 pub judge-join-spec : {M : Type 1} → statement M

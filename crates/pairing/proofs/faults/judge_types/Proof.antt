@@ -1,7 +1,7 @@
 -- `pairing::faults::judge_types` meets its contract: the keys' types come before those of the condition. Assumes nothing.
 use Rattle.condition.specs.Answers.{kind_of}
-use Rattle.pairing.proofs.FaultLaws.{key-known, key-number, keys-refused, other-known, other-number, tests-refused, types-pass}
-use Rattle.query.specs.JoinForm.{keyRef, otherKeyRef}
+use Rattle.pairing.proofs.FaultLaws.{key_known, key_number, keys_refused, other_known, other_number, tests_refused, types_pass}
+use Rattle.query.specs.JoinForm.{key_ref, other_key_ref}
 use borrow.Author.Rules.{rules}
 use borrow.Author.Tests.{not-false, not-true}
 use Rattle.pairing.proofs.faults.judge_types.Statement.{statement}
@@ -30,9 +30,9 @@ returns c =
     let p9 = c.before.before.before.before.before.before.before.before.before in
     let a = p9.args in
     λ text ws count os words d j h.
-    keys-refused h (kind_of c.before.before.before.before.before.ref-kind.result) (kind_of c.before.before.before.ref-kind2.result)
-    (c.before.before.before.before.before.ref-kind.ensures text a.query.now d.policy h.tableCount j (keyRef j) h.known (key-known h) (key-number h))
-    (c.before.before.before.ref-kind2.ensures text a.query.now d.policy h.tableCount j (otherKeyRef j) h.known (other-known h) (other-number h))
+    keys_refused h (kind_of c.before.before.before.before.before.ref-kind.result) (kind_of c.before.before.before.ref-kind2.result)
+    (c.before.before.before.before.before.ref-kind.ensures text a.query.now d.policy h.table_count j (key_ref j) h.known (key_known h) (key_number h))
+    (c.before.before.before.ref-kind2.ensures text a.query.now d.policy h.table_count j (other_key_ref j) h.known (other_known h) (other_number h))
     c.before.before.same_kind.result c.before.before.same_kind.ensures (not-true _ c.before.if1.true) c.refusal-at.result c.refusal-at.ensures
 
 mistyped-test-requires : tie.Need-mistyped-test-requires
@@ -49,9 +49,9 @@ returns-2 c =
     let p9 = c.before.before.before.before.before.before.before.before.before in
     let a = p9.before.before.before.before.args in
     λ text ws count os words d j h.
-    tests-refused h (kind_of p9.ref-kind.result) (kind_of c.before.before.before.before.before.before.before.ref-kind2.result)
-    (p9.ref-kind.ensures text a.query.now d.policy h.tableCount j (keyRef j) h.known (key-known h) (key-number h))
-    (c.before.before.before.before.before.before.before.ref-kind2.ensures text a.query.now d.policy h.tableCount j (otherKeyRef j) h.known (other-known h) (other-number h))
+    tests_refused h (kind_of p9.ref-kind.result) (kind_of c.before.before.before.before.before.before.before.ref-kind2.result)
+    (p9.ref-kind.ensures text a.query.now d.policy h.table_count j (key_ref j) h.known (key_known h) (key_number h))
+    (c.before.before.before.before.before.before.before.ref-kind2.ensures text a.query.now d.policy h.table_count j (other_key_ref j) h.known (other_known h) (other_number h))
     c.before.before.before.before.before.before.same_kind.result c.before.before.before.before.before.before.same_kind.ensures
     (not-false _ c.before.before.before.before.before.if1.false) c.before.before.before.before.mistyped-test.result
     (c.before.before.before.before.mistyped-test.ensures a.query.now)
@@ -65,9 +65,9 @@ returns-3 c =
     let p9 = c.before.before.before.before.before.before.before.before.before in
     let a = p9.before.before.args in
     λ text ws count os words d j h.
-    types-pass h (kind_of c.before.before.before.before.before.before.before.ref-kind.result) (kind_of c.before.before.before.before.before.ref-kind2.result)
-    (c.before.before.before.before.before.before.before.ref-kind.ensures text a.query.now d.policy h.tableCount j (keyRef j) h.known (key-known h) (key-number h))
-    (c.before.before.before.before.before.ref-kind2.ensures text a.query.now d.policy h.tableCount j (otherKeyRef j) h.known (other-known h) (other-number h))
+    types_pass h (kind_of c.before.before.before.before.before.before.before.ref-kind.result) (kind_of c.before.before.before.before.before.ref-kind2.result)
+    (c.before.before.before.before.before.before.before.ref-kind.ensures text a.query.now d.policy h.table_count j (key_ref j) h.known (key_known h) (key_number h))
+    (c.before.before.before.before.before.ref-kind2.ensures text a.query.now d.policy h.table_count j (other_key_ref j) h.known (other_known h) (other_number h))
     c.before.before.before.before.same_kind.result c.before.before.before.before.same_kind.ensures (not-false _ c.before.before.before.if1.false)
     c.before.before.mistyped-test.result (c.before.before.mistyped-test.ensures a.query.now)
     c.enum_told.given.1

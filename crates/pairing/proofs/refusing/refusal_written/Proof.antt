@@ -1,9 +1,9 @@
 -- `pairing::refusing::refusal_written` meets its contract. Assumes nothing.
 use Prim.Native.Nat.{◌-◌}
-use Rattle.pairing.specs.Refusing.{refusedWritten}
-use Rattle.text.specs.Reasons.{reasonNumber}
+use Rattle.pairing.specs.Refusing.{refused_written}
+use Rattle.text.specs.Reasons.{reason_number}
 use Rattle.text.specs.Refusal.{Refusal, pointing, query}
-use Rattle.text.specs.Words.{writtenAt}
+use Rattle.text.specs.Words.{written_at}
 use borrow.Author.Rules.{rules}
 use lib.ListN.{length}
 use mathlib.Core.Path.{◌≡◌, ap}
@@ -18,11 +18,11 @@ sub-t6 : tie.Need-overflow-sub-t6
 sub-t6 c = search rules
 
 returns : tie.Need-returns
-unfolding refusedWritten pointing
+unfolding refused_written pointing
 returns c =
     let a = c.before.before.args in
-    let l : c.written-end.result - a.at ≡ length (writtenAt a.query.now a.at) = omega (arith, c.written-end.ensures) in
-    ap {B = Refusal} (λ k. record { number = reasonNumber a.reason; source = query; start = a.at; len = k }) l
+    let l : c.written-end.result - a.at ≡ length (written_at a.query.now a.at) = omega (arith, c.written-end.ensures) in
+    ap {B = Refusal} (λ k. record { number = reason_number a.reason; source = query; start = a.at; len = k }) l
 
 pub refusal-written-spec : {M : Type 1} → statement M
 refusal-written-spec = tie.close (tie.spec written-end-requires sub-t6 returns)

@@ -6,7 +6,7 @@ use mathlib.Core.Option.{some}
 use mathlib.Core.Path.{subst}
 use native.Mathlib.Omega.{arith}
 use Rattle.condition.specs.Kinds.{Kind}
-use Rattle.principals.proofs.AttributeLaws.{attributeStores, attributes-pushed}
+use Rattle.principals.proofs.AttributeLaws.{attribute_stores, attributes_pushed}
 use Rattle.workspace.proofs.Stores.{stores}
 use Rattle.principals.specs.Attributes.{Attributes}
 use Rattle.text.specs.Words.{word_at}
@@ -47,9 +47,9 @@ same_length c = search rules
 returns : tie.Need-returns
 returns c text xs h =
     let a = c.before.before.args in
-    subst (λ (t : Kind). Attributes text (stores a.ws.now (attributeStores a.k a.pos a.role c.kind-cell.result)) (a.k + 1) (xs ++ (record { name = word_at text a.pos; role = some a.role; kind = t } ∷ [])))
+    subst (λ (t : Kind). Attributes text (stores a.ws.now (attribute_stores a.k a.pos a.role c.kind-cell.result)) (a.k + 1) (xs ++ (record { name = word_at text a.pos; role = some a.role; kind = t } ∷ [])))
     c.kind-cell.ensures
-    (attributes-pushed text a.ws.now a.k a.pos a.role c.kind-cell.result (omega arith) (omega arith) xs h)
+    (attributes_pushed text a.ws.now a.k a.pos a.role c.kind-cell.result (omega arith) (omega arith) xs h)
 
 pub store-attribute-spec : {M : Type 1} → statement M
 store-attribute-spec =

@@ -1,7 +1,7 @@
 -- `principals::conds::store_cond_role` meets its contract: the stores put one more behind those that there are. Assumes nothing.
 use lib.ListN.{length-set}
 use native.Mathlib.Omega.{arith}
-use Rattle.principals.proofs.CondRoleLaws.{conds-pushed}
+use Rattle.principals.proofs.CondRoleLaws.{conds_pushed}
 use borrow.Author.Rules.{rules}
 use Rattle.principals.proofs.conds.store_cond_role.Statement.{statement}
 use Rattle.principals.proofs.conds.store_cond_role.Tie as tie
@@ -63,7 +63,7 @@ same_length c = search rules
 returns : tie.Need-returns
 returns c d text cs n p h r =
     let a = c.args in
-    conds-pushed text a.ws.now a.k a.pos a.role a.start a.end a.place a.h c.requires.0 c.requires.1 d cs n p h r
+    conds_pushed text a.ws.now a.k a.pos a.role a.start a.end a.place a.h c.requires.0 c.requires.1 d cs n p h r
 
 pub store-cond-role-spec : {M : Type 1} → statement M
 store-cond-role-spec =

@@ -1,7 +1,7 @@
 -- `principals::grants::add_grant` meets its contract, by the law of one more. Assumes nothing.
 use borrow.Author.Rules.{rules}
 use native.Mathlib.Omega.{arith}
-use Rattle.principals.proofs.GrantLaws.{grants-pushed}
+use Rattle.principals.proofs.GrantLaws.{grants_pushed}
 use Rattle.principals.proofs.grants.add_grant.Statement.{statement}
 use Rattle.principals.proofs.grants.add_grant.Tie as tie
 
@@ -17,7 +17,7 @@ put-requires-2 c κs = search rules
 returns : tie.Need-returns
 returns c gs h l =
     let a = c.before.before.before.before.before.args in
-    grants-pushed a.ws.now a.k a.purpose a.cond-role c.before.before.before.put-arg.given.0.1 l _ _ gs c.before.before.put.ensures c.put2.ensures h
+    grants_pushed a.ws.now a.k a.purpose a.cond-role c.before.before.before.put-arg.given.0.1 l _ _ gs c.before.before.put.ensures c.put2.ensures h
 
 returns-2 : tie.Need-returns-2
 returns-2 c gs h l = absurd (omega arith)

@@ -1,5 +1,5 @@
 -- `principals::names::add_node` meets its contract: the stores put one more behind those that there are. Assumes nothing.
-use Rattle.principals.proofs.NodeLaws.{nodes-pushed}
+use Rattle.principals.proofs.NodeLaws.{nodes_pushed}
 use borrow.Author.Rules.{rules}
 use Rattle.principals.proofs.names.add_node.Statement.{statement}
 use Rattle.principals.proofs.names.add_node.Tie as tie
@@ -40,7 +40,7 @@ same_length c = search rules
 returns : tie.Need-returns
 returns c text ns n named =
     let a = c.before.before.before.before.before.before.before.before.before.before.before.before.before.before.before.before.before.before.before.args in
-    nodes-pushed a.room text a.ws.now a.k a.pos a.parent a.h _ c.before.before.before.before.before.before.before.before.before.before.before.before.before.before.before.before.before.before.before.requires.0 c.before.before.before.before.before.before.before.before.before.before.before.before.before.before.before.before.before.before.before.requires.1 c.before.before.before.before.before.before.before.before.before.before.before.before.before.before.before.before.before.before.before.requires.2 c.before.before.before.before.before.before.before.before.before.before.before.before.before.before.before.before.first-hashed.ensures ns n named _ _ _ _
+    nodes_pushed a.room text a.ws.now a.k a.pos a.parent a.h _ c.before.before.before.before.before.before.before.before.before.before.before.before.before.before.before.before.before.before.before.requires.0 c.before.before.before.before.before.before.before.before.before.before.before.before.before.before.before.before.before.before.before.requires.1 c.before.before.before.before.before.before.before.before.before.before.before.before.before.before.before.before.before.before.before.requires.2 c.before.before.before.before.before.before.before.before.before.before.before.before.before.before.before.before.first-hashed.ensures ns n named _ _ _ _
     c.before.before.before.before.before.before.before.before.before.before.before.before.before.before.put.ensures c.before.before.before.before.before.before.before.before.before.before.put2.ensures c.before.before.before.before.before.before.put3.ensures c.before.before.put4.ensures
 
 pub add-node-spec : {M : Type 1} → statement M

@@ -1,6 +1,6 @@
 -- `principals::names::add_role` meets its contract: the array has room, and a name's hash is a slot's number. Assumes nothing.
 use native.Mathlib.Omega.{arith}
-use Rattle.workspace.proofs.HashLaws.{hash-below}
+use Rattle.workspace.proofs.HashLaws.{hash_below}
 use borrow.Author.Rules.{rules}
 use Rattle.text.specs.Words.{word_at}
 use Rattle.principals.proofs.names.add_role.Statement.{statement}
@@ -13,7 +13,7 @@ returns : tie.Need-returns
 returns c text ns n e l = c.add-node.ensures text ns n e
 
 returns-2 : tie.Need-returns-2
-returns-2 c text ns n e l = absurd (omega (arith, e, hash-below (word_at text c.before.before.args.pos)))
+returns-2 c text ns n e l = absurd (omega (arith, e, hash_below (word_at text c.before.before.args.pos)))
 
 returns-3 : tie.Need-returns-3
 returns-3 c text ns n e l = absurd (omega arith)

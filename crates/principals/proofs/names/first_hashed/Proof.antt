@@ -1,7 +1,7 @@
 -- `principals::names::first_hashed` meets its contract: what the slot holds counts if it is the number of a name with that hash.
 -- Assumes nothing.
 use borrow.Author.Rules.{rules}
-use Rattle.principals.proofs.NodeLaws.{slot-beyond, slot-first, slot-other}
+use Rattle.principals.proofs.NodeLaws.{slot_beyond, slot_first, slot_other}
 use Rattle.principals.proofs.names.first_hashed.Statement.{statement}
 use Rattle.principals.proofs.names.first_hashed.Tie as tie
 
@@ -32,17 +32,17 @@ shared-slice-read-if2 c = search rules
 returns : tie.Need-returns
 returns c =
     let a = c.before.before.before.before.args in
-    slot-first a.room a.ws.now a.k a.h c.before.before.if1.true c.if2.true
+    slot_first a.room a.ws.now a.k a.h c.before.before.if1.true c.if2.true
 
 returns-2 : tie.Need-returns-2
 returns-2 c =
     let a = c.before.before.before.before.args in
-    slot-other a.room a.ws.now a.k a.h c.if2.false
+    slot_other a.room a.ws.now a.k a.h c.if2.false
 
 returns-3 : tie.Need-returns-3
 returns-3 c =
     let a = c.before.before.args in
-    slot-beyond a.room a.ws.now a.k a.h c.if1.false
+    slot_beyond a.room a.ws.now a.k a.h c.if1.false
 
 pub first-hashed-spec : {M : Type 1} → statement M
 first-hashed-spec =

@@ -3,7 +3,7 @@
 use Prim.Native.Nat.{◌<◌}
 use mathlib.Core.Path.{subst, sym}
 use native.Mathlib.Omega.{arith}
-use Rattle.workspace.proofs.HashLaws.{hash-below}
+use Rattle.workspace.proofs.HashLaws.{hash_below}
 use Rattle.workspace.specs.Hash.{slots}
 use Rattle.text.specs.Words.{word_at}
 use borrow.Author.Rules.{rules}
@@ -17,7 +17,7 @@ sub-find-node : tie.Need-overflow-sub-find-node
 sub-find-node c = search rules
 
 find-node-requires : tie.Need-find-node-requires
-find-node-requires c κs = (c.before.before.before.before.requires.0, c.before.before.before.before.requires.1, subst (λ m. m < slots) (sym c.hash-word.ensures.is) (hash-below (word_at c.before.before.before.before.args.line.now c.before.before.before.before.args.i)))
+find-node-requires c κs = (c.before.before.before.before.requires.0, c.before.before.before.before.requires.1, subst (λ m. m < slots) (sym c.hash-word.ensures.is) (hash_below (word_at c.before.before.before.before.args.line.now c.before.before.before.before.args.i)))
 
 returns : tie.Need-returns
 returns c = record {

@@ -1,7 +1,7 @@
 -- `principals::users::add_user` meets its contract, by the law of one more. Assumes nothing.
 use borrow.Author.Rules.{rules}
 use native.Mathlib.Omega.{arith}
-use Rattle.principals.proofs.UserLaws.{users-pushed}
+use Rattle.principals.proofs.UserLaws.{users_pushed}
 use Rattle.principals.proofs.users.add_user.Statement.{statement}
 use Rattle.principals.proofs.users.add_user.Tie as tie
 
@@ -53,7 +53,7 @@ put-requires-6 c κs = search rules
 returns : tie.Need-returns
 returns c d text us h p l =
     let a = c.before.before.before.before.before.before.before.before.before.before.before.before.before.args in
-    users-pushed d text a.ws.now a.k a.pos a.role a.start a.end a.place a.h c.before.before.before.before.before.before.before.before.before.before.before.put-arg.given.0.1 l _ _ _ _ _ _ us
+    users_pushed d text a.ws.now a.k a.pos a.role a.start a.end a.place a.h c.before.before.before.before.before.before.before.before.before.before.before.put-arg.given.0.1 l _ _ _ _ _ _ us
     c.before.before.before.before.before.before.before.before.before.before.put.ensures c.before.before.before.before.before.before.before.before.put2.ensures c.before.before.before.before.before.before.put3.ensures c.before.before.before.before.put4.ensures c.before.before.put5.ensures c.put6.ensures h p
 
 returns-2 : tie.Need-returns-2

@@ -6,16 +6,16 @@ use lib.ListN.{length}
 use mathlib.Core.Bool.{false}
 use mathlib.Core.Path.{◌∙◌, ◌≡◌, sym}
 use native.Mathlib.Omega.{arith}
-use Rattle.principals.proofs.UserLaws.{user-found, user-missed}
+use Rattle.principals.proofs.UserLaws.{user_found, user_missed}
 use Rattle.workspace.specs.Hash.{Printed}
-use Rattle.principals.specs.Users.{userPasses}
+use Rattle.principals.specs.Users.{user_passes}
 use Rattle.text.specs.Words.{word_at, word_of}
 use Rattle.principals.proofs.users.find_user.Statement.{statement}
 use Rattle.principals.proofs.users.find_user.Tie as tie
 
 abbrev invariant-loop : tie.invariant-loop
 invariant-loop text ws k line u role e h len i₀ i =
-    (i ≤ k) × (k ≤ 256) × (((j : ℕ) → j < k → Printed 1280 text ws j) → (j : ℕ) → j < i → userPasses (word_of line u) text ws role j ≡ false)
+    (i ≤ k) × (k ≤ 256) × (((j : ℕ) → j < k → Printed 1280 text ws j) → (j : ℕ) → j < i → user_passes (word_of line u) text ws role j ≡ false)
 
 abbrev decreases-loop : tie.decreases-loop
 decreases-loop text ws k line u role e h len i₀ i = k - i
@@ -41,7 +41,7 @@ returns-2 c =
     let i = c.before.before.before.loop.i in
     let small : c.before.before.before.loop.i < c.before.before.before.before.before.before.before.before.args.k = omega arith in
     let sized : c.before.before.before.before.print-word.result.end - c.before.before.before.before.before.before.before.before.args.u ≡ length (word_at c.before.before.before.before.before.before.before.before.args.line.now c.before.before.before.before.before.before.before.before.args.u) = omega (arith, c.before.before.before.before.print-word.ensures.ends) in
-    (λ d us h. user-found (word_of a.line.now a.u) a.text.now a.ws.now a.role a.k d us h i small (c.before.before.before.loop.invariant.2 h.printed) (sym (c.before.is-user.ensures (h.printed i small) sized c.before.before.before.before.print-word.ensures.is) ∙ c.if2.true), small)
+    (λ d us h. user_found (word_of a.line.now a.u) a.text.now a.ws.now a.role a.k d us h i small (c.before.before.before.loop.invariant.2 h.printed) (sym (c.before.is-user.ensures (h.printed i small) sized c.before.before.before.before.print-word.ensures.is) ∙ c.if2.true), small)
 
 add-i : tie.Need-overflow-add-i invariant-loop decreases-loop
 add-i c = search rules
@@ -63,7 +63,7 @@ returns-3 : tie.Need-returns-3 invariant-loop decreases-loop
 returns-3 c =
     let a = c.before.before.before.before.before.before.args in
     let inv = c.before.loop.invariant in
-    (λ d us h. user-missed (word_of a.line.now a.u) a.text.now a.ws.now a.role a.k d us h (λ j l. inv.2 h.printed j (omega (arith, l))), tt)
+    (λ d us h. user_missed (word_of a.line.now a.u) a.text.now a.ws.now a.role a.k d us h (λ j l. inv.2 h.printed j (omega (arith, l))), tt)
 
 pub find-user-spec : {M : Type 1} → statement M
 find-user-spec =

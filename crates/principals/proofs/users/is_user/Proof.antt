@@ -1,8 +1,8 @@
 -- `principals::users::is_user` meets its contract: another print is another name's. Assumes nothing.
 use borrow.Author.Rules.{rules}
 use mathlib.Core.Path.{◌∙◌, sym}
-use Rattle.principals.proofs.UserLaws.{other-role, printed-other, same-role}
-use Rattle.text.specs.Words.{isCalled, word_of}
+use Rattle.principals.proofs.UserLaws.{other_role, printed_other, same_role}
+use Rattle.text.specs.Words.{is_called, word_of}
 use Rattle.principals.proofs.users.is_user.Statement.{statement}
 use Rattle.principals.proofs.users.is_user.Tie as tie
 
@@ -21,7 +21,7 @@ element-copy-out-if1 c = search rules
 returns : tie.Need-returns
 returns c p sized is =
     let a = c.before.before.before.before.args in
-    sym (printed-other (word_of a.line.now a.u) a.text.now a.ws.now a.role a.i p a.h is c.if1.true)
+    sym (printed_other (word_of a.line.now a.u) a.text.now a.ws.now a.role a.i p a.h is c.if1.true)
 
 add-if2 : tie.Need-overflow-add-if2
 add-if2 c = search rules
@@ -42,15 +42,15 @@ same-length-name-requires : tie.Need-same-length-name-requires
 same-length-name-requires c κs = search rules
 
 returns-2 : tie.Need-returns-2
-unfolding isCalled
+unfolding is_called
 returns-2 c p sized is =
     let a = c.before.before.before.before.before.before.before.before.args in
-    c.same-length-name.ensures sized ∙ sym (same-role (word_of a.line.now a.u) a.text.now a.ws.now a.role a.i c.before.before.if2.true)
+    c.same-length-name.ensures sized ∙ sym (same_role (word_of a.line.now a.u) a.text.now a.ws.now a.role a.i c.before.before.if2.true)
 
 returns-3 : tie.Need-returns-3
 returns-3 c p sized is =
     let a = c.before.before.before.before.before.before.args in
-    sym (other-role (word_of a.line.now a.u) a.text.now a.ws.now a.role a.i c.if2.false)
+    sym (other_role (word_of a.line.now a.u) a.text.now a.ws.now a.role a.i c.if2.false)
 
 pub is-user-spec : {M : Type 1} → statement M
 is-user-spec =

@@ -2,8 +2,8 @@
 use borrow.Author.Rules.{rules}
 use mathlib.Core.Path.{◌∙◌, ap, sym}
 use native.Mathlib.Omega.{arith}
-use Rattle.principals.proofs.UserLaws.{user-called}
-use Rattle.workspace.specs.Found.{foundAs}
+use Rattle.principals.proofs.UserLaws.{user_called}
+use Rattle.workspace.specs.Found.{found_as}
 use Rattle.lists.specs.Lists.{there}
 use Rattle.text.specs.Words.{word_of}
 use Rattle.principals.proofs.users.user_named.Statement.{statement}
@@ -28,13 +28,13 @@ returns-2 : tie.Need-returns-2
 unfolding there
 returns-2 c d us h =
     let a = c.before.before.before.before.before.before.before.args in
-    sym (ap (λ f. there (foundAs f)) c.enum_told.given.1) ∙ user-called (word_of a.line.now a.u) (foundAs c.before.before.find-printed.result) h (c.before.before.find-printed.ensures.0 (omega arith) h.printed)
+    sym (ap (λ f. there (found_as f)) c.enum_told.given.1) ∙ user_called (word_of a.line.now a.u) (found_as c.before.before.find-printed.result) h (c.before.before.find-printed.ensures.0 (omega arith) h.printed)
 
 returns-3 : tie.Need-returns-3
 unfolding there
 returns-3 c d us h =
     let a = c.before.before.before.before.before.before.before.args in
-    sym (ap (λ f. there (foundAs f)) c.enum-told2.given.1) ∙ user-called (word_of a.line.now a.u) (foundAs c.before.before.find-printed.result) h (c.before.before.find-printed.ensures.0 (omega arith) h.printed)
+    sym (ap (λ f. there (found_as f)) c.enum-told2.given.1) ∙ user_called (word_of a.line.now a.u) (found_as c.before.before.find-printed.result) h (c.before.before.find-printed.ensures.0 (omega arith) h.printed)
 
 pub user-named-spec : {M : Type 1} → statement M
 user-named-spec =

@@ -1,7 +1,7 @@
 -- `programs::lines::put_accepted` meets its contract: its parts stand one behind the other. Assumes nothing.
 use borrow.Author.Rules.{rules}
 use Rattle.writing.proofs.Writing.{both}
-use Rattle.programs.specs.Lines.{acceptedLine}
+use Rattle.programs.specs.Lines.{accepted_line}
 use Rattle.programs.proofs.lines.put_accepted.Statement.{statement}
 use Rattle.programs.proofs.lines.put_accepted.Tie as tie
 
@@ -27,7 +27,7 @@ same_length : tie.Need-same-length
 same_length c = search rules
 
 returns : tie.Need-returns
-unfolding acceptedLine
+unfolding accepted_line
 returns c =
     both (both (both c.before.before.before.before.before.before.before.before.before.before.before.before.before.before.before.put-bytes.ensures c.before.before.before.before.before.before.before.before.before.before.before.put-number.ensures) c.before.before.before.before.before.before.before.put-number2.ensures) c.before.before.put-bytes2.ensures
 

@@ -1,6 +1,6 @@
 -- `programs::lines::put_refusal` meets its contract: its parts stand one behind the other. Assumes nothing.
 use borrow.Author.Rules.{rules}
-use Rattle.answer.specs.Session.{refusalLine}
+use Rattle.answer.specs.Session.{refusal_line}
 use Rattle.writing.proofs.Writing.{both}
 use Rattle.programs.proofs.lines.put_refusal.Statement.{statement}
 use Rattle.programs.proofs.lines.put_refusal.Tie as tie
@@ -36,7 +36,7 @@ same_length : tie.Need-same-length
 same_length c = search rules
 
 returns : tie.Need-returns
-unfolding refusalLine
+unfolding refusal_line
 returns c =
     let called = rw c.before.before.before.before.before.before.before.before.before.before.before.before.before.before.before.before.before.before.before.before.number.ensures at c.before.before.before.before.before.before.before.before.before.before.before.before.before.before.before.before.before.before.before.put-decimal.ensures in
     both (both (both (both (both c.before.before.before.before.before.before.before.before.before.before.before.before.before.before.before.before.before.before.before.before.before.before.before.before.put-bytes.ensures called) c.before.before.before.before.before.before.before.before.before.before.before.before.before.before.before.put-source.ensures) c.before.before.before.before.before.before.before.before.before.before.before.put-number.ensures) c.before.before.before.before.before.before.before.put-number2.ensures) c.before.before.put-bytes2.ensures

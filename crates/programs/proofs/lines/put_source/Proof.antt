@@ -1,6 +1,6 @@
 -- `programs::lines::put_source` meets its contract. Assumes nothing.
 use borrow.Author.Rules.{rules}
-use Rattle.answer.specs.Session.{sourceName}
+use Rattle.answer.specs.Session.{source_name}
 use Rattle.programs.proofs.lines.put_source.Statement.{statement}
 use Rattle.programs.proofs.lines.put_source.Tie as tie
 
@@ -35,21 +35,21 @@ same_length : tie.Need-same-length
 same_length c = search rules
 
 returns : tie.Need-returns
-unfolding sourceName
+unfolding source_name
 returns c = rw c.before.before.before.before.before.enum_told.given.1 c.before.before.put-bytes.ensures
 
 same-length-2 : tie.Need-same-length-2
 same-length-2 c = search rules
 
 returns-2 : tie.Need-returns-2
-unfolding sourceName
+unfolding source_name
 returns-2 c = rw c.before.before.before.before.before.enum-told2.given.1 c.before.before.put-bytes2.ensures
 
 same-length-3 : tie.Need-same-length-3
 same-length-3 c = search rules
 
 returns-3 : tie.Need-returns-3
-unfolding sourceName
+unfolding source_name
 returns-3 c = rw c.before.before.before.before.before.enum-told3.given.1 c.before.before.put-bytes3.ensures
 
 pub put-source-spec : {M : Type 1} → statement M

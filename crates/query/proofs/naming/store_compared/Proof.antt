@@ -4,7 +4,7 @@
 use Prim.Native.Nat.{◌-◌}
 use borrow.Author.Rules.{rules}
 use native.Mathlib.Omega.{arith}
-use Rattle.query.proofs.NamingLaws.{Comparing, comparing-done, comparing-full, comparing-more, comparing-short, comparing-start}
+use Rattle.query.proofs.NamingLaws.{Comparing, comparing_done, comparing_full, comparing_more, comparing_short, comparing_start}
 use Rattle.query.proofs.naming.store_compared.Statement.{statement}
 use Rattle.query.proofs.naming.store_compared.Tie as tie
 
@@ -15,13 +15,13 @@ abbrev decreases-loop : tie.decreases-loop
 decreases-loop s ops n k out₀ j₀ m₀ out j m = n - j
 
 loop-holds : tie.Need-loop-init invariant-loop decreases-loop
-loop-holds c = comparing-start c.before.before.before.args.s.now c.before.before.before.args.ops.now c.before.before.before.args.n c.before.before.before.args.k c.before.before.before.args.out.now
+loop-holds c = comparing_start c.before.before.before.args.s.now c.before.before.before.args.ops.now c.before.before.before.args.n c.before.before.before.args.k c.before.before.before.args.out.now
 
 same_length : tie.Need-same-length invariant-loop decreases-loop
 same_length c = c.before.before.loop.invariant.long
 
 returns : tie.Need-returns invariant-loop decreases-loop
-returns c = comparing-short c.before.before.before.before.before.before.args.s.now
+returns c = comparing_short c.before.before.before.before.before.before.args.s.now
     c.before.before.before.before.before.before.args.ops.now c.before.before.before.before.before.before.args.n
     c.before.before.before.before.before.before.args.k c.before.before.before.before.before.before.args.out.now
     c.before.before.loop.out c.before.before.loop.j c.before.before.loop.m c.before.before.loop.invariant
@@ -31,7 +31,7 @@ same-length-2 : tie.Need-same-length-2 invariant-loop decreases-loop
 same-length-2 c = c.before.before.before.loop.invariant.long
 
 returns-2 : tie.Need-returns-2 invariant-loop decreases-loop
-returns-2 c = comparing-full c.before.before.before.before.before.before.before.args.s.now
+returns-2 c = comparing_full c.before.before.before.before.before.before.before.args.s.now
     c.before.before.before.before.before.before.before.args.ops.now c.before.before.before.before.before.before.before.args.n
     c.before.before.before.before.before.before.before.args.k c.before.before.before.before.before.before.before.args.out.now
     c.before.before.before.loop.out c.before.before.before.loop.j c.before.before.before.loop.m
@@ -41,7 +41,7 @@ loop-less : tie.Need-loop-smaller invariant-loop decreases-loop
 loop-less c = omega arith
 
 loop-again : tie.Need-loop-preserved invariant-loop decreases-loop
-loop-again c = comparing-more c.before.before.before.before.before.before.before.before.before.args.s.now
+loop-again c = comparing_more c.before.before.before.before.before.before.before.before.before.args.s.now
     c.before.before.before.before.before.before.before.before.before.args.ops.now
     c.before.before.before.before.before.before.before.before.before.args.n
     c.before.before.before.before.before.before.before.before.before.args.k
@@ -54,7 +54,7 @@ same-length-3 : tie.Need-same-length-3 invariant-loop decreases-loop
 same-length-3 c = c.before.loop.invariant.long
 
 returns-3 : tie.Need-returns-3 invariant-loop decreases-loop
-returns-3 c = comparing-done c.before.before.before.before.before.args.s.now c.before.before.before.before.before.args.ops.now
+returns-3 c = comparing_done c.before.before.before.before.before.args.s.now c.before.before.before.before.before.args.ops.now
     c.before.before.before.before.before.args.n c.before.before.before.before.before.args.k
     c.before.before.before.before.before.args.out.now c.before.loop.out c.before.loop.j c.before.loop.m
     c.before.loop.invariant (omega arith)

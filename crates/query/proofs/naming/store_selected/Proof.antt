@@ -6,8 +6,8 @@ use borrow.Author.Rules.{rules}
 use lib.ListN.{length, length-set}
 use mathlib.Core.Path.{◌∙◌, refl, sym}
 use native.Mathlib.Omega.{arith}
-use Rattle.query.proofs.NamingLaws.{Storing, storing-full, storing-last, storing-more, storing-start}
-use Rattle.text.proofs.Spaces.{space-here}
+use Rattle.query.proofs.NamingLaws.{Storing, storing_full, storing_last, storing_more, storing_start}
+use Rattle.text.proofs.Spaces.{space_here}
 use Rattle.query.proofs.naming.store_selected.Statement.{statement}
 use Rattle.query.proofs.naming.store_selected.Tie as tie
 
@@ -18,7 +18,7 @@ abbrev decreases-loop : tie.decreases-loop
 decreases-loop s p out₀ at₀ k₀ out at k = length out₀ - k
 
 loop-holds : tie.Need-loop-init invariant-loop decreases-loop
-loop-holds c = storing-start c.before.before.args.s.now c.before.before.args.p c.before.before.args.out.now
+loop-holds c = storing_start c.before.before.args.s.now c.before.before.args.p c.before.before.args.out.now
 
 slice-write-out : tie.Need-slice-write-out invariant-loop decreases-loop
 slice-write-out c = c.loop-test.true
@@ -27,7 +27,7 @@ same_length : tie.Need-same-length invariant-loop decreases-loop
 same_length c = simp length-set c.before.before.before.before.loop.invariant.long
 
 returns : tie.Need-returns invariant-loop decreases-loop
-returns c = storing-last c.before.before.before.before.before.before.before.args.s.now
+returns c = storing_last c.before.before.before.before.before.before.before.args.s.now
     c.before.before.before.before.before.before.before.args.p
     (length c.before.before.before.before.before.before.before.args.out.now) c.before.before.before.before.loop.out
     c.before.before.before.before.loop.at c.before.before.before.before.loop.k c.before.before.before.before.loop.invariant
@@ -35,13 +35,13 @@ returns c = storing-last c.before.before.before.before.before.before.before.args
     c.before.before.before.before.before.before.before.args.out.now refl
 
 add_at : tie.Need-overflow-add-at invariant-loop decreases-loop
-add_at c = omega (arith, (space-here c.before.before.before.before.before.before.before.args.s.now c.before.before.word-end.result _ c.before.byte_at.ensures c.if1.false).1)
+add_at c = omega (arith, (space_here c.before.before.before.before.before.before.before.args.s.now c.before.before.word-end.result _ c.before.byte_at.ensures c.if1.false).1)
 
 loop-less : tie.Need-loop-smaller invariant-loop decreases-loop
 loop-less c = omega (arith, c.before.before.before.before.loop.invariant.long, c.before.before.before.loop-test.true)
 
 loop-again : tie.Need-loop-preserved invariant-loop decreases-loop
-loop-again c = storing-more c.before.before.before.before.before.before.before.args.s.now
+loop-again c = storing_more c.before.before.before.before.before.before.before.args.s.now
     c.before.before.before.before.before.before.before.args.p
     (length c.before.before.before.before.before.before.before.args.out.now) c.before.before.before.before.loop.out
     c.before.before.before.before.loop.at c.before.before.before.before.loop.k c.before.before.before.before.loop.invariant
@@ -51,7 +51,7 @@ same-length-2 : tie.Need-same-length-2 invariant-loop decreases-loop
 same-length-2 c = c.before.loop.invariant.long
 
 returns-2 : tie.Need-returns-2 invariant-loop decreases-loop
-returns-2 c = storing-full c.before.before.before.before.args.s.now c.before.before.before.before.args.p
+returns-2 c = storing_full c.before.before.before.before.args.s.now c.before.before.before.before.args.p
     (length c.before.before.before.before.args.out.now) c.before.loop.out c.before.loop.at c.before.loop.k
     c.before.loop.invariant (omega arith) c.before.before.before.before.args.out.now refl
 

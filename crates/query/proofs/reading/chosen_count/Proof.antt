@@ -1,5 +1,5 @@
 -- `query::reading::chosen_count` meets its contract. Assumes nothing.
-use Rattle.query.proofs.BodiesRead.{chosen_none, chosen-rows}
+use Rattle.query.proofs.BodiesRead.{chosen_none, chosen_rows}
 use borrow.Author.Rules.{rules}
 use Rattle.query.proofs.reading.chosen_count.Statement.{statement}
 use Rattle.query.proofs.reading.chosen_count.Tie as tie
@@ -11,7 +11,7 @@ enum_told : tie.Need-enum-told
 enum_told c = search rules
 
 returns : tie.Need-returns
-returns c = chosen-rows c.before.w.given.1
+returns c = chosen_rows c.before.w.given.1
 
 returns-2 : tie.Need-returns-2
 returns-2 c = chosen_none c.enum_told.given.1

@@ -5,11 +5,11 @@ use borrow.Author.Rules.{rules}
 use lib.ListN.{get_or}
 use mathlib.Core.Path.{◌∙◌, ◌≡◌, sym}
 use native.Mathlib.Omega.{arith}
-use Rattle.form.proofs.PartLaws.{names-to, space-before}
-use Rattle.query.proofs.PartsRead.{columns-no-space, columns-none, columns-open, columns-read, columns-shut, columns-wrong, names-few}
+use Rattle.form.proofs.PartLaws.{names_to, space_before}
+use Rattle.query.proofs.PartsRead.{columns_no_space, columns_none, columns_open, columns_read, columns_shut, columns_wrong, names_few}
 use Rattle.query.proofs.WholeLaws.{closes_before}
 use Rattle.text.proofs.EndLaws.{end_none}
-use Rattle.text.proofs.Lefts.{before-end}
+use Rattle.text.proofs.Lefts.{before_end}
 use Rattle.text.specs.Brackets.{many}
 use Rattle.text.specs.Words.{name}
 use Rattle.query.proofs.reading.column_list.Statement.{statement}
@@ -25,24 +25,24 @@ closes : (c : tie.Else3) → get_or c.before.before.before.before.before.before.
 closes c = sym c.before.byte-at3.ensures ∙ c.if3.false
 
 returns : tie.Need-returns
-returns c = columns-no-space c.before.before.before.args.s.now c.before.before.before.args.at (λ z. c.if1.true (c.before.byte_at.ensures ∙ z))
+returns c = columns_no_space c.before.before.before.args.s.now c.before.before.before.args.at (λ z. c.if1.true (c.before.byte_at.ensures ∙ z))
 
 add-b : tie.Need-overflow-add-b
-add-b c = omega (arith, space-before c.before.before.before.args.s.now c.before.before.before.args.at (space c))
+add-b c = omega (arith, space_before c.before.before.before.args.s.now c.before.before.before.args.at (space c))
 
 returns-2 : tie.Need-returns-2
-returns-2 c = columns-shut c.before.before.before.before.before.args.s.now c.before.before.before.before.before.args.at (space c.before.before) (λ z. c.if2.true (c.before.byte-at2.ensures ∙ z))
+returns-2 c = columns_shut c.before.before.before.before.before.args.s.now c.before.before.before.before.before.args.at (space c.before.before) (λ z. c.if2.true (c.before.byte-at2.ensures ∙ z))
 
 add-p : tie.Need-overflow-add-p
-add-p c = omega (arith, before-end c.before.before.before.before.before.args.s.now (c.before.before.before.before.before.args.at + 1) (λ z. absurd (omega (arith, opens c, z))))
+add-p c = omega (arith, before_end c.before.before.before.before.before.args.s.now (c.before.before.before.before.before.args.at + 1) (λ z. absurd (omega (arith, opens c, z))))
 
 returns-3 : tie.Need-returns-3
-returns-3 c = columns-none c.before.before.before.before.before.before.before.before.args.s.now
+returns-3 c = columns_none c.before.before.before.before.before.before.before.before.args.s.now
     c.before.before.before.before.before.before.before.before.args.at (space c.before.before.before.before.before)
     (opens c.before.before.before) (sym c.before.before.name-end.ensures ∙ c.enum_told.given.1)
 
 returns-4 : tie.Need-returns-4
-returns-4 c = columns-wrong c.before.before.before.before.before.before.before.before.before.before.before.before.args.s.now
+returns-4 c = columns_wrong c.before.before.before.before.before.before.before.before.before.before.before.before.args.s.now
     c.before.before.before.before.before.before.before.before.before.before.before.before.args.at
     (space c.before.before.before.before.before.before.before.before.before)
     (opens c.before.before.before.before.before.before.before)
@@ -50,32 +50,32 @@ returns-4 c = columns-wrong c.before.before.before.before.before.before.before.b
     (end_none (many name) c.before.before.before.before.before.before.before.before.before.before.before.before.args.s.now c.before.before.before.before.c.given.0.0 (sym c.before.before.names-end.ensures ∙ c.enum-told2.given.1))
 
 returns-5 : tie.Need-returns-5
-returns-5 c = columns-open
+returns-5 c = columns_open
     c.before.before.before.before.before.before.before.before.before.before.before.before.before.before.before.args.s.now
     c.before.before.before.before.before.before.before.before.before.before.before.before.before.before.before.args.at (space
     c.before.before.before.before.before.before.before.before.before.before.before.before) (opens
     c.before.before.before.before.before.before.before.before.before.before) (sym
     c.before.before.before.before.before.before.before.before.before.name-end.ensures ∙ c.before.before.before.before.before.before.before.c.given.1)
-    (names-to
+    (names_to
     c.before.before.before.before.before.before.before.before.before.before.before.before.before.before.before.args.s.now
     c.before.before.before.before.before.before.before.c.given.0.0 c.before.before.before.m.given.0.0
     c.before.before.before.before.before.names-end.ensures c.before.before.before.m.given.1) (λ z. c.if3.true
     (c.before.byte-at3.ensures ∙ z))
 
 add-t12 : tie.Need-overflow-add-t12
-add-t12 c = omega (arith, c.count-names.ensures, names-few c.before.before.before.before.before.before.before.before.before.before.before.before.before.before.before.before.args.s.now c.before.before.before.before.before.before.before.before.c.given.0.0)
+add-t12 c = omega (arith, c.count-names.ensures, names_few c.before.before.before.before.before.before.before.before.before.before.before.before.before.before.before.before.args.s.now c.before.before.before.before.before.before.before.before.c.given.0.0)
 
 add-t13 : tie.Need-overflow-add-t13
 add-t13 c = omega (arith, closes_before c.before.before.before.before.before.before.before.before.before.before.before.before.before.before.before.before.args.s.now c.before.before.before.before.m.given.0.0 (closes c.before))
 
 returns-6 : tie.Need-returns-6
-returns-6 c = columns-read
+returns-6 c = columns_read
     c.before.before.before.before.before.before.before.before.before.before.before.before.before.before.before.before.args.s.now
     c.before.before.before.before.before.before.before.before.before.before.before.before.before.before.before.before.args.at
     (space c.before.before.before.before.before.before.before.before.before.before.before.before.before) (opens
     c.before.before.before.before.before.before.before.before.before.before.before) (sym
     c.before.before.before.before.before.before.before.before.before.before.name-end.ensures ∙ c.before.before.before.before.before.before.before.before.c.given.1)
-    (names-to
+    (names_to
     c.before.before.before.before.before.before.before.before.before.before.before.before.before.before.before.before.args.s.now
     c.before.before.before.before.before.before.before.before.c.given.0.0 c.before.before.before.before.m.given.0.0
     c.before.before.before.before.before.before.names-end.ensures c.before.before.before.before.m.given.1) (closes c.before)

@@ -2,19 +2,19 @@
 -- Assumes nothing.
 use borrow.Author.Rules.{rules}
 use mathlib.Core.Path.{subst}
-use Rattle.query.proofs.BodiesRead.{body-headless, count-read, count-wrong}
-use Rattle.query.specs.QueryForm.{countsOnly}
+use Rattle.query.proofs.BodiesRead.{body_headless, count_read_lem, count_wrong}
+use Rattle.query.specs.QueryForm.{counts_only}
 use Rattle.query.specs.QueryPartPlaces.{ReadsHead, ReadsTest}
 use Rattle.text.specs.Reader.{give}
 use Rattle.query.proofs.reading.count_body.Statement.{statement}
 use Rattle.query.proofs.reading.count_body.Tie as tie
 
 returns : tie.Need-returns
-returns c = body-headless c.before.before.before.before.args.s.now (give countsOnly) (subst (ReadsHead c.before.before.before.before.args.s.now c.before.before.before.before.args.at) c.enum_told.given.1 c.before.before.query-head.ensures)
+returns c = body_headless c.before.before.before.before.args.s.now (give counts_only) (subst (ReadsHead c.before.before.before.before.args.s.now c.before.before.before.before.args.at) c.enum_told.given.1 c.before.before.query-head.ensures)
 
 returns-2 : tie.Need-returns-2
 returns-2 c =
-    count-wrong c.before.before.before.before.before.before.before.before.args.s.now
+    count_wrong c.before.before.before.before.before.before.before.before.args.s.now
     (subst
     (ReadsHead c.before.before.before.before.before.before.before.before.args.s.now c.before.before.before.before.before.before.before.before.args.at)
     c.before.before.before.before.a.given.1 c.before.before.before.before.before.before.query-head.ensures)
@@ -22,7 +22,7 @@ returns-2 c =
 
 returns-3 : tie.Need-returns-3
 returns-3 c =
-    count-read c.before.before.before.before.before.before.before.before.before.args.s.now
+    count_read_lem c.before.before.before.before.before.before.before.before.before.args.s.now
     (subst
     (ReadsHead c.before.before.before.before.before.before.before.before.before.args.s.now c.before.before.before.before.before.before.before.before.before.args.at)
     c.before.before.before.before.before.a.given.1 c.before.before.before.before.before.before.before.query-head.ensures)

@@ -7,8 +7,8 @@ use lib.ListN.{length}
 use mathlib.Core.Path.{◌∙◌, ◌≡◌, sym}
 use native.Mathlib.Omega.{arith}
 use Rattle.form.specs.Walks.{names_at}
-use Rattle.query.proofs.PartsRead.{count-more, count-stop}
-use Rattle.text.proofs.Spaces.{space-here}
+use Rattle.query.proofs.PartsRead.{count_more, count_stop}
+use Rattle.text.proofs.Spaces.{space_here}
 use Rattle.query.proofs.reading.count_names.Statement.{statement}
 use Rattle.query.proofs.reading.count_names.Tie as tie
 
@@ -22,23 +22,23 @@ loop-holds : tie.Need-loop-init invariant-loop decreases-loop
 loop-holds c = (omega arith, omega arith)
 
 add-word-end : tie.Need-overflow-add-word-end invariant-loop decreases-loop
-add-word-end c = omega (arith, (space-here c.before.before.before.before.args.s.now c.before.before.loop.i _ c.before.byte_at.ensures c.if1.true).1)
+add-word-end c = omega (arith, (space_here c.before.before.before.before.args.s.now c.before.before.loop.i _ c.before.byte_at.ensures c.if1.true).1)
 
 add-n : tie.Need-overflow-add-n invariant-loop decreases-loop
-add-n c = omega (arith, (space-here c.before.before.before.before.before.args.s.now c.before.before.before.loop.i _ c.before.before.byte_at.ensures c.before.if1.true).1, c.before.before.before.loop.invariant.1)
+add-n c = omega (arith, (space_here c.before.before.before.before.before.args.s.now c.before.before.before.loop.i _ c.before.before.byte_at.ensures c.before.if1.true).1, c.before.before.before.loop.invariant.1)
 
 loop-less : tie.Need-loop-smaller invariant-loop decreases-loop
-loop-less c = omega (arith, (space-here c.before.before.before.before.before.args.s.now c.before.before.before.loop.i _ c.before.before.byte_at.ensures c.before.if1.true).1, c.word-end.ensures)
+loop-less c = omega (arith, (space_here c.before.before.before.before.before.args.s.now c.before.before.before.loop.i _ c.before.before.byte_at.ensures c.before.if1.true).1, c.word-end.ensures)
 
 loop-again : tie.Need-loop-preserved invariant-loop decreases-loop
-loop-again c = count-more c.before.before.before.before.before.args.s.now c.before.before.before.loop.i
+loop-again c = count_more c.before.before.before.before.before.args.s.now c.before.before.before.loop.i
     c.before.before.before.loop.n
     (length (names_at c.before.before.before.before.before.args.s.now c.before.before.before.before.before.args.at))
     c.word-end.result (sym c.before.before.byte_at.ensures ∙ c.before.if1.true) c.word-end.ensures
     c.before.before.before.loop.invariant
 
 returns : tie.Need-returns invariant-loop decreases-loop
-returns c = count-stop c.before.before.before.before.args.s.now c.before.before.loop.i c.before.before.loop.n
+returns c = count_stop c.before.before.before.before.args.s.now c.before.before.loop.i c.before.before.loop.n
     (length (names_at c.before.before.before.before.args.s.now c.before.before.before.before.args.at))
     (λ z. c.if1.false (c.before.byte_at.ensures ∙ z)) c.before.before.loop.invariant.0
 

@@ -1,7 +1,7 @@
 -- `query::reading::is_certain` meets its contract. Assumes nothing.
-use Rattle.query.proofs.BodiesRead.{mode-by}
+use Rattle.query.proofs.BodiesRead.{mode_by_lem}
 use Rattle.query.specs.QueryForm.{mode_of}
-use Rattle.query.specs.QueryPlaces.{verbOf}
+use Rattle.query.specs.QueryPlaces.{verb_of}
 use borrow.Author.Rules.{rules}
 use Rattle.query.specs.declared.reading.Verb.TheVariants as verb
 use Rattle.query.proofs.reading.is_certain.Statement.{statement}
@@ -20,20 +20,20 @@ enum-told-4 : tie.Need-enum-told-4
 enum-told-4 c = search rules
 
 returns : tie.Need-returns
-unfolding mode_of verbOf
-returns c = mode-by verb.Select c.enum_told.given.1
+unfolding mode_of verb_of
+returns c = mode_by_lem verb.Select c.enum_told.given.1
 
 returns-2 : tie.Need-returns-2
-unfolding mode_of verbOf
-returns-2 c = mode-by verb.Blank c.enum-told2.given.1
+unfolding mode_of verb_of
+returns-2 c = mode_by_lem verb.Blank c.enum-told2.given.1
 
 returns-3 : tie.Need-returns-3
-unfolding mode_of verbOf
-returns-3 c = mode-by verb.Sure c.enum-told3.given.1
+unfolding mode_of verb_of
+returns-3 c = mode_by_lem verb.Sure c.enum-told3.given.1
 
 returns-4 : tie.Need-returns-4
-unfolding mode_of verbOf
-returns-4 c = mode-by verb.Possible c.enum-told4.given.1
+unfolding mode_of verb_of
+returns-4 c = mode_by_lem verb.Possible c.enum-told4.given.1
 
 pub is-certain-spec : {M : Type 1} → statement M
 is-certain-spec =

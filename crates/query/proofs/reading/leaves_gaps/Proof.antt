@@ -1,7 +1,7 @@
 -- `query::reading::leaves_gaps` meets its contract. Assumes nothing.
-use Rattle.query.proofs.BodiesRead.{gaps-by}
-use Rattle.query.specs.QueryForm.{leavesGaps}
-use Rattle.query.specs.QueryPlaces.{verbOf}
+use Rattle.query.proofs.BodiesRead.{gaps_by_lem}
+use Rattle.query.specs.QueryForm.{leaves_gaps}
+use Rattle.query.specs.QueryPlaces.{verb_of}
 use borrow.Author.Rules.{rules}
 use Rattle.query.specs.declared.reading.Verb.TheVariants as verb
 use Rattle.query.proofs.reading.leaves_gaps.Statement.{statement}
@@ -20,20 +20,20 @@ enum-told-4 : tie.Need-enum-told-4
 enum-told-4 c = search rules
 
 returns : tie.Need-returns
-unfolding leavesGaps verbOf
-returns c = gaps-by verb.Select c.enum_told.given.1
+unfolding leaves_gaps verb_of
+returns c = gaps_by_lem verb.Select c.enum_told.given.1
 
 returns-2 : tie.Need-returns-2
-unfolding leavesGaps verbOf
-returns-2 c = gaps-by verb.Blank c.enum-told2.given.1
+unfolding leaves_gaps verb_of
+returns-2 c = gaps_by_lem verb.Blank c.enum-told2.given.1
 
 returns-3 : tie.Need-returns-3
-unfolding leavesGaps verbOf
-returns-3 c = gaps-by verb.Sure c.enum-told3.given.1
+unfolding leaves_gaps verb_of
+returns-3 c = gaps_by_lem verb.Sure c.enum-told3.given.1
 
 returns-4 : tie.Need-returns-4
-unfolding leavesGaps verbOf
-returns-4 c = gaps-by verb.Possible c.enum-told4.given.1
+unfolding leaves_gaps verb_of
+returns-4 c = gaps_by_lem verb.Possible c.enum-told4.given.1
 
 pub leaves-gaps-spec : {M : Type 1} → statement M
 leaves-gaps-spec =

@@ -4,8 +4,8 @@ use borrow.Author.Rules.{rules}
 use lib.ListN.{get_or}
 use mathlib.Core.Path.{◌∙◌, ◌≡◌, sym}
 use native.Mathlib.Omega.{arith}
-use Rattle.form.proofs.PartLaws.{space-before}
-use Rattle.query.proofs.PartsRead.{test-absent, test_read, test-wrong}
+use Rattle.form.proofs.PartLaws.{space_before}
+use Rattle.query.proofs.PartsRead.{test_absent, test_read, test_wrong}
 use Rattle.query.proofs.reading.optional_condition.Statement.{statement}
 use Rattle.query.proofs.reading.optional_condition.Tie as tie
 
@@ -13,16 +13,16 @@ space : (c : tie.Else1) → get_or c.before.before.before.args.s.now c.before.be
 space c = sym c.before.byte_at.ensures ∙ c.if1.false
 
 returns : tie.Need-returns
-returns c = test-absent c.before.before.before.args.s.now c.before.before.before.args.at (λ z. c.if1.true (c.before.byte_at.ensures ∙ z))
+returns c = test_absent c.before.before.before.args.s.now c.before.before.before.args.at (λ z. c.if1.true (c.before.byte_at.ensures ∙ z))
 
 add-t : tie.Need-overflow-add-t
-add-t c = omega (arith, space-before c.before.before.before.args.s.now c.before.before.before.args.at (space c))
+add-t c = omega (arith, space_before c.before.before.before.args.s.now c.before.before.before.args.at (space c))
 
 returns-2 : tie.Need-returns-2
 returns-2 c = test_read c.before.before.before.before.before.before.before.args.s.now c.before.before.before.before.before.before.before.args.at (space c.before.before.before.before) (sym c.before.before.before.read-condition.ensures ∙ c.before.c.given.1)
 
 returns-3 : tie.Need-returns-3
-returns-3 c = test-wrong c.before.before.before.before.before.before.args.s.now c.before.before.before.before.before.before.args.at (space c.before.before.before) (sym c.before.before.read-condition.ensures ∙ c.enum_told.given.1)
+returns-3 c = test_wrong c.before.before.before.before.before.before.args.s.now c.before.before.before.before.before.before.args.at (space c.before.before.before) (sym c.before.before.read-condition.ensures ∙ c.enum_told.given.1)
 
 byte-at-requires : tie.Need-byte-at-requires
 byte-at-requires c κs = search rules

@@ -2,12 +2,12 @@
 -- Assumes nothing.
 use borrow.Author.Rules.{rules}
 use mathlib.Core.Path.{◌∙◌, sym}
-use Rattle.query.proofs.BodiesRead.{at-blank, at_count, at_none, at-possible, at-select, at-sure}
+use Rattle.query.proofs.BodiesRead.{at_blank, at_count, at_none, at_possible, at_select, at_sure}
 use Rattle.query.proofs.reading.query_body.Statement.{statement}
 use Rattle.query.proofs.reading.query_body.Tie as tie
 
 returns : tie.Need-returns
-returns c = at-select c.before.before.before.before.before.before.args.s.now c.before.before.before.before.before.before.args.at c.before.before.before.before.word-end.ensures (sym c.before.before.is_IsWord.ensures ∙ c.before.if1.true) c.rows-body.ensures
+returns c = at_select c.before.before.before.before.before.before.args.s.now c.before.before.before.before.before.before.args.at c.before.before.before.before.word-end.ensures (sym c.before.before.is_IsWord.ensures ∙ c.before.if1.true) c.rows-body.ensures
 
 returns-2 : tie.Need-returns-2
 returns-2 c = at_count c.before.before.before.before.before.before.before.before.before.args.s.now
@@ -17,7 +17,7 @@ returns-2 c = at_count c.before.before.before.before.before.before.before.before
     (sym c.before.before.is-word2.ensures ∙ c.before.if2.true) c.count-body.ensures
 
 returns-3 : tie.Need-returns-3
-returns-3 c = at-blank c.before.before.before.before.before.before.before.before.before.before.before.before.args.s.now
+returns-3 c = at_blank c.before.before.before.before.before.before.before.before.before.before.before.before.args.s.now
     c.before.before.before.before.before.before.before.before.before.before.before.before.args.at
     c.before.before.before.before.before.before.before.before.before.before.word-end.ensures
     (sym c.before.before.before.before.before.before.before.before.is_IsWord.ensures ∙ c.before.before.before.before.before.before.before.if1.false)
@@ -25,7 +25,7 @@ returns-3 c = at-blank c.before.before.before.before.before.before.before.before
     (sym c.before.before.is-word3.ensures ∙ c.before.if3.true) c.rows-body2.ensures
 
 returns-4 : tie.Need-returns-4
-returns-4 c = at-sure
+returns-4 c = at_sure
     c.before.before.before.before.before.before.before.before.before.before.before.before.before.before.before.args.s.now
     c.before.before.before.before.before.before.before.before.before.before.before.before.before.before.before.args.at
     c.before.before.before.before.before.before.before.before.before.before.before.before.before.word-end.ensures
@@ -35,7 +35,7 @@ returns-4 c = at-sure
     (sym c.before.before.is-word4.ensures ∙ c.before.if4.true) c.rows-body3.ensures
 
 returns-5 : tie.Need-returns-5
-returns-5 c = at-possible
+returns-5 c = at_possible
     c.before.before.before.before.before.before.before.before.before.before.before.before.before.before.before.before.before.before.args.s.now
     c.before.before.before.before.before.before.before.before.before.before.before.before.before.before.before.before.before.before.args.at
     c.before.before.before.before.before.before.before.before.before.before.before.before.before.before.before.before.word-end.ensures

@@ -3,8 +3,8 @@
 use borrow.Author.Rules.{rules}
 use mathlib.Core.Path.{◌∙◌, sym}
 use native.Mathlib.Omega.{arith}
-use Rattle.form.proofs.PartLaws.{name-to}
-use Rattle.query.proofs.PartsRead.{Named, head_read, head-wrong-1, head-wrong-2, head-wrong-3, head-wrong-4}
+use Rattle.form.proofs.PartLaws.{name_to}
+use Rattle.query.proofs.PartsRead.{Named, head_read, head_wrong_1, head_wrong_2, head_wrong_3, head_wrong_4}
 use Rattle.text.proofs.EndLaws.{end_none}
 use Rattle.text.specs.Brackets.{next}
 use Rattle.text.specs.Words.{name}
@@ -12,32 +12,32 @@ use Rattle.query.proofs.reading.query_head.Statement.{statement}
 use Rattle.query.proofs.reading.query_head.Tie as tie
 
 first : (c : tie.After-u) → Named c.before.before.before.before.args.s.now c.before.before.before.before.args.at c.u.given.0.0
-first c = name-to c.before.before.before.before.args.s.now c.before.before.before.before.args.at c.u.given.0.0 c.before.before.spaced-name-end.ensures c.u.given.1
+first c = name_to c.before.before.before.before.args.s.now c.before.before.before.before.args.at c.u.given.0.0 c.before.before.spaced-name-end.ensures c.u.given.1
 
 second : (c : tie.After-r) → Named c.before.before.before.before.before.before.before.before.args.s.now c.before.before.before.before.u.given.0.0 c.r.given.0.0
-second c = name-to c.before.before.before.before.before.before.before.before.args.s.now c.before.before.before.before.u.given.0.0 c.r.given.0.0 c.before.before.spaced-name-end2.ensures c.r.given.1
+second c = name_to c.before.before.before.before.before.before.before.before.args.s.now c.before.before.before.before.u.given.0.0 c.r.given.0.0 c.before.before.spaced-name-end2.ensures c.r.given.1
 
 third : (c : tie.After-p) → Named c.before.before.before.before.before.before.before.before.before.before.before.before.args.s.now c.before.before.before.before.r.given.0.0 c.p.given.0.0
-third c = name-to c.before.before.before.before.before.before.before.before.before.before.before.before.args.s.now c.before.before.before.before.r.given.0.0 c.p.given.0.0 c.before.before.spaced-name-end3.ensures c.p.given.1
+third c = name_to c.before.before.before.before.before.before.before.before.before.before.before.before.args.s.now c.before.before.before.before.r.given.0.0 c.p.given.0.0 c.before.before.spaced-name-end3.ensures c.p.given.1
 
 fourth : (c : tie.After-t) → Named c.before.before.before.before.before.before.before.before.before.before.before.before.before.before.before.before.args.s.now c.before.before.before.before.p.given.0.0 c.t.given.0.0
-fourth c = name-to c.before.before.before.before.before.before.before.before.before.before.before.before.before.before.before.before.args.s.now c.before.before.before.before.p.given.0.0 c.t.given.0.0 c.before.before.spaced-name-end4.ensures c.t.given.1
+fourth c = name_to c.before.before.before.before.before.before.before.before.before.before.before.before.before.before.before.before.args.s.now c.before.before.before.before.p.given.0.0 c.t.given.0.0 c.before.before.spaced-name-end4.ensures c.t.given.1
 
 returns : tie.Need-returns
-returns c = head-wrong-1 c.before.before.before.before.args.s.now (end_none (next name) c.before.before.before.before.args.s.now c.before.before.before.before.args.at (sym c.before.before.spaced-name-end.ensures ∙ c.enum_told.given.1))
+returns c = head_wrong_1 c.before.before.before.before.args.s.now (end_none (next name) c.before.before.before.before.args.s.now c.before.before.before.before.args.at (sym c.before.before.spaced-name-end.ensures ∙ c.enum_told.given.1))
 
 returns-2 : tie.Need-returns-2
-returns-2 c = head-wrong-2 c.before.before.before.before.before.before.before.before.args.s.now
+returns-2 c = head_wrong_2 c.before.before.before.before.before.before.before.before.args.s.now
     (first c.before.before.before.before)
     (end_none (next name) c.before.before.before.before.before.before.before.before.args.s.now c.before.before.before.before.u.given.0.0 (sym c.before.before.spaced-name-end2.ensures ∙ c.enum-told2.given.1))
 
 returns-3 : tie.Need-returns-3
-returns-3 c = head-wrong-3 c.before.before.before.before.before.before.before.before.before.before.before.before.args.s.now
+returns-3 c = head_wrong_3 c.before.before.before.before.before.before.before.before.before.before.before.before.args.s.now
     (first c.before.before.before.before.before.before.before.before) (second c.before.before.before.before)
     (end_none (next name) c.before.before.before.before.before.before.before.before.before.before.before.before.args.s.now c.before.before.before.before.r.given.0.0 (sym c.before.before.spaced-name-end3.ensures ∙ c.enum-told3.given.1))
 
 returns-4 : tie.Need-returns-4
-returns-4 c = head-wrong-4
+returns-4 c = head_wrong_4
     c.before.before.before.before.before.before.before.before.before.before.before.before.before.before.before.before.args.s.now
     (first c.before.before.before.before.before.before.before.before.before.before.before.before) (second
     c.before.before.before.before.before.before.before.before) (third c.before.before.before.before) (end_none (next name)

@@ -2,20 +2,20 @@
 -- Assumes nothing.
 use borrow.Author.Rules.{rules}
 use mathlib.Core.Path.{subst}
-use Rattle.query.proofs.BodiesRead.{body-headless, rows-no-columns, rows-read, rows-wrong}
+use Rattle.query.proofs.BodiesRead.{body_headless, rows_no_columns, rows_read, rows_wrong}
 use Rattle.query.specs.QueryPartPlaces.{ReadsColumns, ReadsHead, ReadsTest}
-use Rattle.query.specs.QueryForm.{wantedRows}
-use Rattle.query.specs.QueryPlaces.{verbOf}
+use Rattle.query.specs.QueryForm.{wanted_rows}
+use Rattle.query.specs.QueryPlaces.{verb_of}
 use Rattle.query.proofs.reading.rows_body.Statement.{statement}
 use Rattle.query.proofs.reading.rows_body.Tie as tie
 
 returns : tie.Need-returns
-returns c = body-headless c.before.before.before.before.args.s.now (wantedRows (verbOf c.before.before.before.before.args.verb))
+returns c = body_headless c.before.before.before.before.args.s.now (wanted_rows (verb_of c.before.before.before.before.args.verb))
     (subst (ReadsHead c.before.before.before.before.args.s.now c.before.before.before.before.args.at) c.enum_told.given.1 c.before.before.query-head.ensures)
 
 returns-2 : tie.Need-returns-2
 returns-2 c =
-    rows-no-columns c.before.before.before.before.before.before.before.before.args.s.now
+    rows_no_columns c.before.before.before.before.before.before.before.before.args.s.now
     (subst
     (ReadsHead c.before.before.before.before.before.before.before.before.args.s.now c.before.before.before.before.before.before.before.before.args.at)
     c.before.before.before.before.a.given.1 c.before.before.before.before.before.before.query-head.ensures)
@@ -24,7 +24,7 @@ returns-2 c =
 
 returns-3 : tie.Need-returns-3
 returns-3 c =
-    rows-wrong c.before.before.before.before.before.before.before.before.before.before.before.before.args.s.now
+    rows_wrong c.before.before.before.before.before.before.before.before.before.before.before.before.args.s.now
     (subst
     (ReadsHead c.before.before.before.before.before.before.before.before.before.before.before.before.args.s.now c.before.before.before.before.before.before.before.before.before.before.before.before.args.at)
     c.before.before.before.before.before.before.before.before.a.given.1
@@ -37,7 +37,7 @@ returns-3 c =
 
 returns-4 : tie.Need-returns-4
 returns-4 c =
-    rows-read c.before.before.before.before.before.before.before.before.before.before.before.before.before.args.s.now
+    rows_read c.before.before.before.before.before.before.before.before.before.before.before.before.before.args.s.now
     (subst
     (ReadsHead c.before.before.before.before.before.before.before.before.before.before.before.before.before.args.s.now c.before.before.before.before.before.before.before.before.before.before.before.before.before.args.at)
     c.before.before.before.before.before.before.before.before.before.a.given.1

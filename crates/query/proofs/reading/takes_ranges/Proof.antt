@@ -1,7 +1,7 @@
 -- `query::reading::takes_ranges` meets its contract. Assumes nothing.
-use Rattle.query.proofs.BodiesRead.{ranges-by}
-use Rattle.query.specs.QueryForm.{takesRanges}
-use Rattle.query.specs.QueryPlaces.{verbOf}
+use Rattle.query.proofs.BodiesRead.{ranges_by}
+use Rattle.query.specs.QueryForm.{takes_ranges}
+use Rattle.query.specs.QueryPlaces.{verb_of}
 use borrow.Author.Rules.{rules}
 use Rattle.query.specs.declared.reading.Verb.TheVariants as verb
 use Rattle.query.proofs.reading.takes_ranges.Statement.{statement}
@@ -20,20 +20,20 @@ enum-told-4 : tie.Need-enum-told-4
 enum-told-4 c = search rules
 
 returns : tie.Need-returns
-unfolding takesRanges verbOf
-returns c = ranges-by verb.Select c.enum_told.given.1
+unfolding takes_ranges verb_of
+returns c = ranges_by verb.Select c.enum_told.given.1
 
 returns-2 : tie.Need-returns-2
-unfolding takesRanges verbOf
-returns-2 c = ranges-by verb.Blank c.enum-told2.given.1
+unfolding takes_ranges verb_of
+returns-2 c = ranges_by verb.Blank c.enum-told2.given.1
 
 returns-3 : tie.Need-returns-3
-unfolding takesRanges verbOf
-returns-3 c = ranges-by verb.Sure c.enum-told3.given.1
+unfolding takes_ranges verb_of
+returns-3 c = ranges_by verb.Sure c.enum-told3.given.1
 
 returns-4 : tie.Need-returns-4
-unfolding takesRanges verbOf
-returns-4 c = ranges-by verb.Possible c.enum-told4.given.1
+unfolding takes_ranges verb_of
+returns-4 c = ranges_by verb.Possible c.enum-told4.given.1
 
 pub takes-ranges-spec : {M : Type 1} → statement M
 takes-ranges-spec =

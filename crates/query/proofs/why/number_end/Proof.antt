@@ -1,7 +1,7 @@
 -- `query::why::number_end` meets its contract: a number is a word that spells one. Assumes nothing.
 use Rattle.lists.specs.Lists.{there}
-use Rattle.text.proofs.CodeLaws.{number_at, number-nothing}
-use Rattle.text.proofs.WordLaws.{word_read, word-refused}
+use Rattle.text.proofs.CodeLaws.{number_at, number_nothing}
+use Rattle.text.proofs.WordLaws.{word_read, word_refused}
 use Rattle.text.specs.Numbers.{is_number}
 use Rattle.text.specs.declared.words.End.TheVariants.{At}
 use borrow.Author.Rules.{rules}
@@ -33,7 +33,7 @@ returns-2 c =
     let entry = c.before.before.before.before.args in
     let s = entry.s.now in
     let at = entry.at in
-    rw (word-refused s at is_number (ap there (number-nothing s at (sym c.before.before.read_number.ensures ∙ c.enum_told.given.1))))
+    rw (word_refused s at is_number (ap there (number_nothing s at (sym c.before.before.read_number.ensures ∙ c.enum_told.given.1))))
 
 pub number-end-spec : {M : Type 1} → statement M
 number-end-spec =

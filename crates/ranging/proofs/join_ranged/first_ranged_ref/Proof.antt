@@ -1,13 +1,13 @@
 -- `ranging::join_ranged::first_ranged_ref` meets its contract. The loop's invariant: the columns that were passed have no range.
 -- Assumes nothing.
 use Prim.Native.Nat.{◌-◌, ◌<◌, ◌≤◌, ℕ}
-use Rattle.answer.specs.Ranged.{rangedRef}
+use Rattle.answer.specs.Ranged.{ranged_ref}
 use Rattle.condition.specs.CondForm.{Ref}
 use Rattle.document.specs.Policy.{Doc}
-use Rattle.query.specs.JoinForm.{JoinForm, joinRefs}
-use Rattle.ranging.proofs.RangedRefs.{ref-plain, ref-ranged}
+use Rattle.query.specs.JoinForm.{JoinForm, join_refs}
+use Rattle.ranging.proofs.RangedRefs.{ref_plain, ref_ranged}
 use Rattle.relations.specs.Rows.{Rows}
-use Rattle.resolving.proofs.FirstAt.{first-there, none-there}
+use Rattle.resolving.proofs.FirstAt.{first_there, none_there}
 use Rattle.resolving.specs.Joins.{KnowsTables, RefsRead}
 use Rattle.text.specs.Words.{word_of}
 use borrow.Author.Count.{below_more, below_none}
@@ -23,8 +23,8 @@ use Rattle.ranging.proofs.join_ranged.first_ranged_ref.Tie as tie
 abbrev invariant-loop : tie.invariant-loop
 invariant-loop text tables rows count p words n columns i₀ i =
     (i ≤ n)
-    × ((d : Doc) (s : List ℕ) (k : ℕ) (j : JoinForm) → KnowsTables text tables k s p d.policy j → Rows text rows count d.rows → RefsRead d.policy j (joinRefs j) s n words columns
-    → (m : ℕ) → m < i → (r : Ref) → get_elem? (joinRefs j) m ≡ some r → rangedRef d j r ≡ none)
+    × ((d : Doc) (s : List ℕ) (k : ℕ) (j : JoinForm) → KnowsTables text tables k s p d.policy j → Rows text rows count d.rows → RefsRead d.policy j (join_refs j) s n words columns
+    → (m : ℕ) → m < i → (r : Ref) → get_elem? (join_refs j) m ≡ some r → ranged_ref d j r ≡ none)
 
 abbrev decreases-loop : tie.decreases-loop
 decreases-loop text tables rows count p words n columns i₀ i = n - i
@@ -51,10 +51,10 @@ returns : tie.Need-returns invariant-loop decreases-loop
 returns c =
     let a = c.before.before.before.before.before.before.before.args in
     λ d s k j h w g.
-    sym (first-there (rangedRef d j) (joinRefs j) a.n g.number c.before.before.before.before.before.loop.i
+    sym (first_there (ranged_ref d j) (join_refs j) a.n g.number c.before.before.before.before.before.loop.i
     (word_of s (get_or a.words.now c.before.before.before.before.before.loop.i 0)) c.before.before.before.before.loop-test.true
     (c.before.before.before.before.before.loop.invariant.1 d s k j h w g)
-    (λ r e. ref-ranged d h g c.before.before.before.before.before.loop.i c.before.before.is-ref-ranged.result
+    (λ r e. ref_ranged d h g c.before.before.before.before.before.loop.i c.before.before.is-ref-ranged.result
     (c.before.before.is-ref-ranged.ensures d s k j h w) r e c.before.if1.true))
 
 add-i : tie.Need-overflow-add-i invariant-loop decreases-loop
@@ -67,12 +67,12 @@ loop-again : tie.Need-loop-preserved invariant-loop decreases-loop
 loop-again c = (
   omega (arith, c.before.before.before.loop-test.true),
   λ d s k j h w g. below_more _ c.before.before.before.before.loop.i (c.before.before.before.before.loop.invariant.1 d s k j h w g)
-      (λ r e. ref-plain d h g c.before.before.before.before.loop.i c.before.is-ref-ranged.result (c.before.is-ref-ranged.ensures d s k j h w) r e c.if1.false),
+      (λ r e. ref_plain d h g c.before.before.before.before.loop.i c.before.is-ref-ranged.result (c.before.is-ref-ranged.ensures d s k j h w) r e c.if1.false),
 )
 
 returns-2 : tie.Need-returns-2 invariant-loop decreases-loop
 returns-2 c =
-    λ d s k j h w g. sym (none-there (rangedRef d j) (joinRefs j) c.before.before.before.args.n g.number
+    λ d s k j h w g. sym (none_there (ranged_ref d j) (join_refs j) c.before.before.before.args.n g.number
     (λ m l. c.before.loop.invariant.1 d s k j h w g m (omega (arith, l, c.loop-test.false))))
 
 pub first-ranged-ref-spec : {M : Type 1} → statement M

@@ -1,6 +1,6 @@
 -- `ranging::join_ranged::is_ref_ranged` meets its contract: the first table's width says in which table the column is. Assumes nothing.
-use Rattle.answer.specs.Ranged.{hasRange}
-use Rattle.resolving.proofs.Through.{through-above, through-below}
+use Rattle.answer.specs.Ranged.{has_range}
+use Rattle.resolving.proofs.Through.{through_above, through_below}
 use borrow.Author.Rules.{rules}
 use mathlib.Core.Path.{◌∙◌}
 use native.Mathlib.Omega.{arith}
@@ -14,18 +14,18 @@ column-ranged-requires : tie.Need-column-ranged-requires
 column-ranged-requires c κs = search rules
 
 returns : tie.Need-returns
-unfolding hasRange
+unfolding has_range
 returns c =
-    λ d s k j h w. c.column-ranged.ensures d.rows w ∙ through-below h (hasRange d) c.before.before.before.before.args.c
+    λ d s k j h w. c.column-ranged.ensures d.rows w ∙ through_below h (has_range d) c.before.before.before.before.args.c
     c.before.before.table-width.result c.before.before.table-width.ensures c.before.if1.true
 
 column-ranged-requires-2 : tie.Need-column-ranged-requires-2
 column-ranged-requires-2 c κs = search rules
 
 returns-2 : tie.Need-returns-2
-unfolding hasRange
+unfolding has_range
 returns-2 c =
-    λ d s k j h w. c.column-ranged2.ensures d.rows w ∙ through-above h (hasRange d) c.before.before.before.before.args.c
+    λ d s k j h w. c.column-ranged2.ensures d.rows w ∙ through_above h (has_range d) c.before.before.before.before.args.c
     c.before.before.table-width.result c.before.before.table-width.ensures (omega (arith, c.before.if1.false))
 
 pub is-ref-ranged-spec : {M : Type 1} → statement M

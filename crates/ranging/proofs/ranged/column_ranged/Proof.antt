@@ -2,7 +2,7 @@
 use Prim.Native.Nat.{◌-◌, ◌<◌, ◌≤◌, ℕ}
 use Rattle.document.specs.Policy.{Row}
 use Rattle.relations.specs.Rows.{Rows}
-use Rattle.ranging.proofs.RangedLaws.{column-none, column-one, rangedHere}
+use Rattle.ranging.proofs.RangedLaws.{column_none, column_one, ranged_here}
 use borrow.Author.Count.{below_more, below_none}
 use borrow.Author.Rules.{rules}
 use mathlib.Core.Bool.{false}
@@ -13,7 +13,7 @@ use Rattle.ranging.proofs.ranged.column_ranged.Statement.{statement}
 use Rattle.ranging.proofs.ranged.column_ranged.Tie as tie
 
 abbrev invariant-loop : tie.invariant-loop
-invariant-loop text rows count t c r₀ r = (r ≤ count) × ((rs : List Row) → Rows text rows count rs → (i : ℕ) → i < r → rangedHere text rows i t c ≡ false)
+invariant-loop text rows count t c r₀ r = (r ≤ count) × ((rs : List Row) → Rows text rows count rs → (i : ℕ) → i < r → ranged_here text rows i t c ≡ false)
 
 abbrev decreases-loop : tie.decreases-loop
 decreases-loop text rows count t c r₀ r = count - r
@@ -28,7 +28,7 @@ returns : tie.Need-returns invariant-loop decreases-loop
 returns c =
     let a = c.before.before.before.before.before.args in
     let l = c.before.before.before.loop in
-    λ rs held. column-one a.text.now a.rows.now a.count a.t a.c rs held l.r c.before.before.loop-test.true
+    λ rs held. column_one a.text.now a.rows.now a.count a.t a.c rs held l.r c.before.before.loop-test.true
     (sym (c.before.row-ranged.ensures (omega (arith, held.few, c.before.before.loop-test.true)) (held.narrow l.r c.before.before.loop-test.true)) ∙ c.if1.true)
 
 add_r : tie.Need-overflow-add-r invariant-loop decreases-loop
@@ -45,7 +45,7 @@ loop-again c =
 returns-2 : tie.Need-returns-2 invariant-loop decreases-loop
 returns-2 c =
     let a = c.before.before.before.args in
-    λ rs held. column-none a.text.now a.rows.now a.count a.t a.c rs held (λ i less. c.before.loop.invariant.1 rs held i (omega (arith, less, c.loop-test.false)))
+    λ rs held. column_none a.text.now a.rows.now a.count a.t a.c rs held (λ i less. c.before.loop.invariant.1 rs held i (omega (arith, less, c.loop-test.false)))
 
 pub column-ranged-spec : {M : Type 1} → statement M
 column-ranged-spec =

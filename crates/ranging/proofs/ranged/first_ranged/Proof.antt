@@ -1,8 +1,8 @@
 -- `ranging::ranged::first_ranged` meets its contract. The loop's invariant: the columns that were passed have no range. Assumes nothing.
 use Prim.Native.Nat.{◌-◌, ◌<◌, ◌≤◌, ℕ}
 use Rattle.document.specs.Policy.{Doc}
-use Rattle.ranging.proofs.RangedLaws.{NamedColumns, first-ranged, none-ranged, plain-found}
-use Rattle.ranging.specs.Promises.{plainAt}
+use Rattle.ranging.proofs.RangedLaws.{NamedColumns, first_ranged, none_ranged, plain_found}
+use Rattle.ranging.specs.Promises.{plain_at}
 use Rattle.text.specs.Words.{word_of}
 use borrow.Author.Count.{below_more, below_none}
 use borrow.Author.Rules.{rules}
@@ -15,7 +15,7 @@ use Rattle.ranging.proofs.ranged.first_ranged.Statement.{statement}
 use Rattle.ranging.proofs.ranged.first_ranged.Tie as tie
 
 abbrev invariant-loop : tie.invariant-loop
-invariant-loop text rows count t places n columns i₀ i = (i ≤ n) × ((d : Doc) (s : List ℕ) → NamedColumns text rows count t places n columns d s → (j : ℕ) → j < i → plainAt d t (word_of s (get_or places j 0)) ≡ true)
+invariant-loop text rows count t places n columns i₀ i = (i ≤ n) × ((d : Doc) (s : List ℕ) → NamedColumns text rows count t places n columns d s → (j : ℕ) → j < i → plain_at d t (word_of s (get_or places j 0)) ≡ true)
 
 abbrev decreases-loop : tie.decreases-loop
 decreases-loop text rows count t places n columns i₀ i = n - i
@@ -51,9 +51,9 @@ returns-3 c d s h a b e =
     let g : NamedColumns c.before.before.before.before.before.before.before.before.before.before.before.args.text.now c.before.before.before.before.before.before.before.before.before.before.before.args.rows.now
     c.before.before.before.before.before.before.before.before.before.before.before.args.count c.before.before.before.before.before.before.before.before.before.before.before.args.t
     c.before.before.before.before.before.before.before.before.before.before.before.args.places.now c.before.before.before.before.before.before.before.before.before.before.before.args.n
-    c.before.before.before.before.before.before.before.before.before.before.before.args.columns.now d s = record { rows = h; longPlaces = a; longColumns = b; are = e } in
-    first-ranged g l.i c.before.before.before.before.before.before.loop-test.true (l.invariant.1 d s g)
-    (plain-found g l.i c.before.before.before.before.before.before.loop-test.true c.before.before.column-ranged.result c.before.before.column-ranged.ensures ∙ ap not c.before.if3.true)
+    c.before.before.before.before.before.before.before.before.before.before.before.args.columns.now d s = record { rows = h; long_places = a; long_columns = b; are = e } in
+    first_ranged g l.i c.before.before.before.before.before.before.loop-test.true (l.invariant.1 d s g)
+    (plain_found g l.i c.before.before.before.before.before.before.loop-test.true c.before.before.column-ranged.result c.before.before.column-ranged.ensures ∙ ap not c.before.if3.true)
 
 add-i : tie.Need-overflow-add-i invariant-loop decreases-loop
 add-i c = search rules
@@ -66,14 +66,14 @@ loop-again c =
     let l = c.before.before.before.before.before.before.loop in (
       omega (arith, c.before.before.before.before.before.loop-test.true),
       λ d s g. below_more _ l.i (l.invariant.1 d s g)
-          (plain-found g l.i c.before.before.before.before.before.loop-test.true c.before.column-ranged.result c.before.column-ranged.ensures ∙ ap not c.if3.false),
+          (plain_found g l.i c.before.before.before.before.before.loop-test.true c.before.column-ranged.result c.before.column-ranged.ensures ∙ ap not c.if3.false),
     )
 
 returns-4 : tie.Need-returns-4 invariant-loop decreases-loop
 returns-4 c d s h a b e =
     let g : NamedColumns c.before.before.before.before.before.args.text.now c.before.before.before.before.before.args.rows.now c.before.before.before.before.before.args.count c.before.before.before.before.before.args.t
-    c.before.before.before.before.before.args.places.now c.before.before.before.before.before.args.n c.before.before.before.before.before.args.columns.now d s = record { rows = h; longPlaces = a; longColumns = b; are = e } in
-    none-ranged g (λ j less. c.before.loop.invariant.1 d s g j (omega (arith, less, c.loop-test.false)))
+    c.before.before.before.before.before.args.places.now c.before.before.before.before.before.args.n c.before.before.before.before.before.args.columns.now d s = record { rows = h; long_places = a; long_columns = b; are = e } in
+    none_ranged g (λ j less. c.before.loop.invariant.1 d s g j (omega (arith, less, c.loop-test.false)))
 
 pub first-ranged-spec : {M : Type 1} → statement M
 first-ranged-spec =

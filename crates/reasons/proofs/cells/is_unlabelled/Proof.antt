@@ -1,9 +1,9 @@
 -- `reasons::cells::is_unlabelled` meets its contract. Assumes nothing.
 use Rattle.document.specs.Lookup.{settled}
 use Rattle.form.specs.declared.lines.Scheme.TheVariants as code
-use Rattle.reasons.proofs.CellLaws.{labelling-by}
-use Rattle.reasons.specs.Explaining.{isUnlabelled}
-use Rattle.relations.specs.Tables.{schemeBy}
+use Rattle.reasons.proofs.CellLaws.{labelling_by}
+use Rattle.reasons.specs.Explaining.{is_unlabelled}
+use Rattle.relations.specs.Tables.{scheme_by}
 use borrow.Author.Rules.{rules}
 use mathlib.Core.Path.{ap, sym}
 use Rattle.reasons.proofs.cells.is_unlabelled.Statement.{statement}
@@ -31,28 +31,28 @@ enum-told-6 : tie.Need-enum-told-6
 enum-told-6 c = search rules
 
 returns : tie.Need-returns
-unfolding isUnlabelled settled schemeBy
-returns c d text k h l = sym (ap isUnlabelled (labelling-by text c.before.before.before.args.tables.now k c.before.before.before.args.t d h l c.before.before.table-scheme.result code.Unlabelled c.before.before.table-scheme.ensures c.enum_told.given.1))
+unfolding is_unlabelled settled scheme_by
+returns c d text k h l = sym (ap is_unlabelled (labelling_by text c.before.before.before.args.tables.now k c.before.before.before.args.t d h l c.before.before.table-scheme.result code.Unlabelled c.before.before.table-scheme.ensures c.enum_told.given.1))
 
 returns-2 : tie.Need-returns-2
-unfolding isUnlabelled settled schemeBy
-returns-2 c d text k h l = sym (ap isUnlabelled (labelling-by text c.before.before.before.args.tables.now k c.before.before.before.args.t d h l c.before.before.table-scheme.result code.ByTable c.before.before.table-scheme.ensures c.enum-told2.given.1))
+unfolding is_unlabelled settled scheme_by
+returns-2 c d text k h l = sym (ap is_unlabelled (labelling_by text c.before.before.before.args.tables.now k c.before.before.before.args.t d h l c.before.before.table-scheme.result code.ByTable c.before.before.table-scheme.ensures c.enum-told2.given.1))
 
 returns-3 : tie.Need-returns-3
-unfolding isUnlabelled settled schemeBy
-returns-3 c d text k h l = sym (ap isUnlabelled (labelling-by text c.before.before.before.args.tables.now k c.before.before.before.args.t d h l c.before.before.table-scheme.result code.ByColumn c.before.before.table-scheme.ensures c.enum-told3.given.1))
+unfolding is_unlabelled settled scheme_by
+returns-3 c d text k h l = sym (ap is_unlabelled (labelling_by text c.before.before.before.args.tables.now k c.before.before.before.args.t d h l c.before.before.table-scheme.result code.ByColumn c.before.before.table-scheme.ensures c.enum-told3.given.1))
 
 returns-4 : tie.Need-returns-4
-unfolding isUnlabelled settled schemeBy
-returns-4 c d text k h l = sym (ap isUnlabelled (labelling-by text c.before.before.before.args.tables.now k c.before.before.before.args.t d h l c.before.before.table-scheme.result code.ByRow c.before.before.table-scheme.ensures c.enum-told4.given.1))
+unfolding is_unlabelled settled scheme_by
+returns-4 c d text k h l = sym (ap is_unlabelled (labelling_by text c.before.before.before.args.tables.now k c.before.before.before.args.t d h l c.before.before.table-scheme.result code.ByRow c.before.before.table-scheme.ensures c.enum-told4.given.1))
 
 returns-5 : tie.Need-returns-5
-unfolding isUnlabelled settled schemeBy
-returns-5 c d text k h l = sym (ap isUnlabelled (labelling-by text c.before.before.before.args.tables.now k c.before.before.before.args.t d h l c.before.before.table-scheme.result code.ByCell c.before.before.table-scheme.ensures c.enum-told5.given.1))
+unfolding is_unlabelled settled scheme_by
+returns-5 c d text k h l = sym (ap is_unlabelled (labelling_by text c.before.before.before.args.tables.now k c.before.before.before.args.t d h l c.before.before.table-scheme.result code.ByCell c.before.before.table-scheme.ensures c.enum-told5.given.1))
 
 returns-6 : tie.Need-returns-6
-unfolding isUnlabelled settled schemeBy
-returns-6 c d text k h l = sym (ap isUnlabelled (labelling-by text c.before.before.before.args.tables.now k c.before.before.before.args.t d h l c.before.before.table-scheme.result code.Nested c.before.before.table-scheme.ensures c.enum-told6.given.1))
+unfolding is_unlabelled settled scheme_by
+returns-6 c d text k h l = sym (ap is_unlabelled (labelling_by text c.before.before.before.args.tables.now k c.before.before.before.args.t d h l c.before.before.table-scheme.result code.Nested c.before.before.table-scheme.ensures c.enum-told6.given.1))
 
 pub is-unlabelled-spec : {M : Type 1} → statement M
 is-unlabelled-spec =

@@ -1,11 +1,11 @@
 -- `reasons::cells::nth_row` meets its contract. The loop's invariant: what is sought is the row before which so many of those that are left stand. Assumes nothing.
 use Prim.Native.Nat.{◌-◌, ◌<◌, ◌≤◌, ℕ}
-use Rattle.answer.specs.Seen.{rowsIn}
+use Rattle.answer.specs.Seen.{rows_in}
 use Rattle.document.specs.Policy.{Row}
-use Rattle.reasons.proofs.RowLaws.{Sought, sought-here, sought-none, sought-on}
-use Rattle.relations.proofs.RowLaws.{row_at, rows-counted}
+use Rattle.reasons.proofs.RowLaws.{Sought, sought_here, sought_none, sought_on}
+use Rattle.relations.proofs.RowLaws.{row_at, rows_counted}
 use Rattle.relations.specs.Rows.{Rows, row_in}
-use Rattle.workspace.specs.Found.{foundAs}
+use Rattle.workspace.specs.Found.{found_as}
 use borrow.Author.Rules.{rules}
 use lib.Dec.{eqb}
 use mathlib.Core.List.{List}
@@ -34,12 +34,12 @@ enum_told : tie.Need-enum-told invariant-loop decreases-loop
 enum_told c = search rules
 
 returns : tie.Need-returns invariant-loop decreases-loop
-unfolding bind rowsIn row_in
+unfolding bind rows_in row_in
 returns c =
     let a = c.before.before.before.before.before.args in
     let r = c.before.before.before.before.loop.r in (
-      λ text rs h. sought-here (λ (x : Row). eqb x.table a.t) rs a.n r c.before.before.before.before.loop.left (row_in text a.rows.now r) (row_at text a.rows.now a.count rs h r (omega (arith, c.before.before.before.loop-test.true)))
-          (sym (c.before.before.pass-row.ensures (omega (arith, c.before.before.before.loop-test.true, h.few))) ∙ ap foundAs c.enum_told.given.1) (c.before.before.before.before.loop.invariant.1 text rs h),
+      λ text rs h. sought_here (λ (x : Row). eqb x.table a.t) rs a.n r c.before.before.before.before.loop.left (row_in text a.rows.now r) (row_at text a.rows.now a.count rs h r (omega (arith, c.before.before.before.loop-test.true)))
+          (sym (c.before.before.pass-row.ensures (omega (arith, c.before.before.before.loop-test.true, h.few))) ∙ ap found_as c.enum_told.given.1) (c.before.before.before.before.loop.invariant.1 text rs h),
       omega (arith, c.before.before.before.loop-test.true),
     )
 
@@ -55,15 +55,15 @@ loop-again c =
     let a = c.before.before.before.before.before.before.args in
     let r = c.before.before.before.before.before.loop.r in (
       omega (arith, c.before.before.before.before.loop-test.true),
-      λ text rs h. sought-on (λ (x : Row). eqb x.table a.t) rs a.n r c.before.before.before.before.before.loop.left c.before.x.given.0.0 (row_in text a.rows.now r) (row_at text a.rows.now a.count rs h r (omega (arith, c.before.before.before.before.loop-test.true)))
-          (sym (c.before.before.before.pass-row.ensures (omega (arith, c.before.before.before.before.loop-test.true, h.few))) ∙ ap foundAs c.before.x.given.1) (c.before.before.before.before.before.loop.invariant.1 text rs h),
+      λ text rs h. sought_on (λ (x : Row). eqb x.table a.t) rs a.n r c.before.before.before.before.before.loop.left c.before.x.given.0.0 (row_in text a.rows.now r) (row_at text a.rows.now a.count rs h r (omega (arith, c.before.before.before.before.loop-test.true)))
+          (sym (c.before.before.before.pass-row.ensures (omega (arith, c.before.before.before.before.loop-test.true, h.few))) ∙ ap found_as c.before.x.given.1) (c.before.before.before.before.before.loop.invariant.1 text rs h),
     )
 
 returns-2 : tie.Need-returns-2 invariant-loop decreases-loop
-unfolding bind rowsIn
+unfolding bind rows_in
 returns-2 c =
     let a = c.before.before.args in
-    (λ text rs h. sought-none (λ (x : Row). eqb x.table a.t) rs a.n c.before.loop.r c.before.loop.left (omega (arith, c.loop-test.false, rows-counted text a.rows.now a.count rs h)) (c.before.loop.invariant.1 text rs h), tt)
+    (λ text rs h. sought_none (λ (x : Row). eqb x.table a.t) rs a.n c.before.loop.r c.before.loop.left (omega (arith, c.loop-test.false, rows_counted text a.rows.now a.count rs h)) (c.before.loop.invariant.1 text rs h), tt)
 
 pub nth-row-spec : {M : Type 1} → statement M
 nth-row-spec =

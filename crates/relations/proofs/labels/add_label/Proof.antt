@@ -1,7 +1,7 @@
 -- `relations::labels::add_label` meets its contract, by the law of one more. Assumes nothing.
 use borrow.Author.Rules.{rules}
 use native.Mathlib.Omega.{arith}
-use Rattle.relations.proofs.LabelLaws.{labels-pushed}
+use Rattle.relations.proofs.LabelLaws.{labels_pushed}
 use Rattle.relations.proofs.labels.add_label.Statement.{statement}
 use Rattle.relations.proofs.labels.add_label.Tie as tie
 
@@ -20,7 +20,7 @@ store-set-requires-2 c κs = search rules
 returns : tie.Need-returns
 returns c text ls xs ys h l ha hb =
     let a = c.before.before.before.before.before.before.before.args in
-    labels-pushed text a.ws.now a.sets.now a.k ls h _ _ _ a.pos a.allowed a.denied xs ys c.before.before.before.before.before.put-arg.given.0.1 l c.before.before.before.before.put.ensures c.before.before.store-set.ensures c.store-set2.ensures ha hb
+    labels_pushed text a.ws.now a.sets.now a.k ls h _ _ _ a.pos a.allowed a.denied xs ys c.before.before.before.before.before.put-arg.given.0.1 l c.before.before.before.before.put.ensures c.before.before.store-set.ensures c.store-set2.ensures ha hb
 
 returns-2 : tie.Need-returns-2
 returns-2 c text ls xs ys h l ha hb = absurd (omega arith)

@@ -1,6 +1,6 @@
 -- `relations::labels::fill_said` meets its contract. Assumes nothing.
 use Prim.Native.Nat.{◌-◌, ◌≤◌}
-use Rattle.relations.proofs.LabelLaws.{SaidBelow, labels-said, said_more}
+use Rattle.relations.proofs.LabelLaws.{SaidBelow, labels_said, said_more}
 use borrow.Author.Rules.{rules}
 use lib.ListN.{length, length-set}
 use mathlib.Core.Path.{◌∙◌, ◌≡◌}
@@ -48,7 +48,7 @@ returns : tie.Need-returns invariant-loop decreases-loop
 returns c text ws d p h of =
     let a = c.before.before.before.args in
     let now = c.before.loop in
-    labels-said text ws a.sets.now a.k d h p now.said (λ j l. now.invariant.2 text ws d p h of j (omega arith))
+    labels_said text ws a.sets.now a.k d h p now.said (λ j l. now.invariant.2 text ws d p h of j (omega arith))
 
 pub fill-said-spec : {M : Type 1} → statement M
 fill-said-spec =

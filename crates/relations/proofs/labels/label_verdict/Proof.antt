@@ -2,8 +2,8 @@
 use borrow.Author.Rules.{rules}
 use mathlib.Core.Path.{◌∙◌}
 use native.Mathlib.Omega.{arith}
-use Rattle.relations.proofs.LabelLaws.{label-below, label-says}
-use Rattle.purpose.proofs.Nesting.{verdict-meets}
+use Rattle.relations.proofs.LabelLaws.{label_below, label_says}
+use Rattle.purpose.proofs.Nesting.{verdict_meets}
 use Rattle.relations.proofs.labels.label_verdict.Statement.{statement}
 use Rattle.relations.proofs.labels.label_verdict.Tie as tie
 
@@ -23,11 +23,11 @@ returns : tie.Need-returns
 returns c tree p text ws k ls l h e of =
     let a = c.before.before.before.before.args in
     c.verdict-of.ensures
-    ∙ verdict-meets tree p a.closure (record { allowed = c.before.before.Load-set.result; denied = c.before.load-set2.result }) of
-    ∙ label-says text ws a.sets.now k ls h tree p a.i l c.before.before.Load-set.result c.before.load-set2.result e (c.before.before.Load-set.ensures (omega arith)) (c.before.load-set2.ensures (omega arith))
+    ∙ verdict_meets tree p a.closure (record { allowed = c.before.before.Load-set.result; denied = c.before.load-set2.result }) of
+    ∙ label_says text ws a.sets.now k ls h tree p a.i l c.before.before.Load-set.result c.before.load-set2.result e (c.before.before.Load-set.ensures (omega arith)) (c.before.load-set2.ensures (omega arith))
 
 returns-2 : tie.Need-returns-2
-returns-2 c tree p text ws k ls l h e of = absurd (omega (arith, h.few, label-below text ws c.before.args.sets.now k ls h c.before.args.i l e))
+returns-2 c tree p text ws k ls l h e of = absurd (omega (arith, h.few, label_below text ws c.before.args.sets.now k ls h c.before.args.i l e))
 
 pub label-verdict-spec : {M : Type 1} → statement M
 label-verdict-spec =

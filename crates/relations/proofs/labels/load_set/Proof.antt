@@ -1,7 +1,7 @@
 -- `relations::labels::load_set` meets its contract. Assumes nothing.
 use borrow.Author.Rules.{rules}
 use native.Mathlib.Omega.{arith}
-use Rattle.relations.specs.Labels.{setIn}
+use Rattle.relations.specs.Labels.{set_in}
 use Rattle.relations.proofs.labels.load_set.Statement.{statement}
 use Rattle.relations.proofs.labels.load_set.Tie as tie
 
@@ -15,7 +15,7 @@ load-words-requires : tie.Need-load-words-requires
 load-words-requires c κs = search rules
 
 returns : tie.Need-returns
-unfolding setIn
+unfolding set_in
 returns c l = c.load-words.ensures
 
 returns-2 : tie.Need-returns-2

@@ -5,7 +5,7 @@ use borrow.Author.Rules.{rules}
 use lib.ListN.{get_or, length, length-set}
 use mathlib.Core.Path.{◌∙◌, ◌≡◌}
 use native.Mathlib.Omega.{arith}
-use Rattle.relations.proofs.LabelLaws.{words-from, words_more}
+use Rattle.relations.proofs.LabelLaws.{words_from, words_more}
 use Rattle.purpose.specs.Members.{words}
 use Rattle.relations.proofs.labels.load_words.Statement.{statement}
 use Rattle.relations.proofs.labels.load_words.Tie as tie
@@ -48,7 +48,7 @@ loop-again c =
 returns : tie.Need-returns invariant-loop decreases-loop
 returns c =
     let inv = c.before.loop.invariant in
-    words-from c.before.loop.r c.before.before.args.sets.now c.before.before.args.at inv.1 c.before.before.requires (λ j h. inv.2 j (omega arith))
+    words_from c.before.loop.r c.before.before.args.sets.now c.before.before.args.at inv.1 c.before.before.requires (λ j h. inv.2 j (omega arith))
 
 pub load-words-spec : {M : Type 1} → statement M
 load-words-spec =

@@ -1,6 +1,6 @@
 -- `relations::labels::opened_at` meets its contract. Assumes nothing.
 use Rattle.purpose.specs.declared.Verdict.{Verdict}
-use Rattle.relations.specs.Labels.{openedIn, verdictIn}
+use Rattle.relations.specs.Labels.{opened_in, verdict_in}
 use borrow.Author.Rules.{rules}
 use mathlib.Core.Bool.{Bool, ◌&&◌, not}
 use mathlib.Core.Path.{◌∙◌, ap, sym}
@@ -11,11 +11,11 @@ said-at-requires : tie.Need-said-at-requires
 said-at-requires c κs = search rules
 
 returns : tie.Need-returns
-unfolding openedIn
+unfolding opened_in
 returns c = sym (ap (λ (v : Verdict). v.allowed && not v.denied) (sym c.before.before.Said-at.ensures) ∙ ap (λ (x : Bool). x && not c.before.before.Said-at.result.denied) c.before.if1.true)
 
 returns-2 : tie.Need-returns-2
-unfolding openedIn
+unfolding opened_in
 returns-2 c = sym (ap (λ (v : Verdict). v.allowed && not v.denied) (sym c.before.Said-at.ensures) ∙ ap (λ (x : Bool). x && not c.before.Said-at.result.denied) c.if1.false)
 
 pub opened-at-spec : {M : Type 1} → statement M

@@ -1,6 +1,6 @@
 -- `relations::labels::said_at` meets its contract. Assumes nothing.
 use Rattle.purpose.specs.Verdicts.{silent}
-use Rattle.relations.proofs.LabelLaws.{said-behind, said-there}
+use Rattle.relations.proofs.LabelLaws.{said_behind, said_there}
 use borrow.Author.Rules.{rules}
 use borrow.Author.Tests.{le-ltb}
 use mathlib.Core.Path.{sym}
@@ -18,11 +18,11 @@ element-copy-out-t10 : tie.Need-element-copy-out-t10
 element-copy-out-t10 c = search rules
 
 returns : tie.Need-returns
-returns c = sym (said-there c.before.before.before.args.said.now c.before.before.before.args.l (omega arith))
+returns c = sym (said_there c.before.before.before.args.said.now c.before.before.before.args.l (omega arith))
 
 returns-2 : tie.Need-returns-2
 unfolding silent
-returns-2 c = sym (said-behind c.before.args.said.now c.before.args.l (le-ltb c.before.args.l 64 (omega arith)))
+returns-2 c = sym (said_behind c.before.args.said.now c.before.args.l (le-ltb c.before.args.l 64 (omega arith)))
 
 pub said-at-spec : {M : Type 1} → statement M
 said-at-spec =

@@ -2,7 +2,7 @@
 use mathlib.Core.Path.{◌≡◌}
 use lib.ListN.{length}
 use native.Mathlib.Omega.{arith}
-use Rattle.relations.proofs.TableLaws.{not-public, public-stored}
+use Rattle.relations.proofs.TableLaws.{not_public, public_stored}
 use borrow.Author.Rules.{rules}
 use Rattle.relations.proofs.notes.set_public.Statement.{statement}
 use Rattle.relations.proofs.notes.set_public.Tie as tie
@@ -20,12 +20,12 @@ returns : tie.Need-returns
 returns c =
     let a = c.before.before.args in
     let l : length c.before.before.args.ws.now ≡ 440 = search rules in
-    public-stored a.ws.now a.t l
+    public_stored a.ws.now a.t l
 
 returns-2 : tie.Need-returns-2
 returns-2 c =
     let a = c.before.args in
-    not-public a.ws.now a.t (λ l. omega (arith, l, c.if1.false))
+    not_public a.ws.now a.t (λ l. omega (arith, l, c.if1.false))
 
 pub set-public-spec : {M : Type 1} → statement M
 set-public-spec =

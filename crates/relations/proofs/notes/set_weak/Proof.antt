@@ -2,9 +2,9 @@
 use mathlib.Core.Path.{◌≡◌}
 use lib.ListN.{length}
 use native.Mathlib.Omega.{arith}
-use Rattle.document.specs.Lookup.{weakIn}
+use Rattle.document.specs.Lookup.{weak_in}
 use Rattle.form.specs.Form.{weak}
-use Rattle.relations.proofs.TableLaws.{not-labelled, weak-stored}
+use Rattle.relations.proofs.TableLaws.{not_labelled, weak_stored}
 use borrow.Author.Rules.{rules}
 use Rattle.relations.proofs.notes.set_weak.Statement.{statement}
 use Rattle.relations.proofs.notes.set_weak.Tie as tie
@@ -25,7 +25,7 @@ returns : tie.Need-returns
 returns c m =
     let a = c.before.before.before.args in
     let l : length c.before.before.before.args.ws.now ≡ 440 = search rules in
-    weak-stored a.ws.now a.t a.l l
+    weak_stored a.ws.now a.t a.l l
 
 returns-2 : tie.Need-returns-2
 returns-2 c m = absurd (omega (arith, m, c.if2.false))
@@ -33,7 +33,7 @@ returns-2 c m = absurd (omega (arith, m, c.if2.false))
 returns-3 : tie.Need-returns-3
 returns-3 c m =
     let a = c.before.args in
-    not-labelled a.ws.now a.t (weak a.l) weakIn (λ l. omega (arith, l, c.if1.false))
+    not_labelled a.ws.now a.t (weak a.l) weak_in (λ l. omega (arith, l, c.if1.false))
 
 pub set-weak-spec : {M : Type 1} → statement M
 set-weak-spec = tie.close (tie.spec add-cells add-cells-2 mul-cells slice-write-cells returns returns-2 returns-3)

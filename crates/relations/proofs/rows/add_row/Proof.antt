@@ -4,7 +4,7 @@ use lib.Seq.{lt-length-set}
 use mathlib.Core.Path.{◌≡◌}
 use lib.ListN.{length, set}
 use native.Mathlib.Omega.{arith}
-use Rattle.relations.proofs.RowLaws.{row-added}
+use Rattle.relations.proofs.RowLaws.{row_added}
 use borrow.Author.Rules.{rules}
 use Rattle.relations.proofs.rows.add_row.Statement.{statement}
 use Rattle.relations.proofs.rows.add_row.Tie as tie
@@ -43,7 +43,7 @@ returns : tie.Need-returns
 returns c text rs vs ls h b f =
     let a = c.before.before.args in
     let l : length c.before.before.args.ws.now ≡ 36864 = search rules in
-    row-added a.ws.now a.k a.table a.values a.labels l b text rs vs ls h f
+    row_added a.ws.now a.k a.table a.values a.labels l b text rs vs ls h f
 
 returns-2 : tie.Need-returns-2
 returns-2 c text rs vs ls h b f = absurd (omega (arith, b, c.if1.false))

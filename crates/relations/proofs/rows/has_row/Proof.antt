@@ -5,7 +5,7 @@ use borrow.Author.Rules.{rules}
 use lib.ListN.{get_or}
 use mathlib.Core.Path.{◌∙◌, ◌≡◌, sym}
 use native.Mathlib.Omega.{arith}
-use Rattle.relations.proofs.RowLaws.{row-nowhere, row-somewhere}
+use Rattle.relations.proofs.RowLaws.{row_nowhere, row_somewhere}
 use Rattle.relations.proofs.rows.has_row.Statement.{statement}
 use Rattle.relations.proofs.rows.has_row.Tie as tie
 
@@ -25,7 +25,7 @@ returns : tie.Need-returns invariant-loop decreases-loop
 returns c text rs h =
     let a = c.before.before.before.before.args in
     let r = c.before.before.before.loop.r in
-    sym (row-somewhere text a.ws.now a.count rs h a.t r (omega arith) (sym (c.before.row-table.ensures (omega (arith, h.few))) ∙ c.if1.true))
+    sym (row_somewhere text a.ws.now a.count rs h a.t r (omega arith) (sym (c.before.row-table.ensures (omega (arith, h.few))) ∙ c.if1.true))
 
 add_r : tie.Need-overflow-add-r invariant-loop decreases-loop
 add_r c = search rules
@@ -41,7 +41,7 @@ loop-again c =
 returns-2 : tie.Need-returns-2 invariant-loop decreases-loop
 returns-2 c text rs h =
     let a = c.before.before.args in
-    sym (row-nowhere text a.ws.now a.count rs h a.t (λ q l. c.before.loop.invariant.1 q (omega arith) (omega (arith, l, h.few))))
+    sym (row_nowhere text a.ws.now a.count rs h a.t (λ q l. c.before.loop.invariant.1 q (omega arith) (omega (arith, l, h.few))))
 
 pub has-row-spec : {M : Type 1} → statement M
 has-row-spec = tie.close (tie.spec invariant-loop decreases-loop loop-holds row-table-requires returns add_r loop-less loop-again returns-2)

@@ -2,7 +2,7 @@
 use mathlib.Core.Path.{◌≡◌}
 use lib.ListN.{length}
 use native.Mathlib.Omega.{arith}
-use Rattle.relations.proofs.RowLaws.{label-stored, no_label}
+use Rattle.relations.proofs.RowLaws.{label_stored, no_label}
 use borrow.Author.Rules.{rules}
 use Rattle.relations.proofs.rows.set_label.Statement.{statement}
 use Rattle.relations.proofs.rows.set_label.Tie as tie
@@ -26,7 +26,7 @@ returns : tie.Need-returns
 returns c =
     let a = c.before.before.before.args in
     let l : length c.before.before.before.args.ws.now ≡ 36864 = search rules in
-    label-stored a.ws.now a.r l c.before.before.if1.true a.m a.label c.before.if2.true
+    label_stored a.ws.now a.r l c.before.before.if1.true a.m a.label c.before.if2.true
 
 returns-2 : tie.Need-returns-2
 returns-2 c =

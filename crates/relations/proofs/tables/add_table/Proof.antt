@@ -5,14 +5,14 @@ use lib.Seq.{lt-length-set}
 use mathlib.Core.Path.{◌≡◌}
 use lib.ListN.{length, set}
 use native.Mathlib.Omega.{arith}
-use Rattle.relations.proofs.TableLaws.{added, not-added}
+use Rattle.relations.proofs.TableLaws.{added, not_added}
 use borrow.Author.Rules.{rules}
 use Rattle.relations.proofs.tables.add_table.Statement.{statement}
 use Rattle.relations.proofs.tables.add_table.Tie as tie
 
 -- a place within the array is within it when four numbers are stored
-four-long : (ws : List ℕ) (k pos number label c n : ℕ) → n < length ws → n < length (set (set (set (set ws k pos) (8 + k) number) (16 + k) label) (24 + k) c)
-four-long ws k pos number label c n l =
+four_long : (ws : List ℕ) (k pos number label c n : ℕ) → n < length ws → n < length (set (set (set (set ws k pos) (8 + k) number) (16 + k) label) (24 + k) c)
+four_long ws k pos number label c n l =
     lt-length-set (set (set (set ws k pos) (8 + k) number) (16 + k) label) (24 + k) c
     (lt-length-set (set (set ws k pos) (8 + k) number) (16 + k) label
     (lt-length-set (set ws k pos) (8 + k) number
@@ -89,7 +89,7 @@ slice-write-cells-6 c =
     let a = c.before.before.before.args in
     let l : length c.before.before.before.args.ws.now ≡ 440 = search rules in
     let w = set (set (set (set a.ws.now a.k a.pos) (8 + a.k) c.before.scheme-cell.result) (16 + a.k) a.label) (24 + a.k) a.width in
-    lt-length-set w (416 + a.k) 0 (four-long a.ws.now a.k a.pos c.before.scheme-cell.result a.label a.width (424 + a.k) (omega (arith, l, c.before.before.if1.true)))
+    lt-length-set w (416 + a.k) 0 (four_long a.ws.now a.k a.pos c.before.scheme-cell.result a.label a.width (424 + a.k) (omega (arith, l, c.before.before.if1.true)))
 
 add-cells-6 : tie.Need-overflow-add-cells-6
 add-cells-6 c = search rules
@@ -102,7 +102,7 @@ slice-write-cells-7 c =
     let a = c.before.before.before.args in
     let l : length c.before.before.before.args.ws.now ≡ 440 = search rules in
     let w = set (set (set (set a.ws.now a.k a.pos) (8 + a.k) c.before.scheme-cell.result) (16 + a.k) a.label) (24 + a.k) a.width in
-    lt-length-set (set w (416 + a.k) 0) (424 + a.k) 0 (lt-length-set w (416 + a.k) 0 (four-long a.ws.now a.k a.pos c.before.scheme-cell.result a.label a.width (432 + a.k) (omega (arith, l, c.before.before.if1.true))))
+    lt-length-set (set w (416 + a.k) 0) (424 + a.k) 0 (lt-length-set w (416 + a.k) 0 (four_long a.ws.now a.k a.pos c.before.scheme-cell.result a.label a.width (432 + a.k) (omega (arith, l, c.before.before.if1.true))))
 
 returns : tie.Need-returns
 returns c =
@@ -113,7 +113,7 @@ returns c =
 returns-2 : tie.Need-returns-2
 returns-2 c =
     let a = c.before.args in
-    not-added a.ws.now a.k a.pos a.scheme a.label a.width (λ l. omega (arith, l, c.if1.false))
+    not_added a.ws.now a.k a.pos a.scheme a.label a.width (λ l. omega (arith, l, c.if1.false))
 
 pub add-table-spec : {M : Type 1} → statement M
 add-table-spec =

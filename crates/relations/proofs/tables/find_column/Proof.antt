@@ -1,7 +1,7 @@
 -- `relations::tables::find_column` meets its contract. Assumes nothing.
 use mathlib.Core.Path.{◌∙◌}
 use native.Mathlib.Omega.{arith}
-use Rattle.relations.proofs.TableLaws.{below_wider, column-found}
+use Rattle.relations.proofs.TableLaws.{below_wider, column_found}
 use Rattle.text.specs.Words.{word_of}
 use borrow.Author.Rules.{rules}
 use Rattle.relations.proofs.tables.find_column.Statement.{statement}
@@ -24,7 +24,7 @@ returns c = (
   (λ k ts h l.
       let a = c.before.before.before.before.before.before.args in
       c.find-name.ensures.0 (omega arith)
-      ∙ column-found a.text.now a.ws.now k a.t c.before.before.table-width.result ts (word_of a.line.now a.i) h l c.before.before.table-width.ensures),
+      ∙ column_found a.text.now a.ws.now k a.t c.before.before.table-width.result ts (word_of a.line.now a.i) h l c.before.before.table-width.ensures),
   below_wider c.find-name.result c.before.before.table-width.result 16 c.before.before.table-width.ensures.few c.find-name.ensures.1,
 )
 

@@ -1,7 +1,7 @@
 -- `relations::tables::leads_label` meets its contract. Assumes nothing.
-use Rattle.form.specs.Form.{leadsLabel}
+use Rattle.form.specs.Form.{leads_label}
 use Rattle.form.specs.declared.lines.Scheme as coded
-use Rattle.relations.specs.Tables.{schemeBy}
+use Rattle.relations.specs.Tables.{scheme_by}
 use borrow.Author.Rules.{rules}
 use mathlib.Core.Path.{ap, sym}
 use Rattle.relations.proofs.tables.leads_label.Statement.{statement}
@@ -26,28 +26,28 @@ enum-told-6 : tie.Need-enum-told-6
 enum-told-6 c = search rules
 
 returns : tie.Need-returns
-unfolding leadsLabel schemeBy
-returns c l ls = sym (ap (λ (s : coded.Scheme). leadsLabel (schemeBy s l ls)) c.enum_told.given.1)
+unfolding leads_label scheme_by
+returns c l ls = sym (ap (λ (s : coded.Scheme). leads_label (scheme_by s l ls)) c.enum_told.given.1)
 
 returns-2 : tie.Need-returns-2
-unfolding leadsLabel schemeBy
-returns-2 c l ls = sym (ap (λ (s : coded.Scheme). leadsLabel (schemeBy s l ls)) c.enum-told2.given.1)
+unfolding leads_label scheme_by
+returns-2 c l ls = sym (ap (λ (s : coded.Scheme). leads_label (scheme_by s l ls)) c.enum-told2.given.1)
 
 returns-3 : tie.Need-returns-3
-unfolding leadsLabel schemeBy
-returns-3 c l ls = sym (ap (λ (s : coded.Scheme). leadsLabel (schemeBy s l ls)) c.enum-told3.given.1)
+unfolding leads_label scheme_by
+returns-3 c l ls = sym (ap (λ (s : coded.Scheme). leads_label (scheme_by s l ls)) c.enum-told3.given.1)
 
 returns-4 : tie.Need-returns-4
-unfolding leadsLabel schemeBy
-returns-4 c l ls = sym (ap (λ (s : coded.Scheme). leadsLabel (schemeBy s l ls)) c.enum-told4.given.1)
+unfolding leads_label scheme_by
+returns-4 c l ls = sym (ap (λ (s : coded.Scheme). leads_label (scheme_by s l ls)) c.enum-told4.given.1)
 
 returns-5 : tie.Need-returns-5
-unfolding leadsLabel schemeBy
-returns-5 c l ls = sym (ap (λ (s : coded.Scheme). leadsLabel (schemeBy s l ls)) c.enum-told5.given.1)
+unfolding leads_label scheme_by
+returns-5 c l ls = sym (ap (λ (s : coded.Scheme). leads_label (scheme_by s l ls)) c.enum-told5.given.1)
 
 returns-6 : tie.Need-returns-6
-unfolding leadsLabel schemeBy
-returns-6 c l ls = sym (ap (λ (s : coded.Scheme). leadsLabel (schemeBy s l ls)) c.enum-told6.given.1)
+unfolding leads_label scheme_by
+returns-6 c l ls = sym (ap (λ (s : coded.Scheme). leads_label (scheme_by s l ls)) c.enum-told6.given.1)
 
 pub leads-label-spec : {M : Type 1} → statement M
 leads-label-spec =

@@ -5,7 +5,7 @@ use mathlib.Core.Path.{◌≡◌}
 use lib.ListN.{length, set}
 use native.Mathlib.Omega.{arith}
 use Rattle.condition.specs.Answers.{kind_of}
-use Rattle.relations.proofs.TableLaws.{column-stored, no-column}
+use Rattle.relations.proofs.TableLaws.{column_stored, no_column}
 use borrow.Author.Rules.{rules}
 use Rattle.relations.proofs.tables.set_column.Statement.{statement}
 use Rattle.relations.proofs.tables.set_column.Tie as tie
@@ -68,17 +68,17 @@ returns : tie.Need-returns
 returns c =
     let a = c.before.before.before.before.args in
     let l : length c.before.before.before.before.args.ws.now ≡ 440 = search rules in
-    column-stored a.ws.now a.t a.c a.pos c.before.kind-cell.result a.label l c.before.before.before.if1.true c.before.before.if2.true (kind_of a.kind) c.before.kind-cell.ensures
+    column_stored a.ws.now a.t a.c a.pos c.before.kind-cell.result a.label l c.before.before.before.if1.true c.before.before.if2.true (kind_of a.kind) c.before.kind-cell.ensures
 
 returns-2 : tie.Need-returns-2
 returns-2 c =
     let a = c.before.before.args in
-    no-column a.ws.now a.t a.c a.pos (kind_of a.kind) a.label (λ l s. omega (arith, s, c.if2.false))
+    no_column a.ws.now a.t a.c a.pos (kind_of a.kind) a.label (λ l s. omega (arith, s, c.if2.false))
 
 returns-3 : tie.Need-returns-3
 returns-3 c =
     let a = c.before.args in
-    no-column a.ws.now a.t a.c a.pos (kind_of a.kind) a.label (λ l s. omega (arith, l, c.if1.false))
+    no_column a.ws.now a.t a.c a.pos (kind_of a.kind) a.label (λ l s. omega (arith, l, c.if1.false))
 
 pub set-column-spec : {M : Type 1} → statement M
 set-column-spec =

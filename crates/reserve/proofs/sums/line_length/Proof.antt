@@ -4,8 +4,8 @@ use mathlib.Core.Path.{ap}
 use lib.ListN.{length}
 use native.Mathlib.Omega.{arith}
 use Rattle.form.specs.RowText.{spaced}
-use Rattle.relations.specs.Rows.{row_in, valueIn}
-use Rattle.reserve.proofs.SumLaws.{line-values}
+use Rattle.relations.specs.Rows.{row_in, value_in}
+use Rattle.reserve.proofs.SumLaws.{line_values}
 use Rattle.workspace.specs.Tabulated.{tabulated}
 use Rattle.reserve.proofs.sums.line_length.Statement.{statement}
 use Rattle.reserve.proofs.sums.line_length.Tie as tie
@@ -22,8 +22,8 @@ add-result c = omega (arith, c.values_length.ensures.1)
 returns : tie.Need-returns
 unfolding row_in
 returns c =
-    let f = valueIn c.before.before.before.args.text.now c.before.before.before.args.rows.now c.before.before.before.args.r in
-    (λ n. omega (arith, c.values_length.ensures.0, ap (λ k. length (spaced (tabulated f k))) (c.before.row-values.ensures.is c.before.before.before.requires.1 n), line-values (row_in c.before.before.before.args.text.now c.before.before.before.args.rows.now c.before.before.before.args.r).values), omega (arith, c.values_length.ensures.1))
+    let f = value_in c.before.before.before.args.text.now c.before.before.before.args.rows.now c.before.before.before.args.r in
+    (λ n. omega (arith, c.values_length.ensures.0, ap (λ k. length (spaced (tabulated f k))) (c.before.row-values.ensures.is c.before.before.before.requires.1 n), line_values (row_in c.before.before.before.args.text.now c.before.before.before.args.rows.now c.before.before.before.args.r).values), omega (arith, c.values_length.ensures.1))
 
 pub line-length-spec : {M : Type 1} → statement M
 line-length-spec = tie.close (tie.spec row-values-requires values-length-requires add-result returns)

@@ -3,7 +3,7 @@ use Prim.Native.Nat.{◌*◌, ◌-◌, ◌≤◌}
 use mathlib.Core.List.{List}
 use mathlib.Core.Path.{◌≡◌, refl, subst}
 use native.Mathlib.Omega.{arith}
-use Rattle.answer.specs.Seen.{rowsIn}
+use Rattle.answer.specs.Seen.{rows_in}
 use Rattle.document.specs.Policy.{Row}
 use Rattle.relations.specs.Rows.{Rows}
 use Rattle.reserve.proofs.SumLaws.{rows_more, rows_none}
@@ -12,7 +12,7 @@ use Rattle.reserve.proofs.sums.table_sum.Statement.{statement}
 use Rattle.reserve.proofs.sums.table_sum.Tie as tie
 
 abbrev invariant-loop : tie.invariant-loop
-invariant-loop text rows count t s₀ r₀ s r = (r ≤ count) × (s.count ≤ r) × (s.bytes ≤ r * 960022) × ((rs : List Row) → Rows text rows r rs → Sums (rowsIn t rs) s)
+invariant-loop text rows count t s₀ r₀ s r = (r ≤ count) × (s.count ≤ r) × (s.bytes ≤ r * 960022) × ((rs : List Row) → Rows text rows r rs → Sums (rows_in t rs) s)
 
 abbrev decreases-loop : tie.decreases-loop
 decreases-loop text rows count t s₀ r₀ s r = count - r
@@ -39,7 +39,7 @@ returns : tie.Need-returns invariant-loop decreases-loop
 returns c =
     let l = c.before.loop in
     let e : l.r ≡ c.before.before.before.args.count = omega (arith, l.invariant.0, c.loop-test.false) in
-    (subst (λ k. (rs : List Row) → Rows c.before.before.before.args.text.now c.before.before.before.args.rows.now k rs → Sums (rowsIn c.before.before.before.args.t rs) l.s) e l.invariant.3, omega (arith, l.invariant.1, l.invariant.0, c.before.before.before.requires.1), omega (arith, l.invariant.2, l.invariant.0, c.before.before.before.requires.1))
+    (subst (λ k. (rs : List Row) → Rows c.before.before.before.args.text.now c.before.before.before.args.rows.now k rs → Sums (rows_in c.before.before.before.args.t rs) l.s) e l.invariant.3, omega (arith, l.invariant.1, l.invariant.0, c.before.before.before.requires.1), omega (arith, l.invariant.2, l.invariant.0, c.before.before.before.requires.1))
 
 pub table-sum-spec : {M : Type 1} → statement M
 table-sum-spec = tie.close (tie.spec invariant-loop decreases-loop loop-holds with-row-requires add_r loop-less loop-again returns)

@@ -2,16 +2,16 @@
 -- Assumes nothing.
 use Prim.Native.Nat.{◌-◌, ◌<◌, ◌≤◌, ℕ}
 use Rattle.condition.specs.CondForm.{Ref}
-use Rattle.document.specs.Lookup.{purposeOf}
+use Rattle.document.specs.Lookup.{purpose_of}
 use Rattle.document.specs.Policy.{Policy}
 use Rattle.lists.specs.Lists.{or_zero}
-use Rattle.query.specs.Join.{closedRef}
+use Rattle.query.specs.Join.{closed_ref}
 use Rattle.query.specs.JoinForm.{JoinForm}
 use Rattle.relations.specs.Labels.{Said}
 use Rattle.resolving.proofs.ClosedRefs.{closed_at}
-use Rattle.resolving.proofs.FirstAt.{first-there, none-there}
+use Rattle.resolving.proofs.FirstAt.{first_there, none_there}
 use Rattle.resolving.specs.Joins.{KnowsTables, RefsRead}
-use Rattle.text.proofs.OffendingLaws.{unless-false, unless-true}
+use Rattle.text.proofs.OffendingLaws.{unless_false, unless_true}
 use Rattle.text.specs.Words.{word_of}
 use borrow.Author.Count.{below_more, below_none}
 use borrow.Author.Rules.{rules}
@@ -27,8 +27,8 @@ use Rattle.resolving.proofs.join_openness.first_closed_ref.Tie as tie
 abbrev invariant-loop : tie.invariant-loop
 invariant-loop tables p said words n columns i₀ i =
     (i ≤ n)
-    × ((d : Policy) (text s : List ℕ) (k : ℕ) (j : JoinForm) (rs : List Ref) → KnowsTables text tables k s p d j → Said d (or_zero (purposeOf d j.form.purpose)) said → RefsRead d j rs s n words columns
-    → (m : ℕ) → m < i → (r : Ref) → get_elem? rs m ≡ some r → closedRef d j r ≡ none)
+    × ((d : Policy) (text s : List ℕ) (k : ℕ) (j : JoinForm) (rs : List Ref) → KnowsTables text tables k s p d j → Said d (or_zero (purpose_of d j.form.purpose)) said → RefsRead d j rs s n words columns
+    → (m : ℕ) → m < i → (r : Ref) → get_elem? rs m ≡ some r → closed_ref d j r ≡ none)
 
 abbrev decreases-loop : tie.decreases-loop
 decreases-loop tables p said words n columns i₀ i = n - i
@@ -55,11 +55,11 @@ returns : tie.Need-returns invariant-loop decreases-loop
 returns c =
     let a = c.before.before.before.before.before.before.args in
     λ d text s k j rs h o g.
-    sym (first-there (closedRef d j) rs a.n g.number c.before.before.before.before.before.loop.i
+    sym (first_there (closed_ref d j) rs a.n g.number c.before.before.before.before.before.loop.i
     (word_of s (get_or a.words.now c.before.before.before.before.before.loop.i 0)) c.before.before.before.before.loop-test.true
     (c.before.before.before.before.before.loop.invariant.1 d text s k j rs h o g)
     (λ r e. closed_at h g c.before.before.before.before.before.loop.i c.before.before.is-ref-open.result
-    (c.before.before.is-ref-open.ensures d text s k _ j h o) r e ∙ unless-false _ _ (not-true _ c.before.if1.true)))
+    (c.before.before.is-ref-open.ensures d text s k _ j h o) r e ∙ unless_false _ _ (not-true _ c.before.if1.true)))
 
 add-i : tie.Need-overflow-add-i invariant-loop decreases-loop
 add-i c = omega (arith, c.before.before.before.loop-test.true, c.before.before.before.before.before.requires)
@@ -72,12 +72,12 @@ loop-again c = (
   omega (arith, c.before.before.before.loop-test.true),
   λ d text s k j rs h o g. below_more _ c.before.before.before.before.loop.i (c.before.before.before.before.loop.invariant.1 d text s k j rs h o g)
       (λ r e. closed_at h g c.before.before.before.before.loop.i c.before.is-ref-open.result (c.before.is-ref-open.ensures d text s k _ j h o) r e ∙
-      unless-true _ _ (not-false _ c.if1.false)),
+      unless_true _ _ (not-false _ c.if1.false)),
 )
 
 returns-2 : tie.Need-returns-2 invariant-loop decreases-loop
 returns-2 c =
-    λ d text s k j rs h o g. sym (none-there (closedRef d j) rs c.before.before.args.n g.number
+    λ d text s k j rs h o g. sym (none_there (closed_ref d j) rs c.before.before.args.n g.number
     (λ m l. c.before.loop.invariant.1 d text s k j rs h o g m (omega (arith, l, c.loop-test.false))))
 
 pub first-closed-ref-spec : {M : Type 1} → statement M

@@ -10,7 +10,7 @@ use mathlib.Core.List.{List}
 use mathlib.Core.Path.{◌∙◌, ◌≡◌, sym}
 use native.Mathlib.Omega.{arith}
 use Rattle.document.specs.Policy.{Policy}
-use Rattle.resolving.proofs.OpennessLaws.{Named, first-closed, none-closed, open-found, open_at}
+use Rattle.resolving.proofs.OpennessLaws.{Named, first_closed, none_closed, open_found, open_at}
 use Rattle.text.specs.Words.{word_of}
 use Rattle.resolving.proofs.openness.first_closed.Statement.{statement}
 use Rattle.resolving.proofs.openness.first_closed.Tie as tie
@@ -48,9 +48,9 @@ shared-slice-read-t15 c = search rules
 returns-3 : tie.Need-returns-3 invariant-loop decreases-loop
 returns-3 c d text s k p h l a b o e =
     let entry = c.before.before.before.before.before.before.before.before.before.before.args in
-    let g : Named entry.tables.now entry.t entry.said.now entry.places.now entry.n entry.columns.now d p s = record { text = text; k = k; held = h; inside = l; longPlaces = a; longColumns = b; labels = o; are = e } in
-    first-closed g c.before.before.before.before.before.before.before.loop.i c.before.before.before.before.before.before.loop-test.true (c.before.before.before.before.before.before.before.loop.invariant.1 d p s g)
-    (sym (open-found g c.before.before.before.before.before.before.before.loop.i c.before.before.before.before.before.before.loop-test.true c.before.before.column-open.result c.before.before.column-open.ensures) ∙ not-true c.before.before.column-open.result c.before.if3.true)
+    let g : Named entry.tables.now entry.t entry.said.now entry.places.now entry.n entry.columns.now d p s = record { text = text; k = k; held = h; inside = l; long_places = a; long_columns = b; labels = o; are = e } in
+    first_closed g c.before.before.before.before.before.before.before.loop.i c.before.before.before.before.before.before.loop-test.true (c.before.before.before.before.before.before.before.loop.invariant.1 d p s g)
+    (sym (open_found g c.before.before.before.before.before.before.before.loop.i c.before.before.before.before.before.before.loop-test.true c.before.before.column-open.result c.before.before.column-open.ensures) ∙ not-true c.before.before.column-open.result c.before.if3.true)
 
 add-i : tie.Need-overflow-add-i invariant-loop decreases-loop
 add-i c = search rules
@@ -62,14 +62,14 @@ loop-again : tie.Need-loop-preserved invariant-loop decreases-loop
 loop-again c = (
   omega (arith, c.before.before.before.before.before.loop-test.true),
   (λ d p s g. below_more _ c.before.before.before.before.before.before.loop.i (c.before.before.before.before.before.before.loop.invariant.1 d p s g)
-      (sym (open-found g c.before.before.before.before.before.before.loop.i c.before.before.before.before.before.loop-test.true c.before.column-open.result c.before.column-open.ensures) ∙ not-false c.before.column-open.result c.if3.false)),
+      (sym (open_found g c.before.before.before.before.before.before.loop.i c.before.before.before.before.before.loop-test.true c.before.column-open.result c.before.column-open.ensures) ∙ not-false c.before.column-open.result c.if3.false)),
 )
 
 returns-4 : tie.Need-returns-4 invariant-loop decreases-loop
 returns-4 c d text s k p h l a b o e =
     let entry = c.before.before.before.before.args in
-    let g : Named entry.tables.now entry.t entry.said.now entry.places.now entry.n entry.columns.now d p s = record { text = text; k = k; held = h; inside = l; longPlaces = a; longColumns = b; labels = o; are = e } in
-    none-closed g (λ j less. c.before.loop.invariant.1 d p s g j (omega (arith, less, c.loop-test.false)))
+    let g : Named entry.tables.now entry.t entry.said.now entry.places.now entry.n entry.columns.now d p s = record { text = text; k = k; held = h; inside = l; long_places = a; long_columns = b; labels = o; are = e } in
+    none_closed g (λ j less. c.before.loop.invariant.1 d p s g j (omega (arith, less, c.loop-test.false)))
 
 pub first-closed-spec : {M : Type 1} → statement M
 first-closed-spec =

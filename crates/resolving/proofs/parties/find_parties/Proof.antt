@@ -1,9 +1,9 @@
 -- `resolving::parties::find_parties` meets its contract: the first lookup that finds nothing decides.
 -- Assumes nothing.
-use Rattle.document.specs.Lookup.{purposeOf, roleOf}
-use Rattle.principals.proofs.UserLaws.{userOf-known}
-use Rattle.workspace.specs.Found.{FoundBelow, foundAs}
-use Rattle.resolving.proofs.PartyLaws.{parties-known, purpose-unknown, role-missing, role-unknown, user-unknown}
+use Rattle.document.specs.Lookup.{purpose_of, role_of}
+use Rattle.principals.proofs.UserLaws.{user_of_known}
+use Rattle.workspace.specs.Found.{FoundBelow, found_as}
+use Rattle.resolving.proofs.PartyLaws.{parties_known, purpose_unknown, role_missing, role_unknown, user_unknown}
 use Rattle.text.specs.Words.{word_of}
 use borrow.Author.Rules.{rules}
 use borrow.Author.Tests.{not-false, not-true}
@@ -15,10 +15,10 @@ user-named-requires : tie.Need-user-named-requires
 user-named-requires c κs = search rules
 
 returns : tie.Need-returns
-unfolding roleOf purposeOf
+unfolding role_of purpose_of
 returns c d np nr nu =
     let a = c.before.before.before.before.before.args in
-    user-unknown d a.query.now a.q a.c (sym (c.before.user-named.ensures d d.users nu) ∙ not-true _ c.if1.true)
+    user_unknown d a.query.now a.q a.c (sym (c.before.user-named.ensures d d.users nu) ∙ not-true _ c.if1.true)
 
 find-role-requires : tie.Need-find-role-requires
 find-role-requires c κs = search rules
@@ -30,11 +30,11 @@ enum_told : tie.Need-enum-told
 enum_told c = search rules
 
 returns-2 : tie.Need-returns-2
-unfolding roleOf purposeOf
+unfolding role_of purpose_of
 returns-2 c d np nr nu =
     let a = c.before.before.before.before.before.before.before.before.args in
-    role-unknown d a.query.now a.q a.c (sym (c.before.before.before.before.user-named.ensures d d.users nu) ∙ not-false _ c.before.before.before.if1.false)
-    (sym (c.before.before.find-role.ensures.0 d.roles nr) ∙ ap foundAs c.enum_told.given.1)
+    role_unknown d a.query.now a.q a.c (sym (c.before.before.before.before.user-named.ensures d d.users nu) ∙ not-false _ c.before.before.before.if1.false)
+    (sym (c.before.before.find-role.ensures.0 d.roles nr) ∙ ap found_as c.enum_told.given.1)
 
 find-purpose-requires : tie.Need-find-purpose-requires
 find-purpose-requires c κs = search rules
@@ -46,12 +46,12 @@ enum-told-2 : tie.Need-enum-told-2
 enum-told-2 c = search rules
 
 returns-3 : tie.Need-returns-3
-unfolding roleOf purposeOf
+unfolding role_of purpose_of
 returns-3 c d np nr nu =
     let a = c.before.before.before.before.before.before.before.before.before.before.before.before.args in
-    purpose-unknown d a.query.now a.q a.c (sym (c.before.before.before.before.before.before.before.before.user-named.ensures d d.users nu) ∙ not-false _ c.before.before.before.before.before.before.before.if1.false)
-    c.before.before.before.before.role.given.0.0 (sym (c.before.before.before.before.before.before.find-role.ensures.0 d.roles nr) ∙ ap foundAs c.before.before.before.before.role.given.1)
-    (sym (c.before.before.find-purpose.ensures.0 d.purposes np) ∙ ap foundAs c.enum-told2.given.1)
+    purpose_unknown d a.query.now a.q a.c (sym (c.before.before.before.before.before.before.before.before.user-named.ensures d d.users nu) ∙ not-false _ c.before.before.before.before.before.before.before.if1.false)
+    c.before.before.before.before.role.given.0.0 (sym (c.before.before.before.before.before.before.find-role.ensures.0 d.roles nr) ∙ ap found_as c.before.before.before.before.role.given.1)
+    (sym (c.before.before.find-purpose.ensures.0 d.purposes np) ∙ ap found_as c.enum-told2.given.1)
 
 find-user-requires : tie.Need-find-user-requires
 find-user-requires c κs = search rules
@@ -63,27 +63,27 @@ enum-told-3 : tie.Need-enum-told-3
 enum-told-3 c = search rules
 
 returns-4 : tie.Need-returns-4
-unfolding roleOf purposeOf
+unfolding role_of purpose_of
 returns-4 c d np nr nu =
     let a = c.before.before.before.before.before.before.before.before.before.before.before.before.before.before.before.before.before.args in
-    let role = sym (c.before.before.before.before.before.before.before.before.before.before.before.find-role.ensures.0 d.roles nr) ∙ ap foundAs c.before.before.before.before.before.before.before.before.before.role.given.1 in
-    parties-known d a.query.now a.q a.c (sym (c.before.before.before.before.before.before.before.before.before.before.before.before.before.user-named.ensures d d.users nu) ∙ not-false _ c.before.before.before.before.before.before.before.before.before.before.before.before.if1.false)
+    let role = sym (c.before.before.before.before.before.before.before.before.before.before.before.find-role.ensures.0 d.roles nr) ∙ ap found_as c.before.before.before.before.before.before.before.before.before.role.given.1 in
+    parties_known d a.query.now a.q a.c (sym (c.before.before.before.before.before.before.before.before.before.before.before.before.before.user-named.ensures d d.users nu) ∙ not-false _ c.before.before.before.before.before.before.before.before.before.before.before.before.if1.false)
     c.before.before.before.before.before.before.before.before.before.role.given.0.0 role
-    c.before.before.before.before.before.purpose.given.0.0 (sym (c.before.before.before.before.before.before.before.find-purpose.ensures.0 d.purposes np) ∙ ap foundAs c.before.before.before.before.before.purpose.given.1)
+    c.before.before.before.before.before.purpose.given.0.0 (sym (c.before.before.before.before.before.before.before.find-purpose.ensures.0 d.purposes np) ∙ ap found_as c.before.before.before.before.before.purpose.given.1)
     c.before.user.given.0.0
-    (userOf-known d (word_of a.query.now a.q.head.user) (word_of a.query.now a.q.head.role) c.before.before.before.before.before.before.before.before.before.role.given.0.0 role ∙ sym (c.before.before.before.find-user.ensures.0 d d.users nu) ∙ ap foundAs c.before.user.given.1)
+    (user_of_known d (word_of a.query.now a.q.head.user) (word_of a.query.now a.q.head.role) c.before.before.before.before.before.before.before.before.before.role.given.0.0 role ∙ sym (c.before.before.before.find-user.ensures.0 d d.users nu) ∙ ap found_as c.before.user.given.1)
     (subst (λ x. FoundBelow x a.c.purposes) c.before.before.before.before.before.purpose.given.1 c.before.before.before.before.before.before.before.find-purpose.ensures.1)
     (subst (λ x. FoundBelow x a.c.users) c.before.user.given.1 c.before.before.before.find-user.ensures.1)
 
 returns-5 : tie.Need-returns-5
-unfolding roleOf purposeOf
+unfolding role_of purpose_of
 returns-5 c d np nr nu =
     let a = c.before.before.before.before.before.before.before.before.before.before.before.before.before.before.before.before.args in
-    let role = sym (c.before.before.before.before.before.before.before.before.before.before.find-role.ensures.0 d.roles nr) ∙ ap foundAs c.before.before.before.before.before.before.before.before.role.given.1 in
-    role-missing d a.query.now a.q a.c (sym (c.before.before.before.before.before.before.before.before.before.before.before.before.user-named.ensures d d.users nu) ∙ not-false _ c.before.before.before.before.before.before.before.before.before.before.before.if1.false)
+    let role = sym (c.before.before.before.before.before.before.before.before.before.before.find-role.ensures.0 d.roles nr) ∙ ap found_as c.before.before.before.before.before.before.before.before.role.given.1 in
+    role_missing d a.query.now a.q a.c (sym (c.before.before.before.before.before.before.before.before.before.before.before.before.user-named.ensures d d.users nu) ∙ not-false _ c.before.before.before.before.before.before.before.before.before.before.before.if1.false)
     c.before.before.before.before.before.before.before.before.role.given.0.0 role
-    c.before.before.before.before.purpose.given.0.0 (sym (c.before.before.before.before.before.before.find-purpose.ensures.0 d.purposes np) ∙ ap foundAs c.before.before.before.before.purpose.given.1)
-    (userOf-known d (word_of a.query.now a.q.head.user) (word_of a.query.now a.q.head.role) c.before.before.before.before.before.before.before.before.role.given.0.0 role ∙ sym (c.before.before.find-user.ensures.0 d d.users nu) ∙ ap foundAs c.enum-told3.given.1)
+    c.before.before.before.before.purpose.given.0.0 (sym (c.before.before.before.before.before.before.find-purpose.ensures.0 d.purposes np) ∙ ap found_as c.before.before.before.before.purpose.given.1)
+    (user_of_known d (word_of a.query.now a.q.head.user) (word_of a.query.now a.q.head.role) c.before.before.before.before.before.before.before.before.role.given.0.0 role ∙ sym (c.before.before.find-user.ensures.0 d d.users nu) ∙ ap found_as c.enum-told3.given.1)
 
 pub find-parties-spec : {M : Type 1} → statement M
 find-parties-spec =

@@ -2,7 +2,7 @@
 use mathlib.Core.Path.{◌∙◌, ap, sym}
 use Rattle.lists.specs.Lists.{there}
 use Rattle.text.proofs.EndLaws.{end_none, end_read}
-use Rattle.text.proofs.RangeLaws.{forward-range, is-range}
+use Rattle.text.proofs.RangeLaws.{forward_range, is_range_lem}
 use Rattle.text.specs.Amounts.{range}
 use borrow.Author.Rules.{rules}
 use Rattle.rows.proofs.faults.is_range.Statement.{statement}
@@ -23,7 +23,7 @@ returns c =
     let entry = c.before.before.before.before.args in
     let s = entry.line.now in
     let at = entry.at in
-    sym (is-range s at ∙ ap there (end_read range s at forward-range c.enum_told.given.0.0 (sym c.before.before.range-end.ensures ∙ c.enum_told.given.1)).1)
+    sym (is_range_lem s at ∙ ap there (end_read range s at forward_range c.enum_told.given.0.0 (sym c.before.before.range-end.ensures ∙ c.enum_told.given.1)).1)
 
 returns-2 : tie.Need-returns-2
 unfolding there
@@ -31,7 +31,7 @@ returns-2 c =
     let entry = c.before.before.before.before.args in
     let s = entry.line.now in
     let at = entry.at in
-    sym (is-range s at ∙ ap there (end_none range s at (sym c.before.before.range-end.ensures ∙ c.enum-told2.given.1)))
+    sym (is_range_lem s at ∙ ap there (end_none range s at (sym c.before.before.range-end.ensures ∙ c.enum-told2.given.1)))
 
 pub is-range-spec : {M : Type 1} → statement M
 is-range-spec = tie.close (tie.spec range-end-requires enum_told enum-told-2 returns returns-2)

@@ -3,10 +3,10 @@ use borrow.Author.Tests.{not-false, not-true}
 use mathlib.Core.Bool.{false, true}
 use mathlib.Core.Path.{◌∙◌, ap, sym}
 use Rattle.document.specs.Lookup.{label_of}
-use Rattle.workspace.specs.Found.{foundAs}
+use Rattle.workspace.specs.Found.{found_as}
 use Rattle.lists.specs.Lists.{there}
 use Rattle.text.specs.Words.{word_of}
-use Rattle.rows.proofs.RowChecks.{bracket-known, plain_known}
+use Rattle.rows.proofs.RowChecks.{bracket_known, plain_known}
 use borrow.Author.Rules.{rules}
 use Rattle.rows.proofs.faults.label_known.Statement.{statement}
 use Rattle.rows.proofs.faults.label_known.Tie as tie
@@ -41,8 +41,8 @@ returns-2 c =
     let at = entry.at in
     let second = c.before.before.before.cell-label.ensures in
     λ sets d h.
-    bracket-known (λ w. there (label_of d w)) s at (sym c.before.before.before.before.before.is-labelled.ensures ∙ not-false c.before.before.before.before.before.is-labelled.result c.before.before.before.before.if1.false) true
-    (ap (λ p. there (label_of d (word_of s p))) (sym second) ∙ ap there (sym (c.before.before.find-label.ensures.0 sets d.labels h)) ∙ ap (λ f. there (foundAs f)) c.enum_told.given.1)
+    bracket_known (λ w. there (label_of d w)) s at (sym c.before.before.before.before.before.is-labelled.ensures ∙ not-false c.before.before.before.before.before.is-labelled.result c.before.before.before.before.if1.false) true
+    (ap (λ p. there (label_of d (word_of s p))) (sym second) ∙ ap there (sym (c.before.before.find-label.ensures.0 sets d.labels h)) ∙ ap (λ f. there (found_as f)) c.enum_told.given.1)
 
 returns-3 : tie.Need-returns-3
 unfolding label_of there
@@ -52,8 +52,8 @@ returns-3 c =
     let at = entry.at in
     let second = c.before.before.before.cell-label.ensures in
     λ sets d h.
-    bracket-known (λ w. there (label_of d w)) s at (sym c.before.before.before.before.before.is-labelled.ensures ∙ not-false c.before.before.before.before.before.is-labelled.result c.before.before.before.before.if1.false) false
-    (ap (λ p. there (label_of d (word_of s p))) (sym second) ∙ ap there (sym (c.before.before.find-label.ensures.0 sets d.labels h)) ∙ ap (λ f. there (foundAs f)) c.enum-told2.given.1)
+    bracket_known (λ w. there (label_of d w)) s at (sym c.before.before.before.before.before.is-labelled.ensures ∙ not-false c.before.before.before.before.before.is-labelled.result c.before.before.before.before.if1.false) false
+    (ap (λ p. there (label_of d (word_of s p))) (sym second) ∙ ap there (sym (c.before.before.find-label.ensures.0 sets d.labels h)) ∙ ap (λ f. there (found_as f)) c.enum-told2.given.1)
 
 pub label-known-spec : {M : Type 1} → statement M
 label-known-spec =

@@ -4,11 +4,11 @@
 use borrow.Author.Tests.{not-false, not-true}
 use mathlib.Core.Path.{◌∙◌, ap, sym}
 use Rattle.document.specs.Lookup.{table_of}
-use Rattle.form.specs.Walks.{itemsAt}
-use Rattle.workspace.specs.Found.{foundAs}
-use Rattle.stepping.proofs.NearLaws.{place-near}
+use Rattle.form.specs.Walks.{items_at}
+use Rattle.workspace.specs.Found.{found_as}
+use Rattle.stepping.proofs.NearLaws.{place_near}
 use Rattle.text.specs.Words.{word_of}
-use Rattle.rows.proofs.RowJudging.{dated-reaches, dated-roomy, found-broken, found-dated, found-misfit, found-mistyped, found-unknown, row-no-table, row-over}
+use Rattle.rows.proofs.RowJudging.{dated_reaches, dated_roomy, found_broken, found_dated, found_misfit, found_mistyped, found_unknown, row_no_table, row_over}
 use borrow.Author.Rules.{rules}
 use Rattle.rows.proofs.faults.row_fault.Statement.{statement}
 use Rattle.rows.proofs.faults.row_fault.Tie as tie
@@ -17,7 +17,7 @@ returns : tie.Need-returns
 returns c =
     let a = c.before.before.before.args in
     let s = a.line.now in
-    record { is = λ d h. row-over d s (word_of s a.t) (itemsAt s a.is) a.k h.2 c.if1.true; roomy = tt; reaches = λ p. tt }
+    record { is = λ d h. row_over d s (word_of s a.t) (items_at s a.is) a.k h.2 c.if1.true; roomy = tt; reaches = λ p. tt }
 
 find-table-requires : tie.Need-find-table-requires
 find-table-requires c κs = search rules
@@ -35,8 +35,8 @@ returns-2 c =
     let s = a.line.now in
     record {
       is = λ d h.
-          row-no-table d s (word_of s a.t) (itemsAt s a.is) a.k h.2 c.before.before.before.if1.false
-          (sym (c.before.before.find-table.ensures.0 d.policy.tables h.1) ∙ ap foundAs c.enum_told.given.1);
+          row_no_table d s (word_of s a.t) (items_at s a.is) a.k h.2 c.before.before.before.if1.false
+          (sym (c.before.before.find-table.ensures.0 d.policy.tables h.1) ∙ ap found_as c.enum_told.given.1);
       roomy = tt;
       reaches = λ p. p.0;
     }
@@ -59,13 +59,13 @@ returns-3 c =
     let q = f.before.before.before.before.before.find-table in
     record {
       is = λ d h.
-          found-unknown a.text.now a.tables.now s a.tables-count a.k a.t (itemsAt s a.is) d h.1 h.2 f.before.before.before.before.before.before.if1.false
+          found_unknown a.text.now a.tables.now s a.tables-count a.k a.t (items_at s a.is) d h.1 h.2 f.before.before.before.before.before.before.if1.false
           q.result (q.ensures.0 d.policy.tables h.1) q.ensures.1 f.before.before.before.found.given.0.0 f.before.before.before.found.given.1
           f.before.table-scheme.result f.before.table-scheme.ensures
           f.unknown-label.result (λ l ls. f.unknown-label.ensures.0 h.0.0 d.policy l ls h.0.1)
           c.before.unknown.given.0.0 c.before.unknown.given.1;
       roomy = tt;
-      reaches = λ p. place-near s f.unknown-label.result f.unknown-label.ensures.1 c.before.unknown.given.0.0 c.before.unknown.given.1;
+      reaches = λ p. place_near s f.unknown-label.result f.unknown-label.ensures.1 c.before.unknown.given.0.0 c.before.unknown.given.1;
     }
 
 enum-told-2 : tie.Need-enum-told-2
@@ -86,7 +86,7 @@ returns-4 c =
     let q = f.before.before.before.before.before.find-table in
     record {
       is = λ d h.
-          found-misfit a.text.now a.tables.now s a.tables-count a.k a.t (itemsAt s a.is) d h.1 h.2 f.before.before.before.before.before.before.if1.false
+          found_misfit a.text.now a.tables.now s a.tables-count a.k a.t (items_at s a.is) d h.1 h.2 f.before.before.before.before.before.before.if1.false
           q.result (q.ensures.0 d.policy.tables h.1) q.ensures.1 f.before.before.before.found.given.0.0 f.before.before.before.found.given.1
           f.before.table-scheme.result f.before.table-scheme.ensures
           f.unknown-label.result (λ l ls. f.unknown-label.ensures.0 h.0.0 d.policy l ls h.0.1)
@@ -114,8 +114,8 @@ returns-5 c =
     let m = c.before.before.before.first-mistyped in
     record {
       is = λ d h.
-          found-mistyped
-          a.text.now a.tables.now s a.tables-count a.k a.t (itemsAt s a.is) d h.1 h.2 c.before.before.before.before.before.before.before.before.before.before.before.before.before.before.before.before.if1.false
+          found_mistyped
+          a.text.now a.tables.now s a.tables-count a.k a.t (items_at s a.is) d h.1 h.2 c.before.before.before.before.before.before.before.before.before.before.before.before.before.before.before.before.if1.false
           q.result (q.ensures.0 d.policy.tables h.1) q.ensures.1
           c.before.before.before.before.before.before.before.before.before.before.before.before.before.found.given.0.0
           c.before.before.before.before.before.before.before.before.before.before.before.before.before.found.given.1
@@ -131,7 +131,7 @@ returns-5 c =
           m.result (λ l. m.ensures.0 a.text.now a.tables-count d.policy h.1 l)
           c.before.wrong.given.0.0 c.before.wrong.given.1;
       roomy = tt;
-      reaches = λ p. place-near s m.result m.ensures.1 c.before.wrong.given.0.0 c.before.wrong.given.1;
+      reaches = λ p. place_near s m.result m.ensures.1 c.before.wrong.given.0.0 c.before.wrong.given.1;
     }
 
 enum-told-3 : tie.Need-enum-told-3
@@ -159,8 +159,8 @@ returns-6 c =
     let o = c.before.before.before.first-broken in
     record {
       is = λ d h.
-          found-broken
-          a.text.now a.tables.now s a.tables-count a.k a.t (itemsAt s a.is) d h.1 h.2 c.before.before.before.before.before.before.before.before.before.before.before.before.before.before.before.before.before.before.before.if1.false
+          found_broken
+          a.text.now a.tables.now s a.tables-count a.k a.t (items_at s a.is) d h.1 h.2 c.before.before.before.before.before.before.before.before.before.before.before.before.before.before.before.before.before.before.before.if1.false
           q.result (q.ensures.0 d.policy.tables h.1) q.ensures.1
           c.before.before.before.before.before.before.before.before.before.before.before.before.before.before.before.before.found.given.0.0
           c.before.before.before.before.before.before.before.before.before.before.before.before.before.before.before.before.found.given.1
@@ -178,7 +178,7 @@ returns-6 c =
           c.before.before.before.before.enum-told3.given.1 o.result o.ensures.0
           c.before.broken.given.0.0 c.before.broken.given.1;
       roomy = tt;
-      reaches = λ p. place-near s o.result o.ensures.1 c.before.broken.given.0.0 c.before.broken.given.1;
+      reaches = λ p. place_near s o.result o.ensures.1 c.before.broken.given.0.0 c.before.broken.given.1;
     }
 
 returns-7 : tie.Need-returns-7
@@ -191,8 +191,8 @@ returns-7 c =
     let o = c.before.before.before.first-broken in
     record {
       is = λ d h.
-          found-dated
-          a.text.now a.tables.now s a.tables-count a.k a.t (itemsAt s a.is) d h.1 h.2 c.before.before.before.before.before.before.before.before.before.before.before.before.before.before.before.before.before.before.before.if1.false
+          found_dated
+          a.text.now a.tables.now s a.tables-count a.k a.t (items_at s a.is) d h.1 h.2 c.before.before.before.before.before.before.before.before.before.before.before.before.before.before.before.before.before.before.before.if1.false
           q.result (q.ensures.0 d.policy.tables h.1) q.ensures.1
           c.before.before.before.before.before.before.before.before.before.before.before.before.before.before.before.before.found.given.0.0
           c.before.before.before.before.before.before.before.before.before.before.before.before.before.before.before.before.found.given.1
@@ -209,10 +209,10 @@ returns-7 c =
           m.result (λ l. m.ensures.0 a.text.now a.tables-count d.policy h.1 l)
           c.before.before.before.before.enum-told3.given.1 o.result o.ensures.0
           c.before.enum-told4.given.1 c.date-fault.result c.date-fault.ensures;
-      roomy = dated-roomy s c.before.before.before.before.before.before.before.values-start.result c.date-fault.result a.k 1024
+      roomy = dated_roomy s c.before.before.before.before.before.before.before.values-start.result c.date-fault.result a.k 1024
           c.date-fault.ensures
           c.before.before.before.before.before.before.before.before.before.before.before.before.before.before.before.before.before.before.before.if1.false;
-      reaches = λ p. dated-reaches s c.before.before.before.before.before.before.before.values-start.result c.date-fault.result c.date-fault.ensures;
+      reaches = λ p. dated_reaches s c.before.before.before.before.before.before.before.values-start.result c.date-fault.result c.date-fault.ensures;
     }
 
 pub row-fault-spec : {M : Type 1} → statement M

@@ -1,9 +1,9 @@
 -- `rows::faults::typed` meets its contract: a value is a word, or a bracket opens. Assumes nothing.
 use mathlib.Core.Path.{◌∙◌, ap, sym}
 use Rattle.condition.specs.Answers.{kind_of}
-use Rattle.document.specs.TypeFaults.{cellHasKind}
-use Rattle.rows.proofs.RowTypes.{bracket-date, bracket-name, bracket-number, word-kind}
-use Rattle.text.specs.Words.{writtenAt}
+use Rattle.document.specs.TypeFaults.{cell_has_kind}
+use Rattle.rows.proofs.RowTypes.{bracket_date, bracket_name, bracket_number, word_kind}
+use Rattle.text.specs.Words.{written_at}
 use borrow.Author.Rules.{rules}
 use Rattle.rows.proofs.faults.typed.Statement.{statement}
 use Rattle.rows.proofs.faults.typed.Tie as tie
@@ -15,7 +15,7 @@ has-kind-requires : tie.Need-has-kind-requires
 has-kind-requires c κs = search rules
 
 returns : tie.Need-returns
-returns c = let entry = c.before.before.before.before.args in c.has-kind.ensures ∙ word-kind entry.line.now entry.at (kind_of entry.kind) (λ z. c.before.if1.true (c.before.before.byte_at.ensures ∙ z))
+returns c = let entry = c.before.before.before.before.args in c.has-kind.ensures ∙ word_kind entry.line.now entry.at (kind_of entry.kind) (λ z. c.before.if1.true (c.before.before.byte_at.ensures ∙ z))
 
 enum_told : tie.Need-enum-told
 enum_told c = search rules
@@ -35,17 +35,17 @@ is-date-requires c κs = search rules
 returns-2 : tie.Need-returns-2
 returns-2 c =
     let a = c.before.before.before.before.before.args in
-    sym (ap (λ k. cellHasKind (kind_of k) (writtenAt a.line.now a.at)) c.enum_told.given.1 ∙ bracket-name a.line.now a.at (sym c.before.before.before.byte_at.ensures ∙ c.before.before.if1.false))
+    sym (ap (λ k. cell_has_kind (kind_of k) (written_at a.line.now a.at)) c.enum_told.given.1 ∙ bracket_name a.line.now a.at (sym c.before.before.before.byte_at.ensures ∙ c.before.before.if1.false))
 
 returns-3 : tie.Need-returns-3
 returns-3 c =
     let a = c.before.before.before.before.before.before.args in
-    c.is-range.ensures ∙ sym (ap (λ k. cellHasKind (kind_of k) (writtenAt a.line.now a.at)) c.before.enum-told2.given.1 ∙ bracket-number a.line.now a.at (sym c.before.before.before.before.byte_at.ensures ∙ c.before.before.before.if1.false))
+    c.is-range.ensures ∙ sym (ap (λ k. cell_has_kind (kind_of k) (written_at a.line.now a.at)) c.before.enum-told2.given.1 ∙ bracket_number a.line.now a.at (sym c.before.before.before.before.byte_at.ensures ∙ c.before.before.before.if1.false))
 
 returns-4 : tie.Need-returns-4
 returns-4 c =
     let a = c.before.before.before.before.before.before.args in
-    c.is-date.ensures ∙ sym (ap (λ k. cellHasKind (kind_of k) (writtenAt a.line.now a.at)) c.before.enum-told3.given.1 ∙ bracket-date a.line.now a.at)
+    c.is-date.ensures ∙ sym (ap (λ k. cell_has_kind (kind_of k) (written_at a.line.now a.at)) c.before.enum-told3.given.1 ∙ bracket_date a.line.now a.at)
 
 pub typed_spec : {M : Type 1} → statement M
 typed_spec =

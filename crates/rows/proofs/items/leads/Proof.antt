@@ -1,10 +1,10 @@
 -- `rows::items::leads` meets its contract. Assumes nothing.
 use Prim.Native.Nat.{◌+◌}
-use Rattle.document.proofs.RowItems.{bracket-behind, bracket-leading, led-name, led-values, no-leading, no-values-behind}
-use Rattle.lists.proofs.Tests.{true-not-false}
-use Rattle.text.proofs.CodeLaws.{word-at, word-nothing}
-use Rattle.text.proofs.Spaces.{space-here}
-use Rattle.text.specs.Names.{isName}
+use Rattle.document.proofs.RowItems.{bracket_behind, bracket_leading, led_name, led_values, no_leading, no_values_behind}
+use Rattle.lists.proofs.Tests.{true_not_false}
+use Rattle.text.proofs.CodeLaws.{word_at_lem, word_nothing}
+use Rattle.text.proofs.Spaces.{space_here}
+use Rattle.text.specs.Names.{is_name}
 use borrow.Author.Rules.{rules}
 use lib.ListN.{get_or}
 use mathlib.Core.Bool.{false}
@@ -22,10 +22,10 @@ returns c =
     let s = entry.line.now in
     let at = entry.at in
     let e : get_or s at 0 ≡ 32 → ⊥ = λ z. c.if1.true (c.before.byte_at.ensures ∙ z) in
-    (λ z. true-not-false z refl, λ z. (no-leading s at e, λ values. no-values-behind s at values e))
+    (λ z. true_not_false z refl, λ z. (no_leading s at e, λ values. no_values_behind s at values e))
 
 add-byte-at : tie.Need-overflow-add-byte-at
-add-byte-at c = let entry = c.before.before.before.args in omega (arith, (space-here entry.line.now entry.at _ c.before.byte_at.ensures c.if1.false).1)
+add-byte-at c = let entry = c.before.before.before.args in omega (arith, (space_here entry.line.now entry.at _ c.before.byte_at.ensures c.if1.false).1)
 
 byte-at-requires-2 : tie.Need-byte-at-requires-2
 byte-at-requires-2 c κs = search rules
@@ -37,10 +37,10 @@ returns-2 c =
     let at = entry.at in
     let e = sym c.before.before.before.byte_at.ensures ∙ c.before.before.if1.false in
     let o = sym c.before.byte-at2.ensures ∙ c.if2.true in
-    (λ z. true-not-false z refl, λ z. (bracket-leading s at e o, λ values. bracket-behind s at values e o))
+    (λ z. true_not_false z refl, λ z. (bracket_leading s at e o, λ values. bracket_behind s at values e o))
 
 add-name-end : tie.Need-overflow-add-name-end
-add-name-end c = let entry = c.before.before.before.before.before.args in omega (arith, (space-here entry.line.now entry.at _ c.before.before.before.byte_at.ensures c.before.before.if1.false).1)
+add-name-end c = let entry = c.before.before.before.before.before.args in omega (arith, (space_here entry.line.now entry.at _ c.before.before.before.byte_at.ensures c.before.before.if1.false).1)
 
 name-end-requires : tie.Need-name-end-requires
 name-end-requires c κs = search rules
@@ -58,7 +58,7 @@ returns-3 c =
     let at = entry.at in
     let e = sym c.before.before.before.before.before.before.byte_at.ensures ∙ c.before.before.before.before.before.if1.false in
     let o : get_or s (at + 1) 0 ≡ 40 → ⊥ = λ z. c.before.before.before.if2.false (c.before.before.before.before.byte-at2.ensures ∙ z) in
-    (λ z. (e, o, (word-at s (at + 1) isName _ (sym c.before.before.name-end.ensures ∙ c.enum_told.given.1)).0), λ z. true-not-false refl z)
+    (λ z. (e, o, (word_at_lem s (at + 1) is_name _ (sym c.before.before.name-end.ensures ∙ c.enum_told.given.1)).0), λ z. true_not_false refl z)
 
 returns-4 : tie.Need-returns-4
 returns-4 c =
@@ -67,8 +67,8 @@ returns-4 c =
     let at = entry.at in
     let e = sym c.before.before.before.before.before.before.byte_at.ensures ∙ c.before.before.before.before.before.if1.false in
     let o : get_or s (at + 1) 0 ≡ 40 → ⊥ = λ z. c.before.before.before.if2.false (c.before.before.before.before.byte-at2.ensures ∙ z) in
-    let n = word-nothing s (at + 1) isName (sym c.before.before.name-end.ensures ∙ c.enum-told2.given.1) in
-    (λ z. true-not-false z refl, λ z. (led-name s at e o false n, led-values s at e o false n))
+    let n = word_nothing s (at + 1) is_name (sym c.before.before.name-end.ensures ∙ c.enum-told2.given.1) in
+    (λ z. true_not_false z refl, λ z. (led_name s at e o false n, led_values s at e o false n))
 
 pub leads-spec : {M : Type 1} → statement M
 leads-spec =

@@ -1,6 +1,6 @@
 -- `rows::storing::store_by_cell` meets its contract: its items are brackets of two words. Assumes nothing.
-use Rattle.relations.proofs.RowLaws.{row-empty}
-use Rattle.rows.proofs.RowStored.{cells-stored, none_before}
+use Rattle.relations.proofs.RowLaws.{row_empty}
+use Rattle.rows.proofs.RowStored.{cells_stored, none_before}
 use borrow.Author.Rules.{rules}
 use mathlib.Core.List.{[]}
 use Rattle.rows.proofs.storing.store_by_cell.Statement.{statement}
@@ -15,7 +15,7 @@ add-row-requires c κs = search rules
 returns : tie.Need-returns
 returns c d sets rs ws l L N small h few =
     let a = c.before.before.before.before.before.before.args in
-    cells-stored a.line.now a.is rs ws N small few d h (λ short. none_before (c.before.before.store_cells.ensures d sets [] l L small short (row-empty _ _ _))) (c.add_row.ensures a.text.now)
+    cells_stored a.line.now a.is rs ws N small few d h (λ short. none_before (c.before.before.store_cells.ensures d sets [] l L small short (row_empty _ _ _))) (c.add_row.ensures a.text.now)
 
 pub store-by-cell-spec : {M : Type 1} → statement M
 store-by-cell-spec = tie.close (tie.spec store-cells-requires add-row-requires returns)

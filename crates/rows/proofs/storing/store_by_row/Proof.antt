@@ -1,10 +1,10 @@
 -- `rows::storing::store_by_row` meets its contract: its first item is a name. Assumes nothing.
 use Rattle.document.specs.Lookup.{label_of}
-use Rattle.document.specs.ValueFaults.{plainValues}
+use Rattle.document.specs.ValueFaults.{plain_values}
 use Rattle.lists.specs.Lists.{or_zero}
-use Rattle.rows.proofs.RowStored.{leading-stored}
-use Rattle.rows.proofs.StoredItems.{leading-space}
-use Rattle.text.proofs.Spaces.{space-here}
+use Rattle.rows.proofs.RowStored.{leading_stored}
+use Rattle.rows.proofs.StoredItems.{leading_space}
+use Rattle.text.proofs.Spaces.{space_here}
 use borrow.Author.Rules.{rules}
 use mathlib.Core.List.{[], ◌∷◌}
 use mathlib.Core.Path.{◌∙◌, ap, sym}
@@ -16,7 +16,7 @@ byte-at-requires : tie.Need-byte-at-requires
 byte-at-requires c κs = search rules
 
 add-w : tie.Need-overflow-add-w
-add-w c = let entry = c.before.before.before.before.args in omega (arith, (space-here entry.line.now entry.is _ c.before.byte_at.ensures c.if1.true).1)
+add-w c = let entry = c.before.before.before.before.args in omega (arith, (space_here entry.line.now entry.is _ c.before.byte_at.ensures c.if1.true).1)
 
 find-label-requires : tie.Need-find-label-requires
 find-label-requires c κs = search rules
@@ -40,14 +40,14 @@ returns : tie.Need-returns
 unfolding label_of
 returns c d sets rs ws l L N small h few =
     let a = c.before.before.before.before.before.before.before.before.before.before.before.before.before.args in
-    leading-stored a.line.now a.is rs ws N small few d _ _ h
+    leading_stored a.line.now a.is rs ws N small few d _ _ h
     (sym c.before.before.before.before.before.before.before.before.before.before.byte_at.ensures ∙ c.before.before.before.before.before.before.before.before.before.if1.true)
     (c.before.before.before.before.before.before.before.number.ensures ∙ ap or_zero (c.before.before.before.before.before.before.before.before.find-label.ensures.0 sets _ L))
     c.before.before.before.before.before.set-label.ensures c.before.before.before.word-end.ensures
     (λ short e. c.before.before.store-values.ensures 1 (c.before.before.before.before.before.before.before.number.result ∷ []) l small short e) (c.add_row.ensures a.text.now)
 
 returns-2 : tie.Need-returns-2
-returns-2 c d sets rs ws l L N small h few = let entry = c.before.before.before.before.args in absurd (leading-space plainValues entry.line.now entry.is ws h (λ e. c.if1.false (c.before.byte_at.ensures ∙ e)))
+returns-2 c d sets rs ws l L N small h few = let entry = c.before.before.before.before.args in absurd (leading_space plain_values entry.line.now entry.is ws h (λ e. c.if1.false (c.before.byte_at.ensures ∙ e)))
 
 pub store-by-row-spec : {M : Type 1} → statement M
 store-by-row-spec =

@@ -1,10 +1,10 @@
 -- `rows::storing::store_row` meets its contract, by the two marks of the table's scheme. Assumes nothing.
 use Rattle.document.specs.Lookup.{label_of, table_of}
-use Rattle.document.specs.NameFaults.{leadingName}
-use Rattle.document.specs.ValueFaults.{shapedValues}
-use Rattle.form.specs.Walks.{itemsAt}
+use Rattle.document.specs.NameFaults.{leading_name}
+use Rattle.document.specs.ValueFaults.{shaped_values}
+use Rattle.form.specs.Walks.{items_at}
 use Rattle.lists.specs.Lists.{or_zero}
-use Rattle.rows.proofs.RowStored.{led-alone, shape-stored}
+use Rattle.rows.proofs.RowStored.{led_alone, shape_stored}
 use Rattle.text.specs.Words.{word_of}
 use borrow.Author.Rules.{rules}
 use mathlib.Core.Path.{◌∙◌, ap, sym}
@@ -39,10 +39,10 @@ store-plain-requires : tie.Need-store-plain-requires
 store-plain-requires c κs = search rules
 
 returns : tie.Need-returns
-unfolding shapedValues table_of
+unfolding shaped_values table_of
 returns c d sets l L T N ok =
     let a = c.before.before.before.before.before.before.before.before.before.before.before.args in
-    shape-stored d a.line.now (word_of a.line.now a.t) (itemsAt a.line.now a.is) T N ok
+    shape_stored d a.line.now (word_of a.line.now a.t) (items_at a.line.now a.is) T N ok
     c.before.before.before.before.before.before.before.number.result
     c.before.before.before.before.before.before.table-scheme.result
     (c.before.before.before.before.before.before.before.number.ensures ∙ ap or_zero (c.before.before.before.before.before.before.before.before.find-table.ensures.0 _ T))
@@ -52,23 +52,23 @@ returns c d sets l L T N ok =
     (λ ws small v few. c.store-nested.ensures d.policy sets d.rows ws l L N small v few)
 
 returns-2 : tie.Need-returns-2
-unfolding shapedValues table_of
+unfolding shaped_values table_of
 returns-2 c d sets l L T N ok =
     let a = c.before.before.before.before.before.before.before.before.before.before.before.args in
-    shape-stored d a.line.now (word_of a.line.now a.t) (itemsAt a.line.now a.is) T N ok
+    shape_stored d a.line.now (word_of a.line.now a.t) (items_at a.line.now a.is) T N ok
     c.before.before.before.before.before.before.before.number.result
     c.before.before.before.before.before.before.table-scheme.result
     (c.before.before.before.before.before.before.before.number.ensures ∙ ap or_zero (c.before.before.before.before.before.before.before.before.find-table.ensures.0 _ T))
     c.before.before.before.before.before.before.table-scheme.ensures
     (λ m ms. sym (c.before.before.before.before.leads-label.ensures m ms) ∙ c.before.before.before.if1.true)
     (λ m ms. sym (c.before.before.before.before.before.has-brackets.ensures m ms) ∙ c.before.before.if2.false)
-    (λ ws small v few. led-alone a.k c.before.before.before.before.before.before.before.number.result d (itemsAt a.line.now a.is) ws (c.store-by-row.ensures d.policy sets d.rows ws l L N small v few))
+    (λ ws small v few. led_alone a.k c.before.before.before.before.before.before.before.number.result d (items_at a.line.now a.is) ws (c.store-by-row.ensures d.policy sets d.rows ws l L N small v few))
 
 returns-3 : tie.Need-returns-3
-unfolding shapedValues table_of
+unfolding shaped_values table_of
 returns-3 c d sets l L T N ok =
     let a = c.before.before.before.before.before.before.before.before.before.before.before.args in
-    shape-stored d a.line.now (word_of a.line.now a.t) (itemsAt a.line.now a.is) T N ok
+    shape_stored d a.line.now (word_of a.line.now a.t) (items_at a.line.now a.is) T N ok
     c.before.before.before.before.before.before.before.number.result
     c.before.before.before.before.before.before.table-scheme.result
     (c.before.before.before.before.before.before.before.number.ensures ∙ ap or_zero (c.before.before.before.before.before.before.before.before.find-table.ensures.0 _ T))
@@ -78,10 +78,10 @@ returns-3 c d sets l L T N ok =
     (λ ws small v few. c.store-by-cell.ensures d.policy sets d.rows ws l L N small v few)
 
 returns-4 : tie.Need-returns-4
-unfolding shapedValues table_of
+unfolding shaped_values table_of
 returns-4 c d sets l L T N ok =
     let a = c.before.before.before.before.before.before.before.before.before.before.before.args in
-    shape-stored d a.line.now (word_of a.line.now a.t) (itemsAt a.line.now a.is) T N ok
+    shape_stored d a.line.now (word_of a.line.now a.t) (items_at a.line.now a.is) T N ok
     c.before.before.before.before.before.before.before.number.result
     c.before.before.before.before.before.before.table-scheme.result
     (c.before.before.before.before.before.before.before.number.ensures ∙ ap or_zero (c.before.before.before.before.before.before.before.before.find-table.ensures.0 _ T))

@@ -1,12 +1,12 @@
 -- `stages::accepted::ask_accepted` meets its contract: 10 to 14 one after the other, then the answer under the grant. Assumes nothing.
-use Rattle.query.specs.Authority.{firstGrant}
-use Rattle.query.specs.HostClock.{clockOf}
-use Rattle.query.specs.QueryPlaces.{formAt}
-use Rattle.stages.proofs.Chain.{acting-is, acting-refused, gives-refused, gives_same, granted-is, granted-refused, nothing-found, number-found, parties-refused, read_is, read-refused, timed-passes, timed-refused}
-use Rattle.stages.proofs.Parties.{authorities, granted, in-tree, not-given, parties-known, party-unknown, purpose-number, query-read, role-missing, wrong-read}
-use Rattle.stages.specs.Figures.{answeredAs}
-use Rattle.stages.specs.Tails.{refusedAt}
-use Rattle.text.specs.Refusal.{pointingAll, pointingNowhere}
+use Rattle.query.specs.Authority.{first_grant}
+use Rattle.query.specs.HostClock.{clock_of}
+use Rattle.query.specs.QueryPlaces.{form_at}
+use Rattle.stages.proofs.Chain.{acting_is, acting_refused, gives_refused, gives_same, granted_is, granted_refused, nothing_found, number_found, parties_refused, read_is, read_refused, timed_passes, timed_refused}
+use Rattle.stages.proofs.Parties.{authorities, granted, in_tree_lem, not_given, parties_known, party_unknown, purpose_number, query_read, role_missing, wrong_read}
+use Rattle.stages.specs.Figures.{answered_as}
+use Rattle.stages.specs.Tails.{refused_at}
+use Rattle.text.specs.Refusal.{pointing_all, pointing_nowhere}
 use borrow.Author.Rules.{rules}
 use borrow.Author.Tests.{not-false, not-true}
 use mathlib.Core.Path.{◌∙◌, ap, refl, sym}
@@ -17,10 +17,10 @@ in-range-requires : tie.Need-in-range-requires
 in-range-requires c κs = search rules
 
 returns : tie.Need-returns
-unfolding answeredAs pointingNowhere
+unfolding answered_as pointing_nowhere
 returns c d standing =
     let a = c.before.before.before.before.before.args in
-    gives-refused (timed-refused d (clockOf a.clock) a.query.now (sym c.before.in-range.ensures ∙ not-true _ c.if1.true)) refl
+    gives_refused (timed_refused d (clock_of a.clock) a.query.now (sym c.before.in-range.ensures ∙ not-true _ c.if1.true)) refl
 
 read-query-requires : tie.Need-read-query-requires
 read-query-requires c κs = search rules
@@ -32,10 +32,10 @@ enum_told : tie.Need-enum-told
 enum_told c = search rules
 
 returns-2 : tie.Need-returns-2
-unfolding answeredAs pointingAll
+unfolding answered_as pointing_all
 returns-2 c d standing =
     let a = c.before.before.before.before.before.before.before.before.args in
-    gives-refused (timed-passes d (clockOf a.clock) a.query.now (sym c.before.before.before.before.in-range.ensures ∙ not-false _ c.before.before.before.if1.false) ∙ read-refused d (clockOf a.clock) a.query.now (wrong-read a.query.now c.before.before.read-query.ensures c.enum_told.given.1)) refl
+    gives_refused (timed_passes d (clock_of a.clock) a.query.now (sym c.before.before.before.before.in-range.ensures ∙ not-false _ c.before.before.before.if1.false) ∙ read_refused d (clock_of a.clock) a.query.now (wrong_read a.query.now c.before.before.read-query.ensures c.enum_told.given.1)) refl
 
 find-parties-requires : tie.Need-find-parties-requires
 find-parties-requires c κs = search rules
@@ -50,11 +50,11 @@ returns-3 : tie.Need-returns-3
 returns-3 c d standing =
     let a = c.before.before.before.before.before.before.before.before.before.before.before.before.before.before.before.args in
     let q = c.before.before.before.before.before.before.before.a.given.0.0 in
-    let read = query-read a.query.now c.before.before.before.before.before.before.before.before.before.read-query.ensures c.before.before.before.before.before.before.before.a.given.1 in
+    let read = query_read a.query.now c.before.before.before.before.before.before.before.before.before.read-query.ensures c.before.before.before.before.before.before.before.a.given.1 in
     let parties = c.before.before.before.before.find-parties.ensures d.policy standing.indexed.purposes standing.indexed.roles standing.indexed.users in
-    gives-refused
-    (timed-passes d (clockOf a.clock) a.query.now (sym c.before.before.before.before.before.before.before.before.before.before.before.in-range.ensures ∙ not-false _ c.before.before.before.before.before.before.before.before.before.before.if1.false) ∙ read_is d (clockOf a.clock) a.query.now read.is
-    ∙ parties-refused d (clockOf a.clock) (formAt a.query.now q) a.query.now (party-unknown d.policy a.query.now (formAt a.query.now q) a.c parties c.before.before.who.given.1))
+    gives_refused
+    (timed_passes d (clock_of a.clock) a.query.now (sym c.before.before.before.before.before.before.before.before.before.before.before.in-range.ensures ∙ not-false _ c.before.before.before.before.before.before.before.before.before.before.if1.false) ∙ read_is d (clock_of a.clock) a.query.now read.is
+    ∙ parties_refused d (clock_of a.clock) (form_at a.query.now q) a.query.now (party_unknown d.policy a.query.now (form_at a.query.now q) a.c parties c.before.before.who.given.1))
     c.refused-at.ensures
 
 enum-known-who-2 : tie.Need-enum-known-who-2
@@ -64,15 +64,15 @@ refused-at-requires-2 : tie.Need-refused-at-requires-2
 refused-at-requires-2 c κs = search rules
 
 returns-4 : tie.Need-returns-4
-unfolding refusedAt formAt
+unfolding refused_at form_at
 returns-4 c d standing =
     let a = c.before.before.before.before.before.before.before.before.before.before.before.before.before.before.args in
     let q = c.before.before.before.before.before.before.a.given.0.0 in
-    let read = query-read a.query.now c.before.before.before.before.before.before.before.before.read-query.ensures c.before.before.before.before.before.before.a.given.1 in
+    let read = query_read a.query.now c.before.before.before.before.before.before.before.before.read-query.ensures c.before.before.before.before.before.before.a.given.1 in
     let parties = c.before.before.before.find-parties.ensures d.policy standing.indexed.purposes standing.indexed.roles standing.indexed.users in
-    gives-refused
-    (timed-passes d (clockOf a.clock) a.query.now (sym c.before.before.before.before.before.before.before.before.before.before.in-range.ensures ∙ not-false _ c.before.before.before.before.before.before.before.before.before.if1.false) ∙ read_is d (clockOf a.clock) a.query.now read.is
-    ∙ acting-refused d (clockOf a.clock) (formAt a.query.now q) (role-missing d.policy a.query.now (formAt a.query.now q) a.c parties (not-given c.before.before.before.find-parties.result c.before.before.match2.keys2 c.before.match3.keys2)))
+    gives_refused
+    (timed_passes d (clock_of a.clock) a.query.now (sym c.before.before.before.before.before.before.before.before.before.before.in-range.ensures ∙ not-false _ c.before.before.before.before.before.before.before.before.before.if1.false) ∙ read_is d (clock_of a.clock) a.query.now read.is
+    ∙ acting_refused d (clock_of a.clock) (form_at a.query.now q) (role_missing d.policy a.query.now (form_at a.query.now q) a.c parties (not_given c.before.before.before.find-parties.result c.before.before.match2.keys2 c.before.match3.keys2)))
     c.refused-at2.ensures
 
 purpose-closure-requires : tie.Need-purpose-closure-requires
@@ -91,22 +91,22 @@ refused-at-requires-3 : tie.Need-refused-at-requires-3
 refused-at-requires-3 c κs = search rules
 
 returns-5 : tie.Need-returns-5
-unfolding refusedAt formAt
+unfolding refused_at form_at
 returns-5 c d standing =
     let a = c.before.before.before.before.before.before.before.before.before.before.before.before.before.before.before.before.before.before.before.before.args in
     let q = c.before.before.before.before.before.before.before.before.before.before.before.before.a.given.0.0 in
     let range = sym c.before.before.before.before.before.before.before.before.before.before.before.before.before.before.before.before.in-range.ensures ∙ not-false _ c.before.before.before.before.before.before.before.before.before.before.before.before.before.before.before.if1.false in
-    let read = query-read a.query.now c.before.before.before.before.before.before.before.before.before.before.before.before.before.before.read-query.ensures c.before.before.before.before.before.before.before.before.before.before.before.before.a.given.1 in
+    let read = query_read a.query.now c.before.before.before.before.before.before.before.before.before.before.before.before.before.before.read-query.ensures c.before.before.before.before.before.before.before.before.before.before.before.before.a.given.1 in
     let parties = c.before.before.before.before.before.before.before.before.before.find-parties.ensures d.policy standing.indexed.purposes standing.indexed.roles standing.indexed.users in
-    let acting = parties-known d.policy a.query.now (formAt a.query.now q) a.c parties c.before.before.before.before.before.before.who2.given.1 in
+    let acting = parties_known d.policy a.query.now (form_at a.query.now q) a.c parties c.before.before.before.before.before.before.who2.given.1 in
     let closure = c.before.before.before.before.purpose-closure.ensures a.text.now d.policy.purposes standing.indexed.purposes standing.formed.grown in
     let grant =
-    c.before.before.before.authorising-grant.ensures d.policy _ (authorities standing) acting.userBelow closure (in-tree standing.indexed.purposes acting.purposeBelow) range
-    ∙ ap (firstGrant d.policy (clockOf a.clock) c.before.before.before.before.before.before.who2.given.0.1.0) (purpose-number acting.purpose) in
-    gives-refused
-    (timed-passes d (clockOf a.clock) a.query.now range ∙ read_is d (clockOf a.clock) a.query.now read.is
-    ∙ acting-is d (clockOf a.clock) (formAt a.query.now q) acting
-    ∙ granted-refused d (clockOf a.clock) (formAt a.query.now q) c.before.before.before.before.before.before.who2.given.0.1.0 (nothing-found c.before.enum-told2.given.1 grant))
+    c.before.before.before.authorising-grant.ensures d.policy _ (authorities standing) acting.user_below closure (in_tree_lem standing.indexed.purposes acting.purpose_below) range
+    ∙ ap (first_grant d.policy (clock_of a.clock) c.before.before.before.before.before.before.who2.given.0.1.0) (purpose_number acting.purpose) in
+    gives_refused
+    (timed_passes d (clock_of a.clock) a.query.now range ∙ read_is d (clock_of a.clock) a.query.now read.is
+    ∙ acting_is d (clock_of a.clock) (form_at a.query.now q) acting
+    ∙ granted_refused d (clock_of a.clock) (form_at a.query.now q) c.before.before.before.before.before.before.who2.given.0.1.0 (nothing_found c.before.enum-told2.given.1 grant))
     c.refused-at3.ensures
 
 say-labels-requires : tie.Need-say-labels-requires
@@ -123,18 +123,18 @@ returns-6 c d standing =
     let a = c.before.before.before.before.before.before.before.before.before.before.before.before.before.before.before.before.before.before.before.before.before.before.before.before.before.before.before.args in
     let q = c.before.before.before.before.before.before.before.before.before.before.before.before.before.before.before.before.before.before.before.a.given.0.0 in
     let range = sym c.before.before.before.before.before.before.before.before.before.before.before.before.before.before.before.before.before.before.before.before.before.before.before.in-range.ensures ∙ not-false _ c.before.before.before.before.before.before.before.before.before.before.before.before.before.before.before.before.before.before.before.before.before.before.if1.false in
-    let read = query-read a.query.now c.before.before.before.before.before.before.before.before.before.before.before.before.before.before.before.before.before.before.before.before.before.read-query.ensures c.before.before.before.before.before.before.before.before.before.before.before.before.before.before.before.before.before.before.before.a.given.1 in
+    let read = query_read a.query.now c.before.before.before.before.before.before.before.before.before.before.before.before.before.before.before.before.before.before.before.before.before.read-query.ensures c.before.before.before.before.before.before.before.before.before.before.before.before.before.before.before.before.before.before.before.a.given.1 in
     let parties = c.before.before.before.before.before.before.before.before.before.before.before.before.before.before.before.before.find-parties.ensures d.policy standing.indexed.purposes standing.indexed.roles standing.indexed.users in
-    let acting = parties-known d.policy a.query.now (formAt a.query.now q) a.c parties c.before.before.before.before.before.before.before.before.before.before.before.before.before.who2.given.1 in
+    let acting = parties_known d.policy a.query.now (form_at a.query.now q) a.c parties c.before.before.before.before.before.before.before.before.before.before.before.before.before.who2.given.1 in
     let closure = c.before.before.before.before.before.before.before.before.before.before.before.purpose-closure.ensures a.text.now d.policy.purposes standing.indexed.purposes standing.formed.grown in
     let grant =
-    c.before.before.before.before.before.before.before.before.before.before.authorising-grant.ensures d.policy _ (authorities standing) acting.userBelow closure (in-tree standing.indexed.purposes acting.purposeBelow) range
-    ∙ ap (firstGrant d.policy (clockOf a.clock) c.before.before.before.before.before.before.before.before.before.before.before.before.before.who2.given.0.1.0) (purpose-number acting.purpose) in
+    c.before.before.before.before.before.before.before.before.before.before.authorising-grant.ensures d.policy _ (authorities standing) acting.user_below closure (in_tree_lem standing.indexed.purposes acting.purpose_below) range
+    ∙ ap (first_grant d.policy (clock_of a.clock) c.before.before.before.before.before.before.before.before.before.before.before.before.before.who2.given.0.1.0) (purpose_number acting.purpose) in
     let said = c.before.before.before.before.before.say-labels.ensures _ standing.names d.policy _ standing.indexed.labels closure in
     gives_same
-    (timed-passes d (clockOf a.clock) a.query.now range ∙ read_is d (clockOf a.clock) a.query.now read.is
-    ∙ acting-is d (clockOf a.clock) (formAt a.query.now q) acting
-    ∙ granted-is d (clockOf a.clock) (formAt a.query.now q) c.before.before.before.before.before.before.before.before.before.before.before.before.before.who2.given.0.1.0 (number-found c.before.before.before.before.before.before.before.before.found.given.1 grant))
+    (timed_passes d (clock_of a.clock) a.query.now range ∙ read_is d (clock_of a.clock) a.query.now read.is
+    ∙ acting_is d (clock_of a.clock) (form_at a.query.now q) acting
+    ∙ granted_is d (clock_of a.clock) (form_at a.query.now q) c.before.before.before.before.before.before.before.before.before.before.before.before.before.who2.given.0.1.0 (number_found c.before.before.before.before.before.before.before.before.found.given.1 grant))
     (c.before.before.ask-granted.ensures d (granted standing read acting.purpose said))
 
 pub ask-accepted-spec : {M : Type 1} → statement M

@@ -1,6 +1,6 @@
 -- `tables::label_faults::label_fault` meets its contract: each answer by its law. Assumes nothing.
 use native.Mathlib.Omega.{arith}
-use Rattle.tables.proofs.LabelFaults.{allowed-twice, allowed-unknown, denied-twice, denied-unknown, label-fine, label-full, label-taken}
+use Rattle.tables.proofs.LabelFaults.{allowed_twice, allowed_unknown, denied_twice, denied_unknown, label_fine, label_full, label_taken}
 use borrow.Author.Rules.{rules}
 use Rattle.tables.proofs.label_faults.label_fault.Statement.{statement}
 use Rattle.tables.proofs.label_faults.label_fault.Tie as tie
@@ -8,7 +8,7 @@ use Rattle.tables.proofs.label_faults.label_fault.Tie as tie
 returns : tie.Need-returns
 returns c =
     let a = c.before.before.before.args in
-    label-full a.text.now a.purposes.now a.purposes-count a.labels.now a.k a.line.now a.l a.allowed a.denied (omega arith)
+    label_full a.text.now a.purposes.now a.purposes-count a.labels.now a.k a.line.now a.l a.allowed a.denied (omega arith)
 
 find-label-requires : tie.Need-find-label-requires
 find-label-requires c κs = search rules
@@ -19,7 +19,7 @@ enum_told c = search rules
 returns-2 : tie.Need-returns-2
 returns-2 c =
     let a = c.before.before.before.before.before.before.args in
-    label-taken a.text.now a.purposes.now a.purposes-count a.labels.now a.k a.line.now a.l a.allowed a.denied (omega arith) c.before.before.find-label.result c.before.before.find-label.ensures.0 c.enum_told.given.0.0 c.enum_told.given.1
+    label_taken a.text.now a.purposes.now a.purposes-count a.labels.now a.k a.line.now a.l a.allowed a.denied (omega arith) c.before.before.find-label.result c.before.before.find-label.ensures.0 c.enum_told.given.0.0 c.enum_told.given.1
 
 enum-told-2 : tie.Need-enum-told-2
 enum-told-2 c = search rules
@@ -33,7 +33,7 @@ enum-known-v c = search rules
 returns-3 : tie.Need-returns-3
 returns-3 c =
     let a = c.before.before.before.before.before.before.before.before.before.before.args in
-    allowed-twice a.text.now a.purposes.now a.purposes-count a.labels.now a.k a.line.now a.l a.allowed a.denied
+    allowed_twice a.text.now a.purposes.now a.purposes-count a.labels.now a.k a.line.now a.l a.allowed a.denied
     (omega arith) c.before.before.before.before.before.before.find-label.result
     c.before.before.before.before.before.before.find-label.ensures.0 c.before.before.before.before.enum-told2.given.1
     c.before.before.before.first-repeat.result c.before.before.before.first-repeat.ensures c.before.v.given.0.0
@@ -51,7 +51,7 @@ enum-known-v-2 c = search rules
 returns-4 : tie.Need-returns-4
 returns-4 c =
     let a = c.before.before.before.before.before.before.before.before.before.before.before.before.before.args in
-    denied-twice a.text.now a.purposes.now a.purposes-count a.labels.now a.k a.line.now a.l a.allowed a.denied
+    denied_twice a.text.now a.purposes.now a.purposes-count a.labels.now a.k a.line.now a.l a.allowed a.denied
     (omega arith) c.before.before.before.before.before.before.before.before.before.find-label.result
     c.before.before.before.before.before.before.before.before.before.find-label.ensures.0
     c.before.before.before.before.before.before.before.enum-told2.given.1
@@ -72,7 +72,7 @@ enum-known-v-3 c = search rules
 returns-5 : tie.Need-returns-5
 returns-5 c =
     let a = c.before.before.before.before.before.before.before.before.before.before.before.before.before.before.before.before.args in
-    allowed-unknown a.text.now a.purposes.now a.purposes-count a.labels.now a.k a.line.now a.l a.allowed a.denied
+    allowed_unknown a.text.now a.purposes.now a.purposes-count a.labels.now a.k a.line.now a.l a.allowed a.denied
     (omega arith) c.before.before.before.before.before.before.before.before.before.before.before.before.find-label.result
     c.before.before.before.before.before.before.before.before.before.before.before.before.find-label.ensures.0
     c.before.before.before.before.before.before.before.before.before.before.enum-told2.given.1
@@ -96,7 +96,7 @@ enum-known-v-4 c = search rules
 returns-6 : tie.Need-returns-6
 returns-6 c =
     let a = c.before.before.before.before.before.before.before.before.before.before.before.before.before.before.before.before.before.before.before.args in
-    denied-unknown a.text.now a.purposes.now a.purposes-count a.labels.now a.k a.line.now a.l a.allowed a.denied
+    denied_unknown a.text.now a.purposes.now a.purposes-count a.labels.now a.k a.line.now a.l a.allowed a.denied
     (omega arith)
     c.before.before.before.before.before.before.before.before.before.before.before.before.before.before.before.find-label.result
     c.before.before.before.before.before.before.before.before.before.before.before.before.before.before.before.find-label.ensures.0
@@ -118,7 +118,7 @@ enum-told-6 c = search rules
 returns-7 : tie.Need-returns-7
 returns-7 c =
     let a = c.before.before.before.before.before.before.before.before.before.before.before.before.before.before.before.before.before.before.args in
-    label-fine a.text.now a.purposes.now a.purposes-count a.labels.now a.k a.line.now a.l a.allowed a.denied
+    label_fine a.text.now a.purposes.now a.purposes-count a.labels.now a.k a.line.now a.l a.allowed a.denied
     (omega arith)
     c.before.before.before.before.before.before.before.before.before.before.before.before.before.before.find-label.result
     c.before.before.before.before.before.before.before.before.before.before.before.before.before.before.find-label.ensures.0

@@ -1,6 +1,6 @@
 -- `tables::label_storing::store_label` meets its contract: its sets hold the purposes that its line names. Assumes nothing.
 use Rattle.form.specs.Walks.{names_at}
-use Rattle.tables.proofs.SetLaws.{label-stored}
+use Rattle.tables.proofs.SetLaws.{label_stored}
 use borrow.Author.Rules.{rules}
 use Rattle.tables.proofs.label_storing.store_label.Statement.{statement}
 use Rattle.tables.proofs.label_storing.store_label.Tie as tie
@@ -20,7 +20,7 @@ add-label-requires c κs = search rules
 returns : tie.Need-returns
 returns c d l P N ok h denies =
     let a = c.before.before.before.before.before.before.before.before.args in
-    label-stored l d a.l _ h c.before.before.before.place.ensures (names_at a.line.now a.allowed) (names_at a.line.now a.denied) denies N ok
+    label_stored l d a.l _ h c.before.before.before.place.ensures (names_at a.line.now a.allowed) (names_at a.line.now a.denied) denies N ok
     (λ room. c.add-label.ensures a.text.now _ _ _ N room (c.before.before.before.before.before.set-of.ensures d.policy P) (c.before.before.before.before.set-of2.ensures d.policy P))
 
 pub store-label-spec : {M : Type 1} → statement M

@@ -1,8 +1,8 @@
 -- `tables::steps::step_table` meets its contract. Assumes nothing.
 use native.Mathlib.Omega.{arith}
 use borrow.Author.Rules.{rules}
-use Rattle.stepping.proofs.Growing.{grow-table}
-use Rattle.stepping.proofs.Judgements.{follows-fails, follows-goes, has_room, passes, refuses}
+use Rattle.stepping.proofs.Growing.{grow_table}
+use Rattle.stepping.proofs.Judgements.{follows_fails, follows_goes, has_room, passes, refuses}
 use Rattle.tables.proofs.steps.step_table.Statement.{statement}
 use Rattle.tables.proofs.steps.step_table.Tie as tie
 
@@ -13,7 +13,7 @@ enum-known-f : tie.Need-enum-known-f
 enum-known-f c = search rules
 
 returns : tie.Need-returns
-returns c = λ d ps' rs' bs' us' cs' gs' ms' ws' a w I. follows-fails (refuses c.before.before.before.table-fault.ensures.judges c.before.f.given.1 d ((ms', I.labels), I.tables) w)
+returns c = λ d ps' rs' bs' us' cs' gs' ms' ws' a w I. follows_fails (refuses c.before.before.before.table-fault.ensures.judges c.before.f.given.1 d ((ms', I.labels), I.tables) w)
 
 enum_told : tie.Need-enum-told
 enum_told c = search rules
@@ -28,7 +28,7 @@ returns-2 : tie.Need-returns-2
 returns-2 c = λ d ps' rs' bs' us' cs' gs' ms' ws' a w I.
     let p = passes c.before.before.before.before.table-fault.ensures.judges c.before.before.enum_told.given.1 d ((ms', I.labels), I.tables) in
     let stored = c.store-table.ensures d ms' a I.labels I.tables p w.0 in
-    follows-goes (record { doc = _; is = p; held = grow-table I _ _ _ _ stored.0 (stored.1 _ I.notes) })
+    follows_goes (record { doc = _; is = p; held = grow_table I _ _ _ _ stored.0 (stored.1 _ I.notes) })
 
 pub step-table-spec : {M : Type 1} → statement M
 step-table-spec =

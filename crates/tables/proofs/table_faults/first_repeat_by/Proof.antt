@@ -8,51 +8,51 @@ use mathlib.Core.List.{◌∷◌}
 use mathlib.Core.Logic.{⊎_elim}
 use mathlib.Core.Path.{◌∙◌, ◌≡◌, ap, refl, subst, sym}
 use native.Mathlib.Omega.{arith}
-use Rattle.tables.proofs.TableLineLaws.{Passing, bracket-after, columnNames, first-within, names-by-more, names-by-stop, passing-end, passing-found, passing-more, passing-start, passing-tests}
-use Rattle.tables.specs.TableLine.{bracketEndBy, columnsBy}
-use Rattle.form.specs.Walks.{firstIn}
-use Rattle.workspace.proofs.MetLaws.{met-none}
+use Rattle.tables.proofs.TableLineLaws.{Passing, bracket_after, column_names, first_within, names_by_more, names_by_stop, passing_end, passing_found, passing_more, passing_start, passing_tests}
+use Rattle.tables.specs.TableLine.{bracket_end_by, columns_by}
+use Rattle.form.specs.Walks.{first_in}
+use Rattle.workspace.proofs.MetLaws.{met_none}
 use Rattle.workspace.specs.Met.{Met}
 use Rattle.lists.proofs.Tests.{not-false}
 use Rattle.lists.specs.Lists.{any_of}
-use Rattle.text.proofs.Spaces.{space-here}
-use Rattle.text.specs.Words.{isCalled, word_of}
+use Rattle.text.proofs.Spaces.{space_here}
+use Rattle.text.specs.Words.{is_called, word_of}
 use Rattle.tables.proofs.table_faults.first_repeat_by.Statement.{statement}
 use Rattle.tables.proofs.table_faults.first_repeat_by.Tie as tie
 
 abbrev invariant-loop : tie.invariant-loop
 invariant-loop s at triple met₀ j₀ n₀ met j n =
-    Passing (columnNames (columnsBy triple s at)) n (columnNames (columnsBy triple s j)) × (n ≤ j) × Met met (take n (columnNames (columnsBy triple s at))) × (length met ≡ length met₀)
+    Passing (column_names (columns_by triple s at)) n (column_names (columns_by triple s j)) × (n ≤ j) × Met met (take n (column_names (columns_by triple s at))) × (length met ≡ length met₀)
 
 abbrev decreases-loop : tie.decreases-loop
 decreases-loop s at triple met₀ j₀ n₀ met j n = length s - j
 
 loop-holds : tie.Need-loop-init invariant-loop decreases-loop
-loop-holds c = (passing-start _, omega arith, met-none _, refl)
+loop-holds c = (passing_start _, omega arith, met_none _, refl)
 
 byte-at-requires : tie.Need-byte-at-requires invariant-loop decreases-loop
 byte-at-requires c κs = search rules
 
 add-first-in : tie.Need-overflow-add-first-in invariant-loop decreases-loop
-add-first-in c = omega (arith, (space-here c.before.before.before.before.before.args.s.now c.before.before.loop.j _ c.before.byte_at.ensures c.if1.true).1)
+add-first-in c = omega (arith, (space_here c.before.before.before.before.before.args.s.now c.before.before.loop.j _ c.before.byte_at.ensures c.if1.true).1)
 
 first-in-requires : tie.Need-first-in-requires invariant-loop decreases-loop
 first-in-requires c κs = search rules
 
 -- the name at the place is the next one
-next : (c : tie.After-first-in invariant-loop decreases-loop) → Passing (columnNames (columnsBy c.before.before.before.before.before.before.args.triple
+next : (c : tie.After-first-in invariant-loop decreases-loop) → Passing (column_names (columns_by c.before.before.before.before.before.before.args.triple
     c.before.before.before.before.before.before.args.s.now c.before.before.before.before.before.before.args.at))
-    c.before.before.before.loop.n (word_of c.before.before.before.before.before.before.args.s.now c.first-in.result ∷ columnNames
-    (columnsBy c.before.before.before.before.before.before.args.triple c.before.before.before.before.before.before.args.s.now
-    (bracketEndBy c.before.before.before.before.before.before.args.triple c.before.before.before.before.before.before.args.s.now (c.before.before.before.loop.j + 1))))
-unfolding firstIn
+    c.before.before.before.loop.n (word_of c.before.before.before.before.before.before.args.s.now c.first-in.result ∷ column_names
+    (columns_by c.before.before.before.before.before.before.args.triple c.before.before.before.before.before.before.args.s.now
+    (bracket_end_by c.before.before.before.before.before.before.args.triple c.before.before.before.before.before.before.args.s.now (c.before.before.before.loop.j + 1))))
+unfolding first_in
 next c =
     let s = c.before.before.before.before.before.before.args.s.now in
-    let ws = columnNames (columnsBy c.before.before.before.before.before.before.args.triple s c.before.before.before.before.before.before.args.at) in
-    let rest = columnNames (columnsBy c.before.before.before.before.before.before.args.triple s (bracketEndBy c.before.before.before.before.before.before.args.triple s (c.before.before.before.loop.j + 1))) in
+    let ws = column_names (columns_by c.before.before.before.before.before.before.args.triple s c.before.before.before.before.before.before.args.at) in
+    let rest = column_names (columns_by c.before.before.before.before.before.before.args.triple s (bracket_end_by c.before.before.before.before.before.before.args.triple s (c.before.before.before.loop.j + 1))) in
     subst (λ l. Passing ws c.before.before.before.loop.n l)
-    (names-by-more s c.before.before.before.loop.j c.before.before.before.before.before.before.args.triple
-    (space-here s c.before.before.before.loop.j _ c.before.before.byte_at.ensures c.before.if1.true).0 ∙ ap
+    (names_by_more s c.before.before.before.loop.j c.before.before.before.before.before.before.args.triple
+    (space_here s c.before.before.before.loop.j _ c.before.before.byte_at.ensures c.before.if1.true).0 ∙ ap
     (λ q. word_of s q ∷ rest) (sym c.first-in.ensures))
     c.before.before.before.loop.invariant.0
 
@@ -66,23 +66,23 @@ same_length : tie.Need-same-length invariant-loop decreases-loop
 same_length c = omega (arith, c.before.before.before.before.before.before.before.before.before.before.loop.invariant.3)
 
 returns : tie.Need-returns invariant-loop decreases-loop
-unfolding firstIn
+unfolding first_in
 returns c =
     let s = c.before.before.before.before.before.before.before.before.before.before.before.before.before.args.s.now in (
-      sym (passing-found (word_of s c.before.before.before.before.before.before.before.first-in.result) _ (next c.before.before.before.before.before.before.before) (sym c.before.stands-among.ensures ∙ c.if3.true)),
+      sym (passing_found (word_of s c.before.before.before.before.before.before.before.first-in.result) _ (next c.before.before.before.before.before.before.before) (sym c.before.stands-among.ensures ∙ c.if3.true)),
       omega (
         arith,
         c.before.before.before.before.before.before.before.first-in.ensures,
-        first-within s
+        first_within s
             c.before.before.before.before.before.before.before.before.before.before.loop.j
-            (space-here s c.before.before.before.before.before.before.before.before.before.before.loop.j _ c.before.before.before.before.before.before.before.before.before.byte_at.ensures c.before.before.before.before.before.before.before.before.if1.true).1,
+            (space_here s c.before.before.before.before.before.before.before.before.before.before.loop.j _ c.before.before.before.before.before.before.before.before.before.byte_at.ensures c.before.before.before.before.before.before.before.before.if1.true).1,
       ),
     )
 
 add-bracket-end : tie.Need-overflow-add-bracket-end invariant-loop decreases-loop
 add-bracket-end c = omega (
   arith,
-  (space-here c.before.before.before.before.before.before.before.before.before.before.before.args.s.now
+  (space_here c.before.before.before.before.before.before.before.before.before.before.before.args.s.now
       c.before.before.before.before.before.before.before.before.loop.j _
       c.before.before.before.before.before.before.before.byte_at.ensures c.before.before.before.before.before.before.if1.true).1,
 )
@@ -91,10 +91,10 @@ bracket-end-requires : tie.Need-bracket-end-requires invariant-loop decreases-lo
 bracket-end-requires c κs = search rules
 
 -- the name is none of those before: it is surely new, or it was compared with them
-absent : (c : tie.Joined2 invariant-loop decreases-loop) → any_of (λ v. isCalled (word_of
+absent : (c : tie.Joined2 invariant-loop decreases-loop) → any_of (λ v. is_called (word_of
     c.before.before.before.before.before.before.before.before.before.before.before.args.s.now
     c.before.before.before.before.before.first-in.result) v.bytes) (take
-    c.before.before.before.before.before.before.before.before.loop.n (columnNames (columnsBy
+    c.before.before.before.before.before.before.before.before.loop.n (column_names (columns_by
     c.before.before.before.before.before.before.before.before.before.before.before.args.triple
     c.before.before.before.before.before.before.before.before.before.before.before.args.s.now
     c.before.before.before.before.before.before.before.before.before.before.before.args.at))) ≡ false
@@ -105,7 +105,7 @@ add-n : tie.Need-overflow-add-n invariant-loop decreases-loop
 add-n c = omega (
   arith,
   c.before.before.before.before.before.before.before.before.before.loop.invariant.1,
-  (space-here
+  (space_here
       c.before.before.before.before.before.before.before.before.before.before.before.before.args.s.now
       c.before.before.before.before.before.before.before.before.before.loop.j _
       c.before.before.before.before.before.before.before.before.byte_at.ensures
@@ -114,13 +114,13 @@ add-n c = omega (
 
 -- the next turn begins later
 later : (c : tie.After-bracket-end invariant-loop decreases-loop) → c.before.before.before.before.before.before.before.before.before.loop.j < c.bracket-end.result
-later c = let entry = c.before.before.before.before.before.before.before.before.before.before.before.before.args in omega (arith, c.bracket-end.ensures, bracket-after entry.s.now c.before.before.before.before.before.before.before.before.before.loop.j entry.triple)
+later c = let entry = c.before.before.before.before.before.before.before.before.before.before.before.before.args in omega (arith, c.bracket-end.ensures, bracket_after entry.s.now c.before.before.before.before.before.before.before.before.before.loop.j entry.triple)
 
 loop-less : tie.Need-loop-smaller invariant-loop decreases-loop
 loop-less c = omega (
   arith,
   later c,
-  (space-here
+  (space_here
       c.before.before.before.before.before.before.before.before.before.before.before.before.args.s.now
       c.before.before.before.before.before.before.before.before.before.loop.j _
       c.before.before.before.before.before.before.before.before.byte_at.ensures
@@ -130,13 +130,13 @@ loop-less c = omega (
 loop-again : tie.Need-loop-preserved invariant-loop decreases-loop
 loop-again c =
     let s = c.before.before.before.before.before.before.before.before.before.before.before.before.args.s.now in
-    let ws = columnNames (columnsBy c.before.before.before.before.before.before.before.before.before.before.before.before.args.triple s c.before.before.before.before.before.before.before.before.before.before.before.before.args.at) in (
-      subst (λ e. Passing ws (c.before.before.before.before.before.before.before.before.before.loop.n + 1) (columnNames (columnsBy c.before.before.before.before.before.before.before.before.before.before.before.before.args.triple s e))) (sym c.bracket-end.ensures)
-          (passing-more (word_of s c.before.before.before.before.before.before.first-in.result) _ (next c.before.before.before.before.before.before) (absent c.before)),
+    let ws = column_names (columns_by c.before.before.before.before.before.before.before.before.before.before.before.before.args.triple s c.before.before.before.before.before.before.before.before.before.before.before.before.args.at) in (
+      subst (λ e. Passing ws (c.before.before.before.before.before.before.before.before.before.loop.n + 1) (column_names (columns_by c.before.before.before.before.before.before.before.before.before.before.before.before.args.triple s e))) (sym c.bracket-end.ensures)
+          (passing_more (word_of s c.before.before.before.before.before.before.first-in.result) _ (next c.before.before.before.before.before.before) (absent c.before)),
       omega (arith, later c, c.before.before.before.before.before.before.before.before.before.loop.invariant.1),
       c.before.before.before.before.is-new.ensures.more _ _
           c.before.before.before.before.before.before.before.before.before.loop.invariant.2
-          (passing-tests (word_of s c.before.before.before.before.before.before.first-in.result) _ (next c.before.before.before.before.before.before)),
+          (passing_tests (word_of s c.before.before.before.before.before.before.first-in.result) _ (next c.before.before.before.before.before.before)),
       omega (arith, c.before.before.before.before.before.before.before.before.before.loop.invariant.3),
     )
 
@@ -146,8 +146,8 @@ same-length-2 c = c.before.before.loop.invariant.3
 returns-2 : tie.Need-returns-2 invariant-loop decreases-loop
 returns-2 c =
     let s = c.before.before.before.before.before.args.s.now in
-    let ws = columnNames (columnsBy c.before.before.before.before.before.args.triple s c.before.before.before.before.before.args.at) in (
-      sym (passing-end (subst (λ l. Passing ws c.before.before.loop.n l) (names-by-stop s c.before.before.loop.j c.before.before.before.before.before.args.triple (λ z. c.if1.false (c.before.byte_at.ensures ∙ z))) c.before.before.loop.invariant.0)),
+    let ws = column_names (columns_by c.before.before.before.before.before.args.triple s c.before.before.before.before.before.args.at) in (
+      sym (passing_end (subst (λ l. Passing ws c.before.before.loop.n l) (names_by_stop s c.before.before.loop.j c.before.before.before.before.before.args.triple (λ z. c.if1.false (c.before.byte_at.ensures ∙ z))) c.before.before.loop.invariant.0)),
       tt,
     )
 

@@ -1,5 +1,5 @@
 -- `tables::table_storing::kind_at` meets its contract. Assumes nothing.
-use Rattle.form.specs.Walks.{columnKindAt, kind_at}
+use Rattle.form.specs.Walks.{column_kind_at, kind_at}
 use mathlib.Core.Bool.{cond}
 use mathlib.Core.Path.{◌∙◌, ap, sym}
 use Rattle.condition.specs.Kinds.{dates, names, numbers}
@@ -14,7 +14,7 @@ is-word-requires : tie.Need-is-word-requires
 is-word-requires c κs = search rules
 
 returns : tie.Need-returns
-unfolding columnKindAt
+unfolding column_kind_at
 returns c =
     let a = c.before.before.before.before.args in
     sym (ap (λ b. cond b dates (kind_at a.line.now a.q)) (sym c.before.is_IsWord.ensures ∙ c.if1.true))
@@ -26,13 +26,13 @@ is-word-requires-2 : tie.Need-is-word-requires-2
 is-word-requires-2 c κs = search rules
 
 returns-2 : tie.Need-returns-2
-unfolding columnKindAt kind_at
+unfolding column_kind_at kind_at
 returns-2 c =
     let a = c.before.before.before.before.before.before.before.args in
     sym (ap (λ b. cond b dates (kind_at a.line.now a.q)) (sym c.before.before.before.before.is_IsWord.ensures ∙ c.before.before.before.if1.false) ∙ ap (λ b. cond b numbers names) (sym c.before.is-word2.ensures ∙ c.if2.true))
 
 returns-3 : tie.Need-returns-3
-unfolding columnKindAt kind_at
+unfolding column_kind_at kind_at
 returns-3 c =
     let a = c.before.before.before.before.before.before.before.args in
     sym (ap (λ b. cond b dates (kind_at a.line.now a.q)) (sym c.before.before.before.before.is_IsWord.ensures ∙ c.before.before.before.if1.false) ∙ ap (λ b. cond b numbers names) (sym c.before.is-word2.ensures ∙ c.if2.false))

@@ -6,12 +6,12 @@ use lib.ListN.{length}
 use mathlib.Core.List.{map}
 use mathlib.Core.Path.{◌∙◌, ap}
 use native.Mathlib.Omega.{arith}
-use Rattle.document.specs.Meaning.{columnMeant}
-use Rattle.form.proofs.WalkSteps.{columns-stop, pair-after}
-use Rattle.form.specs.Walks.{columnFormsAt}
-use Rattle.stepping.proofs.ColumnLaws.{Columned, columned-all, columned-none, pair_ends, plain_turn}
+use Rattle.document.specs.Meaning.{column_meant}
+use Rattle.form.proofs.WalkSteps.{columns_stop, pair_after}
+use Rattle.form.specs.Walks.{column_forms_at}
+use Rattle.stepping.proofs.ColumnLaws.{Columned, columned_all, columned_none, pair_ends, plain_turn}
 use Rattle.stepping.specs.Stored.{LineAt}
-use Rattle.text.proofs.Spaces.{space-here}
+use Rattle.text.proofs.Spaces.{space_here}
 use Rattle.text.specs.Walking.{past}
 use Rattle.tables.proofs.table_storing.store_columns.Statement.{statement}
 use Rattle.tables.proofs.table_storing.store_columns.Tie as tie
@@ -19,19 +19,19 @@ use Rattle.tables.proofs.table_storing.store_columns.Tie as tie
 abbrev invariant-loop : tie.invariant-loop
 invariant-loop text tables₀ k at line cs c₀ j₀ tables c j =
     (c ≤ j)
-    × (LineAt text at line → k < 8 → length (columnFormsAt line cs) ≤ 16 → Columned text tables₀ tables k c (map columnMeant (columnFormsAt line cs)) (map columnMeant (columnFormsAt line j)) (map (λ x. 0) (columnFormsAt line cs)) (map (λ x. 0) (columnFormsAt line j)))
+    × (LineAt text at line → k < 8 → length (column_forms_at line cs) ≤ 16 → Columned text tables₀ tables k c (map column_meant (column_forms_at line cs)) (map column_meant (column_forms_at line j)) (map (λ x. 0) (column_forms_at line cs)) (map (λ x. 0) (column_forms_at line j)))
 
 abbrev decreases-loop : tie.decreases-loop
 decreases-loop text tables₀ k at line cs c₀ j₀ tables c j = length line - j
 
 loop-holds : tie.Need-loop-init invariant-loop decreases-loop
-loop-holds c = (omega arith, λ l small few. columned-none _ _ _ _ _)
+loop-holds c = (omega arith, λ l small few. columned_none _ _ _ _ _)
 
 byte-at-requires : tie.Need-byte-at-requires invariant-loop decreases-loop
 byte-at-requires c κs = search rules
 
 add-skip-byte : tie.Need-overflow-add-skip-byte invariant-loop decreases-loop
-add-skip-byte c = omega (arith, (space-here c.before.before.before.before.before.args.line.now c.before.before.loop.j _ c.before.byte_at.ensures c.if1.true).1)
+add-skip-byte c = omega (arith, (space_here c.before.before.before.before.before.args.line.now c.before.before.loop.j _ c.before.byte_at.ensures c.if1.true).1)
 
 skip-byte-requires : tie.Need-skip-byte-requires invariant-loop decreases-loop
 skip-byte-requires c κs = search rules
@@ -57,7 +57,7 @@ skip-byte-requires-2 c κs = search rules
 add-c : tie.Need-overflow-add-c invariant-loop decreases-loop
 add-c c = omega (
   arith,
-  (space-here
+  (space_here
       c.before.before.before.before.before.before.before.before.before.before.before.before.before.args.line.now
       c.before.before.before.before.before.before.before.before.before.before.loop.j _
       c.before.before.before.before.before.before.before.before.before.byte_at.ensures
@@ -68,10 +68,10 @@ add-c c = omega (
 loop-less : tie.Need-loop-smaller invariant-loop decreases-loop
 loop-less c = let entry = c.before.before.before.before.before.before.before.before.before.before.before.before.before.args in omega (
   arith,
-  (space-here entry.line.now c.before.before.before.before.before.before.before.before.before.before.loop.j _
+  (space_here entry.line.now c.before.before.before.before.before.before.before.before.before.before.loop.j _
       c.before.before.before.before.before.before.before.before.before.byte_at.ensures
       c.before.before.before.before.before.before.before.before.if1.true).1,
-  pair-after entry.line.now
+  pair_after entry.line.now
       c.before.before.before.before.before.before.before.before.before.before.loop.j,
   pair_ends entry.line.now
       (c.before.before.before.before.before.before.before.before.before.before.loop.j + 1) _ _ _
@@ -82,7 +82,7 @@ loop-less c = let entry = c.before.before.before.before.before.before.before.bef
 
 loop-again : tie.Need-loop-preserved invariant-loop decreases-loop
 loop-again c =
-    let b = space-here c.before.before.before.before.before.before.before.before.before.before.before.before.before.args.line.now
+    let b = space_here c.before.before.before.before.before.before.before.before.before.before.before.before.before.args.line.now
     c.before.before.before.before.before.before.before.before.before.before.loop.j _
     c.before.before.before.before.before.before.before.before.before.byte_at.ensures
     c.before.before.before.before.before.before.before.before.if1.true in (
@@ -90,7 +90,7 @@ loop-again c =
         arith,
         b.1,
         c.before.before.before.before.before.before.before.before.before.before.loop.invariant.0,
-        pair-after
+        pair_after
             c.before.before.before.before.before.before.before.before.before.before.before.before.before.args.line.now
             c.before.before.before.before.before.before.before.before.before.before.loop.j,
         pair_ends
@@ -112,8 +112,8 @@ loop-again c =
 
 returns : tie.Need-returns invariant-loop decreases-loop
 returns c l small few =
-    let e = columns-stop c.before.before.before.before.before.args.line.now c.before.before.loop.j (λ e. c.if1.false (c.before.byte_at.ensures ∙ e)) in
-    columned-all (c.before.before.loop.invariant.1 l small few) (ap (map columnMeant) e) (ap (map (λ x. 0)) e)
+    let e = columns_stop c.before.before.before.before.before.args.line.now c.before.before.loop.j (λ e. c.if1.false (c.before.byte_at.ensures ∙ e)) in
+    columned_all (c.before.before.loop.invariant.1 l small few) (ap (map column_meant) e) (ap (map (λ x. 0)) e)
 
 pub store-columns-spec : {M : Type 1} → statement M
 store-columns-spec =

@@ -7,39 +7,39 @@ use mathlib.Core.List.{List, map}
 use mathlib.Core.Path.{◌∙◌, ap}
 use native.Mathlib.Omega.{arith}
 use Rattle.document.specs.Lookup.{label_of}
-use Rattle.document.specs.Meaning.{columnMeant}
+use Rattle.document.specs.Meaning.{column_meant}
 use Rattle.document.specs.Policy.{Policy}
-use Rattle.form.proofs.WalkSteps.{column-labels-stop, labelled-columns-stop, triple-after}
-use Rattle.form.specs.Walks.{columnLabelsAt, labelledColumnsAt}
+use Rattle.form.proofs.WalkSteps.{column_labels_stop, labelled_columns_stop, triple_after}
+use Rattle.form.specs.Walks.{column_labels_at, labelled_columns_at}
 use Rattle.relations.specs.Labels.{Labels}
 use Rattle.lists.specs.Lists.{or_zero}
-use Rattle.stepping.proofs.ColumnLaws.{Columned, columned-all, columned-none, labelled-turn, triple-ends}
+use Rattle.stepping.proofs.ColumnLaws.{Columned, columned_all, columned_none, labelled_turn, triple_ends}
 use Rattle.stepping.specs.Stored.{LineAt}
-use Rattle.text.proofs.Spaces.{space-here}
+use Rattle.text.proofs.Spaces.{space_here}
 use Rattle.text.specs.Walking.{past}
 use Rattle.tables.proofs.table_storing.store_labelled_columns.Statement.{statement}
 use Rattle.tables.proofs.table_storing.store_labelled_columns.Tie as tie
 
 abbrev invariant-loop : tie.invariant-loop
-invariant-loop text labels labels-count tables₀ k at line cs c₀ j₀ tables c j =
+invariant-loop text labels labels_count tables₀ k at line cs c₀ j₀ tables c j =
     (c ≤ j)
     × (length line < 2 ^ 64)
-    × ((d : Policy) (sets : List ℕ) → LineAt text at line → Labels text labels sets labels-count d.labels → k < 8 → length
-    (labelledColumnsAt line cs) ≤ 16 → Columned text tables₀ tables k c (map columnMeant (labelledColumnsAt line cs))
-    (map columnMeant (labelledColumnsAt line j)) (map (λ v. or_zero (label_of d v)) (columnLabelsAt line cs))
-    (map (λ v. or_zero (label_of d v)) (columnLabelsAt line j)))
+    × ((d : Policy) (sets : List ℕ) → LineAt text at line → Labels text labels sets labels_count d.labels → k < 8 → length
+    (labelled_columns_at line cs) ≤ 16 → Columned text tables₀ tables k c (map column_meant (labelled_columns_at line cs))
+    (map column_meant (labelled_columns_at line j)) (map (λ v. or_zero (label_of d v)) (column_labels_at line cs))
+    (map (λ v. or_zero (label_of d v)) (column_labels_at line j)))
 
 abbrev decreases-loop : tie.decreases-loop
-decreases-loop text labels labels-count tables₀ k at line cs c₀ j₀ tables c j = length line - j
+decreases-loop text labels labels_count tables₀ k at line cs c₀ j₀ tables c j = length line - j
 
 loop-holds : tie.Need-loop-init invariant-loop decreases-loop
-loop-holds c = (omega arith, omega arith, λ d sets l N small few. columned-none _ _ _ _ _)
+loop-holds c = (omega arith, omega arith, λ d sets l N small few. columned_none _ _ _ _ _)
 
 byte-at-requires : tie.Need-byte-at-requires invariant-loop decreases-loop
 byte-at-requires c κs = search rules
 
 add-skip-byte : tie.Need-overflow-add-skip-byte invariant-loop decreases-loop
-add-skip-byte c = omega (arith, (space-here c.before.before.before.before.before.args.line.now c.before.before.loop.j _ c.before.byte_at.ensures c.if1.true).1)
+add-skip-byte c = omega (arith, (space_here c.before.before.before.before.before.args.line.now c.before.before.loop.j _ c.before.byte_at.ensures c.if1.true).1)
 
 skip-byte-requires : tie.Need-skip-byte-requires invariant-loop decreases-loop
 skip-byte-requires c κs = search rules
@@ -72,18 +72,18 @@ skip-byte-requires-2 : tie.Need-skip-byte-requires-2 invariant-loop decreases-lo
 skip-byte-requires-2 c κs = search rules
 
 add-c : tie.Need-overflow-add-c invariant-loop decreases-loop
-add-c c = omega (arith, (space-here c.before.before.before.before.before.before.before.before.before.before.before.before.before.before.before.before.args.line.now c.before.before.before.before.before.before.before.before.before.before.before.before.before.loop.j _ c.before.before.before.before.before.before.before.before.before.before.before.before.byte_at.ensures c.before.before.before.before.before.before.before.before.before.before.before.if1.true).1, c.before.before.before.before.before.before.before.before.before.before.before.before.before.loop.invariant.0, c.before.before.before.before.before.before.before.before.before.before.before.before.before.loop.invariant.1)
+add-c c = omega (arith, (space_here c.before.before.before.before.before.before.before.before.before.before.before.before.before.before.before.before.args.line.now c.before.before.before.before.before.before.before.before.before.before.before.before.before.loop.j _ c.before.before.before.before.before.before.before.before.before.before.before.before.byte_at.ensures c.before.before.before.before.before.before.before.before.before.before.before.if1.true).1, c.before.before.before.before.before.before.before.before.before.before.before.before.before.loop.invariant.0, c.before.before.before.before.before.before.before.before.before.before.before.before.before.loop.invariant.1)
 
 loop-less : tie.Need-loop-smaller invariant-loop decreases-loop
 loop-less c = let entry = c.before.before.before.before.before.before.before.before.before.before.before.before.before.before.before.before.args in omega (
   arith,
-  (space-here entry.line.now
+  (space_here entry.line.now
       c.before.before.before.before.before.before.before.before.before.before.before.before.before.loop.j _
       c.before.before.before.before.before.before.before.before.before.before.before.before.byte_at.ensures
       c.before.before.before.before.before.before.before.before.before.before.before.if1.true).1,
-  triple-after entry.line.now
+  triple_after entry.line.now
       c.before.before.before.before.before.before.before.before.before.before.before.before.before.loop.j,
-  triple-ends
+  triple_ends
       entry.line.now (c.before.before.before.before.before.before.before.before.before.before.before.before.before.loop.j + 1) _ _ _
       c.before.before.before.before.before.before.before.before.before.before.skip-byte.ensures
       c.before.before.before.before.before.before.before.before.before.next_word.ensures _
@@ -94,7 +94,7 @@ loop-less c = let entry = c.before.before.before.before.before.before.before.bef
 loop-again : tie.Need-loop-preserved invariant-loop decreases-loop
 unfolding label_of
 loop-again c =
-    let b = space-here
+    let b = space_here
     c.before.before.before.before.before.before.before.before.before.before.before.before.before.before.before.before.args.line.now
     c.before.before.before.before.before.before.before.before.before.before.before.before.before.loop.j _
     c.before.before.before.before.before.before.before.before.before.before.before.before.byte_at.ensures
@@ -103,10 +103,10 @@ loop-again c =
         arith,
         b.1,
         c.before.before.before.before.before.before.before.before.before.before.before.before.before.loop.invariant.0,
-        triple-after
+        triple_after
             c.before.before.before.before.before.before.before.before.before.before.before.before.before.before.before.before.args.line.now
             c.before.before.before.before.before.before.before.before.before.before.before.before.before.loop.j,
-        triple-ends
+        triple_ends
             c.before.before.before.before.before.before.before.before.before.before.before.before.before.before.before.before.args.line.now
             (c.before.before.before.before.before.before.before.before.before.before.before.before.before.loop.j + 1) _ _ _
             c.before.before.before.before.before.before.before.before.before.before.skip-byte.ensures
@@ -115,7 +115,7 @@ loop-again c =
             (c.skip-byte2.ensures ∙ ap (past 41 c.before.before.before.before.before.before.before.before.before.before.before.before.before.before.before.before.args.line.now) c.before.word-end.ensures),
       ),
       c.before.before.before.before.before.before.before.before.before.before.before.before.before.loop.invariant.1,
-      λ d sets l N small few. labelled-turn l
+      λ d sets l N small few. labelled_turn l
           c.before.before.before.before.before.before.before.before.before.before.before.before.before.loop.j _ _ _ _ _ b.0 b.1
           c.before.before.before.before.before.before.before.before.before.before.skip-byte.ensures
           c.before.before.before.before.before.before.before.before.before.next_word.ensures
@@ -130,9 +130,9 @@ loop-again c =
 
 returns : tie.Need-returns invariant-loop decreases-loop
 returns c d sets l N small few =
-    columned-all (c.before.before.loop.invariant.2 d sets l N small few)
-    (ap (map columnMeant) (labelled-columns-stop c.before.before.before.before.before.args.line.now c.before.before.loop.j (λ e. c.if1.false (c.before.byte_at.ensures ∙ e))))
-    (ap (map (λ v. or_zero (label_of d v))) (column-labels-stop c.before.before.before.before.before.args.line.now c.before.before.loop.j (λ e. c.if1.false (c.before.byte_at.ensures ∙ e))))
+    columned_all (c.before.before.loop.invariant.2 d sets l N small few)
+    (ap (map column_meant) (labelled_columns_stop c.before.before.before.before.before.args.line.now c.before.before.loop.j (λ e. c.if1.false (c.before.byte_at.ensures ∙ e))))
+    (ap (map (λ v. or_zero (label_of d v))) (column_labels_stop c.before.before.before.before.before.args.line.now c.before.before.loop.j (λ e. c.if1.false (c.before.byte_at.ensures ∙ e))))
 
 pub store-labelled-columns-spec : {M : Type 1} → statement M
 store-labelled-columns-spec =

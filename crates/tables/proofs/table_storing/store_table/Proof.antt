@@ -2,7 +2,7 @@
 use mathlib.Core.Path.{◌∙◌, ap, sym}
 use Rattle.document.specs.Lookup.{label_of}
 use Rattle.lists.specs.Lists.{or_zero}
-use Rattle.tables.proofs.TableStored.{labelled-columns, labelled-scheme, plain-columns, plain-scheme, table-stored}
+use Rattle.tables.proofs.TableStored.{labelled_columns_lem, labelled_scheme, plain_columns_lem, plain_scheme, table_stored}
 use borrow.Author.Rules.{rules}
 use Rattle.tables.proofs.table_storing.store_table.Statement.{statement}
 use Rattle.tables.proofs.table_storing.store_table.Tie as tie
@@ -29,9 +29,9 @@ returns : tie.Need-returns
 unfolding label_of
 returns c d sets l L N ok h =
     let a = c.before.before.before.before.before.before.before.before.before.before.before.args in
-    table-stored l d a.t _ h c.before.before.before.before.before.before.place.ensures a.scheme a.l a.cs _ _ _ N ok
-    (labelled-columns (λ w. or_zero (label_of d.policy w)) a.line.now a.l a.cs a.scheme (sym c.before.before.before.before.before.labels-columns.ensures ∙ c.before.before.before.before.if1.true))
-    (labelled-scheme (λ w. or_zero (label_of d.policy w)) a.line.now a.l a.cs a.scheme _ (sym c.before.before.before.before.before.labels-columns.ensures ∙ c.before.before.before.before.if1.true))
+    table_stored l d a.t _ h c.before.before.before.before.before.before.place.ensures a.scheme a.l a.cs _ _ _ N ok
+    (labelled_columns_lem (λ w. or_zero (label_of d.policy w)) a.line.now a.l a.cs a.scheme (sym c.before.before.before.before.before.labels-columns.ensures ∙ c.before.before.before.before.if1.true))
+    (labelled_scheme (λ w. or_zero (label_of d.policy w)) a.line.now a.l a.cs a.scheme _ (sym c.before.before.before.before.before.labels-columns.ensures ∙ c.before.before.before.before.if1.true))
     (λ small few. c.before.before.store-labelled-columns.ensures d.policy sets l L small few)
     c.add-table.ensures
 
@@ -45,9 +45,9 @@ returns-2 : tie.Need-returns-2
 unfolding label_of
 returns-2 c d sets l L N ok h =
     let a = c.before.before.before.before.before.before.before.before.before.before.before.args in
-    table-stored l d a.t _ h c.before.before.before.before.before.before.place.ensures a.scheme a.l a.cs _ _ _ N ok
-    (plain-columns (λ w. or_zero (label_of d.policy w)) a.line.now a.l a.cs a.scheme (sym c.before.before.before.before.before.labels-columns.ensures ∙ c.before.before.before.before.if1.false))
-    (plain-scheme (λ w. or_zero (label_of d.policy w)) a.line.now a.l a.cs a.scheme _ _
+    table_stored l d a.t _ h c.before.before.before.before.before.before.place.ensures a.scheme a.l a.cs _ _ _ N ok
+    (plain_columns_lem (λ w. or_zero (label_of d.policy w)) a.line.now a.l a.cs a.scheme (sym c.before.before.before.before.before.labels-columns.ensures ∙ c.before.before.before.before.if1.false))
+    (plain_scheme (λ w. or_zero (label_of d.policy w)) a.line.now a.l a.cs a.scheme _ _
     (c.before.before.before.before.before.before.before.number.ensures ∙ ap or_zero (c.before.before.before.before.before.before.before.before.find-label.ensures.0 sets _ L))
     (sym c.before.before.before.before.before.labels-columns.ensures ∙ c.before.before.before.before.if1.false))
     (λ small few. c.before.before.store-columns.ensures l small few)

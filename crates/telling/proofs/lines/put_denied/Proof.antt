@@ -1,6 +1,6 @@
 -- `telling::lines::put_denied` meets its contract: three parts, one behind the other. Assumes nothing.
-use Rattle.answer.specs.Why.{reasonText}
-use Rattle.reasons.specs.Explaining.{reasonOf}
+use Rattle.answer.specs.Why.{reason_text}
+use Rattle.reasons.specs.Explaining.{reason_of}
 use Rattle.writing.proofs.Writing.{both}
 use borrow.Author.Rules.{rules}
 use Rattle.telling.proofs.lines.put_denied.Statement.{statement}
@@ -25,7 +25,7 @@ same_length : tie.Need-same-length
 same_length c = search rules
 
 returns : tie.Need-returns
-unfolding reasonText reasonOf
+unfolding reason_text reason_of
 returns c = both (both c.before.before.before.before.before.before.before.before.before.before.before.put-bytes.ensures c.before.before.before.before.before.before.before.put_word.ensures) c.before.before.put-bytes2.ensures
 
 pub put-denied-spec : {M : Type 1} → statement M

@@ -1,6 +1,6 @@
 -- `telling::lines::put_reason` meets its contract: each reason has its line. Assumes nothing.
-use Rattle.answer.specs.Why.{reasonText}
-use Rattle.reasons.specs.Explaining.{reasonOf}
+use Rattle.answer.specs.Why.{reason_text}
+use Rattle.reasons.specs.Explaining.{reason_of}
 use Rattle.reasons.specs.declared.explained.Cause.{Cause}
 use Rattle.telling.proofs.TellLaws.{wrote_as}
 use borrow.Author.Rules.{rules}
@@ -45,37 +45,37 @@ same_length : tie.Need-same-length
 same_length c = search rules
 
 returns : tie.Need-returns
-unfolding reasonText reasonOf
+unfolding reason_text reason_of
 returns c =
     let a = c.before.before.before.before.before.before.before.before.before.args in
-    wrote_as (ap (λ (y : Cause). reasonText (reasonOf a.text.now y)) (sym c.before.before.before.before.before.enum_told.given.1)) c.before.before.put-bytes.ensures
+    wrote_as (ap (λ (y : Cause). reason_text (reason_of a.text.now y)) (sym c.before.before.before.before.before.enum_told.given.1)) c.before.before.put-bytes.ensures
 
 same-length-2 : tie.Need-same-length-2
 same-length-2 c = search rules
 
 returns-2 : tie.Need-returns-2
-unfolding reasonText reasonOf
+unfolding reason_text reason_of
 returns-2 c =
     let a = c.before.before.before.before.before.before.before.before.before.args in
-    wrote_as (ap (λ (y : Cause). reasonText (reasonOf a.text.now y)) (sym c.before.before.before.before.before.x.given.1)) c.before.before.put-denied.ensures
+    wrote_as (ap (λ (y : Cause). reason_text (reason_of a.text.now y)) (sym c.before.before.before.before.before.x.given.1)) c.before.before.put-denied.ensures
 
 same-length-3 : tie.Need-same-length-3
 same-length-3 c = search rules
 
 returns-3 : tie.Need-returns-3
-unfolding reasonText reasonOf
+unfolding reason_text reason_of
 returns-3 c =
     let a = c.before.before.before.before.before.before.before.before.before.args in
-    wrote_as (ap (λ (y : Cause). reasonText (reasonOf a.text.now y)) (sym c.before.before.before.before.before.enum-told2.given.1)) c.before.before.put-bytes2.ensures
+    wrote_as (ap (λ (y : Cause). reason_text (reason_of a.text.now y)) (sym c.before.before.before.before.before.enum-told2.given.1)) c.before.before.put-bytes2.ensures
 
 same-length-4 : tie.Need-same-length-4
 same-length-4 c = search rules
 
 returns-4 : tie.Need-returns-4
-unfolding reasonText reasonOf
+unfolding reason_text reason_of
 returns-4 c =
     let a = c.before.before.before.before.before.before.before.before.before.args in
-    wrote_as (ap (λ (y : Cause). reasonText (reasonOf a.text.now y)) (sym c.before.before.before.before.before.enum-told3.given.1)) c.before.before.put-bytes3.ensures
+    wrote_as (ap (λ (y : Cause). reason_text (reason_of a.text.now y)) (sym c.before.before.before.before.before.enum-told3.given.1)) c.before.before.put-bytes3.ensures
 
 pub put-reason-spec : {M : Type 1} → statement M
 put-reason-spec =

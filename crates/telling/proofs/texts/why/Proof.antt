@@ -1,5 +1,5 @@
 -- `telling::texts::why` meets its contract: the document's refusal, or what the line finds, told. Assumes nothing.
-use Rattle.telling.proofs.TextLaws.{document-refused, line-told, loaded-known}
+use Rattle.telling.proofs.TextLaws.{document_refused, line_told, loaded_known}
 use borrow.Author.Rules.{rules}
 use Rattle.telling.proofs.texts.why.Statement.{statement}
 use Rattle.telling.proofs.texts.why.Tie as tie
@@ -20,7 +20,7 @@ tell-requires : tie.Need-tell-requires
 tell-requires c κs = search rules
 
 returns : tie.Need-returns
-returns c = let entry = c.before.before.before.before.before.before.before.before.before.before.before.before.before.before.before.before.args in document-refused
+returns c = let entry = c.before.before.before.before.before.before.before.before.before.before.before.before.before.before.before.before.args in document_refused
     entry.doc.now entry.line.now c.before.r.given.0.0 (c.before.before.before.load.ensures.refuses _ c.before.r.given.1)
     entry.out.now
 
@@ -28,7 +28,7 @@ returns-2 : tie.Need-returns-2
 returns-2 c =
     let a = c.before.before.before.before.before.before.before.before.before.before.before.before.before.before.before.before.before.before.before.before.before.before.before.before.args in
     let h = c.before.before.before.before.before.before.before.before.before.before.before.load.ensures.accepts _ _ c.before.before.before.before.before.before.before.before.before.r2.given.1 in
-    line-told a.doc.now a.line.now a.out.now _ _ _ h.is _ (c.before.before.explain-line.ensures h.what (loaded-known h)) c.tell.ensures
+    line_told a.doc.now a.line.now a.out.now _ _ _ h.is _ (c.before.before.explain-line.ensures h.what (loaded_known h)) c.tell.ensures
 
 pub why-spec : {M : Type 1} → statement M
 why-spec =

@@ -3,10 +3,10 @@ use Prim.Native.Nat.{◌+◌, ◌<◌}
 use lib.ListN.{get_or, length}
 use mathlib.Core.Path.{◌∙◌, ◌≡◌, ap, sym}
 use native.Mathlib.Omega.{arith}
-use Rattle.text.proofs.CodeLaws.{number-none, number-to}
-use Rattle.text.proofs.Lefts.{before-end}
-use Rattle.text.proofs.RangeLaws.{range-no-high, range-no-low, range-read, range-unclosed, range-unopened, range-unspaced}
-use Rattle.text.specs.CodeEnds.{endOfRange}
+use Rattle.text.proofs.CodeLaws.{number_none, number_to}
+use Rattle.text.proofs.Lefts.{before_end}
+use Rattle.text.proofs.RangeLaws.{range_no_high, range_no_low, range_read, range_unclosed, range_unopened, range_unspaced}
+use Rattle.text.specs.CodeEnds.{end_of_range}
 use borrow.Author.Rules.{rules}
 use Rattle.text.proofs.amounts.read_range.Statement.{statement}
 use Rattle.text.proofs.amounts.read_range.Tie as tie
@@ -18,14 +18,14 @@ returns : tie.Need-returns
 returns c =
     let s = c.before.before.before.args.s.now in
     let at = c.before.before.before.args.at in
-    sym (ap endOfRange (range-unopened s at (λ z. c.if1.true (c.before.byte_at.ensures ∙ z))))
+    sym (ap end_of_range (range_unopened s at (λ z. c.if1.true (c.before.byte_at.ensures ∙ z))))
 
 add-read-number : tie.Need-overflow-add-read-number
 add-read-number c =
     let s = c.before.before.before.args.s.now in
     let at = c.before.before.before.args.at in
     let a : get_or c.before.before.before.args.s.now c.before.before.before.args.at 0 ≡ 40 = sym c.before.byte_at.ensures ∙ c.if1.false in
-    omega (arith, before-end s at (λ z. absurd (omega (arith, a, z))))
+    omega (arith, before_end s at (λ z. absurd (omega (arith, a, z))))
 
 read-number-requires : tie.Need-read-number-requires
 read-number-requires c κs = search rules
@@ -41,7 +41,7 @@ returns-2 c =
     let s = c.before.before.before.before.before.before.args.s.now in
     let at = c.before.before.before.before.before.before.args.at in
     let a : get_or c.before.before.before.before.before.before.args.s.now c.before.before.before.before.before.before.args.at 0 ≡ 40 = sym c.before.before.before.before.byte_at.ensures ∙ c.before.before.before.if1.false in
-    sym (ap endOfRange (range-no-low s at a (number-none s (at + 1) (sym c.before.before.read_number.ensures ∙ c.enum_told.given.1))))
+    sym (ap end_of_range (range_no_low s at a (number_none s (at + 1) (sym c.before.before.read_number.ensures ∙ c.enum_told.given.1))))
 
 byte-at-requires-2 : tie.Need-byte-at-requires-2
 byte-at-requires-2 c κs = search rules
@@ -51,15 +51,15 @@ returns-3 c =
     let s = c.before.before.before.before.before.before.before.before.before.args.s.now in
     let at = c.before.before.before.before.before.before.before.before.before.args.at in
     let a : get_or c.before.before.before.before.before.before.before.before.before.args.s.now c.before.before.before.before.before.before.before.before.before.args.at 0 ≡ 40 = sym c.before.before.before.before.before.before.before.byte_at.ensures ∙ c.before.before.before.before.before.before.if1.false in
-    let b = number-to s (at + 1) c.before.before.before.l.given.0.0 c.before.before.before.l.given.0.1.0 (sym c.before.before.before.before.before.read_number.ensures ∙ c.before.before.before.l.given.1) in
-    sym (ap endOfRange (range-unspaced s at a b (λ z. c.if2.true (c.before.byte-at2.ensures ∙ z))))
+    let b = number_to s (at + 1) c.before.before.before.l.given.0.0 c.before.before.before.l.given.0.1.0 (sym c.before.before.before.before.before.read_number.ensures ∙ c.before.before.before.l.given.1) in
+    sym (ap end_of_range (range_unspaced s at a b (λ z. c.if2.true (c.before.byte-at2.ensures ∙ z))))
 
 add-read-number-2 : tie.Need-overflow-add-read-number-2
 add-read-number-2 c =
     let s = c.before.before.before.before.before.before.before.before.before.args.s.now in
     let at = c.before.before.before.before.before.before.before.before.before.args.at in
     let d : get_or c.before.before.before.before.before.before.before.before.before.args.s.now c.before.before.before.l.given.0.0 0 ≡ 32 = sym c.before.byte-at2.ensures ∙ c.if2.false in
-    omega (arith, before-end s c.before.before.before.l.given.0.0 (λ z. absurd (omega (arith, d, z))))
+    omega (arith, before_end s c.before.before.before.l.given.0.0 (λ z. absurd (omega (arith, d, z))))
 
 read-number-requires-2 : tie.Need-read-number-requires-2
 read-number-requires-2 c κs = search rules
@@ -75,9 +75,9 @@ returns-4 c =
     let s = c.before.before.before.before.before.before.before.before.before.before.before.before.args.s.now in
     let at = c.before.before.before.before.before.before.before.before.before.before.before.before.args.at in
     let a : get_or c.before.before.before.before.before.before.before.before.before.before.before.before.args.s.now c.before.before.before.before.before.before.before.before.before.before.before.before.args.at 0 ≡ 40 = sym c.before.before.before.before.before.before.before.before.before.before.byte_at.ensures ∙ c.before.before.before.before.before.before.before.before.before.if1.false in
-    let b = number-to s (at + 1) c.before.before.before.before.before.before.l.given.0.0 c.before.before.before.before.before.before.l.given.0.1.0 (sym c.before.before.before.before.before.before.before.before.read_number.ensures ∙ c.before.before.before.before.before.before.l.given.1) in
+    let b = number_to s (at + 1) c.before.before.before.before.before.before.l.given.0.0 c.before.before.before.before.before.before.l.given.0.1.0 (sym c.before.before.before.before.before.before.before.before.read_number.ensures ∙ c.before.before.before.before.before.before.l.given.1) in
     let d : get_or c.before.before.before.before.before.before.before.before.before.before.before.before.args.s.now c.before.before.before.before.before.before.l.given.0.0 0 ≡ 32 = sym c.before.before.before.before.byte-at2.ensures ∙ c.before.before.before.if2.false in
-    sym (ap endOfRange (range-no-high s at a b d (number-none s (c.before.before.before.before.before.before.l.given.0.0 + 1) (sym c.before.before.read-number2.ensures ∙ c.enum-told2.given.1))))
+    sym (ap end_of_range (range_no_high s at a b d (number_none s (c.before.before.before.before.before.before.l.given.0.0 + 1) (sym c.before.before.read-number2.ensures ∙ c.enum-told2.given.1))))
 
 byte-at-requires-3 : tie.Need-byte-at-requires-3
 byte-at-requires-3 c κs = search rules
@@ -87,28 +87,28 @@ returns-5 c =
     let s = c.before.before.before.before.before.before.before.before.before.before.before.before.before.before.before.args.s.now in
     let at = c.before.before.before.before.before.before.before.before.before.before.before.before.before.before.before.args.at in
     let a : get_or c.before.before.before.before.before.before.before.before.before.before.before.before.before.before.before.args.s.now c.before.before.before.before.before.before.before.before.before.before.before.before.before.before.before.args.at 0 ≡ 40 = sym c.before.before.before.before.before.before.before.before.before.before.before.before.before.byte_at.ensures ∙ c.before.before.before.before.before.before.before.before.before.before.before.before.if1.false in
-    let b = number-to s (at + 1) c.before.before.before.before.before.before.before.before.before.l.given.0.0 c.before.before.before.before.before.before.before.before.before.l.given.0.1.0 (sym c.before.before.before.before.before.before.before.before.before.before.before.read_number.ensures ∙ c.before.before.before.before.before.before.before.before.before.l.given.1) in
+    let b = number_to s (at + 1) c.before.before.before.before.before.before.before.before.before.l.given.0.0 c.before.before.before.before.before.before.before.before.before.l.given.0.1.0 (sym c.before.before.before.before.before.before.before.before.before.before.before.read_number.ensures ∙ c.before.before.before.before.before.before.before.before.before.l.given.1) in
     let d : get_or c.before.before.before.before.before.before.before.before.before.before.before.before.before.before.before.args.s.now c.before.before.before.before.before.before.before.before.before.l.given.0.0 0 ≡ 32 = sym c.before.before.before.before.before.before.before.byte-at2.ensures ∙ c.before.before.before.before.before.before.if2.false in
-    let e = number-to s (c.before.before.before.before.before.before.before.before.before.l.given.0.0 + 1) c.before.before.before.h.given.0.0 c.before.before.before.h.given.0.1.0 (sym c.before.before.before.before.before.read-number2.ensures ∙ c.before.before.before.h.given.1) in
-    sym (ap endOfRange (range-unclosed s at a b d e (λ z. c.if3.true (c.before.byte-at3.ensures ∙ z))))
+    let e = number_to s (c.before.before.before.before.before.before.before.before.before.l.given.0.0 + 1) c.before.before.before.h.given.0.0 c.before.before.before.h.given.0.1.0 (sym c.before.before.before.before.before.read-number2.ensures ∙ c.before.before.before.h.given.1) in
+    sym (ap end_of_range (range_unclosed s at a b d e (λ z. c.if3.true (c.before.byte-at3.ensures ∙ z))))
 
 add-t11 : tie.Need-overflow-add-t11
 add-t11 c =
     let s = c.before.before.before.before.before.before.before.before.before.before.before.before.before.before.before.args.s.now in
     let at = c.before.before.before.before.before.before.before.before.before.before.before.before.before.before.before.args.at in
     let g : get_or c.before.before.before.before.before.before.before.before.before.before.before.before.before.before.before.args.s.now c.before.before.before.h.given.0.0 0 ≡ 41 = sym c.before.byte-at3.ensures ∙ c.if3.false in
-    omega (arith, before-end s c.before.before.before.h.given.0.0 (λ z. absurd (omega (arith, g, z))))
+    omega (arith, before_end s c.before.before.before.h.given.0.0 (λ z. absurd (omega (arith, g, z))))
 
 returns-6 : tie.Need-returns-6
 returns-6 c =
     let s = c.before.before.before.before.before.before.before.before.before.before.before.before.before.before.before.args.s.now in
     let at = c.before.before.before.before.before.before.before.before.before.before.before.before.before.before.before.args.at in
     let a : get_or c.before.before.before.before.before.before.before.before.before.before.before.before.before.before.before.args.s.now c.before.before.before.before.before.before.before.before.before.before.before.before.before.before.before.args.at 0 ≡ 40 = sym c.before.before.before.before.before.before.before.before.before.before.before.before.before.byte_at.ensures ∙ c.before.before.before.before.before.before.before.before.before.before.before.before.if1.false in
-    let b = number-to s (at + 1) c.before.before.before.before.before.before.before.before.before.l.given.0.0 c.before.before.before.before.before.before.before.before.before.l.given.0.1.0 (sym c.before.before.before.before.before.before.before.before.before.before.before.read_number.ensures ∙ c.before.before.before.before.before.before.before.before.before.l.given.1) in
+    let b = number_to s (at + 1) c.before.before.before.before.before.before.before.before.before.l.given.0.0 c.before.before.before.before.before.before.before.before.before.l.given.0.1.0 (sym c.before.before.before.before.before.before.before.before.before.before.before.read_number.ensures ∙ c.before.before.before.before.before.before.before.before.before.l.given.1) in
     let d : get_or c.before.before.before.before.before.before.before.before.before.before.before.before.before.before.before.args.s.now c.before.before.before.before.before.before.before.before.before.l.given.0.0 0 ≡ 32 = sym c.before.before.before.before.before.before.before.byte-at2.ensures ∙ c.before.before.before.before.before.before.if2.false in
-    let e = number-to s (c.before.before.before.before.before.before.before.before.before.l.given.0.0 + 1) c.before.before.before.h.given.0.0 c.before.before.before.h.given.0.1.0 (sym c.before.before.before.before.before.read-number2.ensures ∙ c.before.before.before.h.given.1) in
+    let e = number_to s (c.before.before.before.before.before.before.before.before.before.l.given.0.0 + 1) c.before.before.before.h.given.0.0 c.before.before.before.h.given.0.1.0 (sym c.before.before.before.before.before.read-number2.ensures ∙ c.before.before.before.h.given.1) in
     let g : get_or c.before.before.before.before.before.before.before.before.before.before.before.before.before.before.before.args.s.now c.before.before.before.h.given.0.0 0 ≡ 41 = sym c.before.byte-at3.ensures ∙ c.if3.false in
-    sym (ap endOfRange (range-read s at a b d e g))
+    sym (ap end_of_range (range_read s at a b d e g))
 
 pub read-range-spec : {M : Type 1} → statement M
 read-range-spec =

@@ -3,7 +3,7 @@
 use Prim.Native.Nat.{◌-◌, ℕ}
 use lib.ListN.{length}
 use native.Mathlib.Omega.{arith}
-use Rattle.text.proofs.LineLaws.{ends-here, ends_last, ends-later}
+use Rattle.text.proofs.LineLaws.{ends_here, ends_last, ends_later}
 use Rattle.text.specs.Lines.{LineEnd}
 use Rattle.text.proofs.lines.line_end.Statement.{statement}
 use Rattle.text.proofs.lines.line_end.Tie as tie
@@ -21,7 +21,7 @@ shared-slice-read-if1 : tie.Need-shared-slice-read-if1 invariant-loop decreases-
 shared-slice-read-if1 c = omega arith
 
 returns : tie.Need-returns invariant-loop decreases-loop
-returns c = c.before.before.before.loop.invariant c.before.before.before.loop.i (ends-here c.before.before.before.before.args.s.now c.before.before.before.loop.i c.before.before.loop-test.true c.if1.true)
+returns c = c.before.before.before.loop.invariant c.before.before.before.loop.i (ends_here c.before.before.before.before.args.s.now c.before.before.before.loop.i c.before.before.loop-test.true c.if1.true)
 
 add-i : tie.Need-overflow-add-i invariant-loop decreases-loop
 add-i c = omega arith
@@ -30,7 +30,7 @@ loop-less : tie.Need-loop-smaller invariant-loop decreases-loop
 loop-less c = omega arith
 
 loop-again : tie.Need-loop-preserved invariant-loop decreases-loop
-loop-again c = λ e h. c.before.before.before.loop.invariant e (ends-later c.before.before.before.before.args.s.now c.before.before.before.loop.i e c.before.before.loop-test.true c.if1.false h)
+loop-again c = λ e h. c.before.before.before.loop.invariant e (ends_later c.before.before.before.before.args.s.now c.before.before.before.loop.i e c.before.before.loop-test.true c.if1.false h)
 
 returns-2 : tie.Need-returns-2 invariant-loop decreases-loop
 returns-2 c = c.before.loop.invariant c.before.loop.i (ends_last c.before.before.args.s.now c.before.loop.i c.loop-test.false)

@@ -2,7 +2,7 @@
 -- Assumes nothing.
 use borrow.Author.Rules.{rules}
 use mathlib.Core.Path.{◌∙◌, sym}
-use Rattle.text.proofs.CodeLaws.{ended_at, ended-nothing}
+use Rattle.text.proofs.CodeLaws.{ended_at_lem, ended_nothing}
 use Rattle.text.proofs.numbers.magnitude_at.Statement.{statement}
 use Rattle.text.proofs.numbers.magnitude_at.Tie as tie
 
@@ -16,10 +16,10 @@ enum_told : tie.Need-enum-told
 enum_told c = search rules
 
 returns : tie.Need-returns
-returns c = sym (ended_at _ _ (sym c.before.before.before.read-magnitude.ensures ∙ c.before.m.given.1)).1
+returns c = sym (ended_at_lem _ _ (sym c.before.before.before.read-magnitude.ensures ∙ c.before.m.given.1)).1
 
 returns-2 : tie.Need-returns-2
-returns-2 c = sym (ended-nothing _ _ (sym c.before.before.read-magnitude.ensures ∙ c.enum_told.given.1))
+returns-2 c = sym (ended_nothing _ _ (sym c.before.before.read-magnitude.ensures ∙ c.enum_told.given.1))
 
 pub magnitude-at-spec : {M : Type 1} → statement M
 magnitude-at-spec =

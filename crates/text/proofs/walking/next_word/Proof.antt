@@ -3,7 +3,7 @@
 use Prim.Native.Nat.{ℕ}
 use borrow.Author.Rules.{rules}
 use mathlib.Core.Path.{◌∙◌, ap}
-use Rattle.text.specs.Walking.{nextWord, past, wordEndAt}
+use Rattle.text.specs.Walking.{next_word, past, word_end_at}
 use Rattle.text.proofs.walking.next_word.Statement.{statement}
 use Rattle.text.proofs.walking.next_word.Tie as tie
 
@@ -14,7 +14,7 @@ skip-byte-requires : tie.Need-skip-byte-requires
 skip-byte-requires c κs = search rules
 
 returns : tie.Need-returns
-unfolding nextWord wordEndAt
+unfolding next_word word_end_at
 returns c = c.skip-byte.ensures ∙ ap (past 32 c.before.before.before.args.s.now) c.before.word-end.ensures
 
 pub next-word-spec : {M : Type 1} → statement M

@@ -9,15 +9,15 @@ use mathlib.Core.Path.{◌∙◌, ◌≡◌, ap, refl, sym}
 use native.Mathlib.Omega.{arith}
 use Rattle.text.proofs.Lefts.{test_of}
 use Rattle.lists.proofs.Tests.{not-false}
-use Rattle.text.proofs.WordLaws.{is-differ, is-done, is-more, is-short, name-byte-here}
-use Rattle.text.specs.Bytes.{isNameByte}
-use Rattle.text.specs.Names.{sameByte, sameName}
+use Rattle.text.proofs.WordLaws.{is_differ, is_done, is_more, is_short, name_byte_here}
+use Rattle.text.specs.Bytes.{is_name_byte}
+use Rattle.text.specs.Names.{same_byte, same_name}
 use Rattle.text.specs.Words.{word_at}
 use Rattle.text.proofs.words.is_word.Statement.{statement}
 use Rattle.text.proofs.words.is_word.Tie as tie
 
 abbrev invariant-loop : tie.invariant-loop
-invariant-loop s at w x₀ k₀ x k = sameName (word_at s x) (drop k w) ≡ sameName (word_at s at) w
+invariant-loop s at w x₀ k₀ x k = same_name (word_at s x) (drop k w) ≡ same_name (word_at s at) w
 
 abbrev decreases-loop : tie.decreases-loop
 decreases-loop s at w x₀ k₀ x k = length w - k
@@ -37,8 +37,8 @@ returns c =
     let w = c.before.before.before.before.before.before.before.args.w.now in
     let x = c.before.before.before.before.loop.x in
     let k = c.before.before.before.before.loop.k in
-    let h : isNameByte (get_or s x 0) ≡ false = test_of isNameByte c.before.before.byte_at.ensures c.before.is-name-byte.ensures (not-true c.before.is-name-byte.result c.if1.true) in
-    sym (is-short s x w k (omega arith) h) ∙ c.before.before.before.before.loop.invariant
+    let h : is_name_byte (get_or s x 0) ≡ false = test_of is_name_byte c.before.before.byte_at.ensures c.before.is-name-byte.ensures (not-true c.before.is-name-byte.result c.if1.true) in
+    sym (is_short s x w k (omega arith) h) ∙ c.before.before.before.before.loop.invariant
 
 byte-at-requires-2 : tie.Need-byte-at-requires-2 invariant-loop decreases-loop
 byte-at-requires-2 c κs = search rules
@@ -55,9 +55,9 @@ returns-2 c =
     let w = c.before.before.before.before.before.before.before.before.before.before.before.args.w.now in
     let x = c.before.before.before.before.before.before.before.before.loop.x in
     let k = c.before.before.before.before.before.before.before.before.loop.k in
-    let h : isNameByte (get_or s x 0) ≡ true = test_of isNameByte c.before.before.before.before.before.before.byte_at.ensures c.before.before.before.before.before.is-name-byte.ensures (not-false c.before.before.before.before.before.is-name-byte.result c.before.before.before.before.if1.false) in
-    let e : sameByte (get_or s x 0) (get_or w k 0) ≡ false = sym (c.before.same_byte.ensures ∙ ap (λ (b : ℕ). sameByte b (get_or w k 0)) c.before.before.before.byte-at2.ensures) ∙ (not-true c.before.same_byte.result c.if2.true) in
-    sym (is-differ s x w k (omega arith) h e) ∙ c.before.before.before.before.before.before.before.before.loop.invariant
+    let h : is_name_byte (get_or s x 0) ≡ true = test_of is_name_byte c.before.before.before.before.before.before.byte_at.ensures c.before.before.before.before.before.is-name-byte.ensures (not-false c.before.before.before.before.before.is-name-byte.result c.before.before.before.before.if1.false) in
+    let e : same_byte (get_or s x 0) (get_or w k 0) ≡ false = sym (c.before.same_byte.ensures ∙ ap (λ (b : ℕ). same_byte b (get_or w k 0)) c.before.before.before.byte-at2.ensures) ∙ (not-true c.before.same_byte.result c.if2.true) in
+    sym (is_differ s x w k (omega arith) h e) ∙ c.before.before.before.before.before.before.before.before.loop.invariant
 
 -- in a turn, both go on, with the same byte
 turn : (c : tie.Else2 invariant-loop decreases-loop) →
@@ -65,15 +65,15 @@ turn : (c : tie.Else2 invariant-loop decreases-loop) →
     let w = c.before.before.before.before.before.before.before.before.before.before.before.args.w.now in
     let x = c.before.before.before.before.before.before.before.before.loop.x in
     let k = c.before.before.before.before.before.before.before.before.loop.k in
-    (x < length s) × (sameName (word_at s x) (drop k w) ≡ sameName (word_at s (x + 1)) (drop (k + 1) w))
+    (x < length s) × (same_name (word_at s x) (drop k w) ≡ same_name (word_at s (x + 1)) (drop (k + 1) w))
 turn c =
     let s = c.before.before.before.before.before.before.before.before.before.before.before.args.s.now in
     let w = c.before.before.before.before.before.before.before.before.before.before.before.args.w.now in
     let x = c.before.before.before.before.before.before.before.before.loop.x in
     let k = c.before.before.before.before.before.before.before.before.loop.k in
-    let h : isNameByte (get_or s x 0) ≡ true = test_of isNameByte c.before.before.before.before.before.before.byte_at.ensures c.before.before.before.before.before.is-name-byte.ensures (not-false c.before.before.before.before.before.is-name-byte.result c.before.before.before.before.if1.false) in
-    let e : sameByte (get_or s x 0) (get_or w k 0) ≡ true = sym (c.before.same_byte.ensures ∙ ap (λ (b : ℕ). sameByte b (get_or w k 0)) c.before.before.before.byte-at2.ensures) ∙ (not-false c.before.same_byte.result c.if2.false) in
-    (name-byte-here s x h, is-more s x w k (omega arith) h e)
+    let h : is_name_byte (get_or s x 0) ≡ true = test_of is_name_byte c.before.before.before.before.before.before.byte_at.ensures c.before.before.before.before.before.is-name-byte.ensures (not-false c.before.before.before.before.before.is-name-byte.result c.before.before.before.before.if1.false) in
+    let e : same_byte (get_or s x 0) (get_or w k 0) ≡ true = sym (c.before.same_byte.ensures ∙ ap (λ (b : ℕ). same_byte b (get_or w k 0)) c.before.before.before.byte-at2.ensures) ∙ (not-false c.before.same_byte.result c.if2.false) in
+    (name_byte_here s x h, is_more s x w k (omega arith) h e)
 
 add-x : tie.Need-overflow-add-x invariant-loop decreases-loop
 add-x c = omega (arith, (turn c).0)
@@ -99,8 +99,8 @@ returns-3 c =
     let w = c.before.before.before.before.before.before.args.w.now in
     let x = c.before.before.before.loop.x in
     let k = c.before.before.before.loop.k in
-    let h = sym (c.is-name-byte2.ensures ∙ ap isNameByte c.before.byte-at3.ensures) in
-    sym (is-done s x w k c.is-name-byte2.result (omega arith) h) ∙ c.before.before.before.loop.invariant
+    let h = sym (c.is-name-byte2.ensures ∙ ap is_name_byte c.before.byte-at3.ensures) in
+    sym (is_done s x w k c.is-name-byte2.result (omega arith) h) ∙ c.before.before.before.loop.invariant
 
 pub is-word-spec : {M : Type 1} → statement M
 is-word-spec =

@@ -6,9 +6,9 @@ use mathlib.Core.Bool.{false, true}
 use mathlib.Core.Path.{◌≡◌, ap}
 use native.Mathlib.Omega.{arith}
 use Rattle.text.proofs.Lefts.{test_of}
-use Rattle.text.proofs.WordLaws.{is_name, not-name-letter, not-name-long, word_read, word-refused}
-use Rattle.text.specs.Bytes.{isLetter}
-use Rattle.text.specs.Names.{isName}
+use Rattle.text.proofs.WordLaws.{is_name_lem, not_name_letter, not_name_long, word_read, word_refused}
+use Rattle.text.specs.Bytes.{is_letter}
+use Rattle.text.specs.Names.{is_name}
 use Rattle.text.specs.declared.words.End.TheVariants.{At}
 use Rattle.text.proofs.words.name_end.Statement.{statement}
 use Rattle.text.proofs.words.name_end.Tie as tie
@@ -29,24 +29,24 @@ returns : tie.Need-returns
 returns c =
     let s = c.before.before.before.before.before.before.args.s.now in
     let at = c.before.before.before.before.before.before.args.at in
-    let h : isLetter (get_or s at 0) ≡ true = test_of isLetter c.before.before.before.before.byte_at.ensures c.before.before.before.is-letter.ensures c.before.before.if1.true in
+    let h : is_letter (get_or s at 0) ≡ true = test_of is_letter c.before.before.before.before.byte_at.ensures c.before.before.before.is-letter.ensures c.before.before.if1.true in
     let e = c.before.word-end.ensures in
-    rw (word_read s at isName (is_name s at h (omega arith))) (ap At e)
+    rw (word_read s at is_name (is_name_lem s at h (omega arith))) (ap At e)
 
 returns-2 : tie.Need-returns-2
 returns-2 c =
     let s = c.before.before.before.before.before.before.args.s.now in
     let at = c.before.before.before.before.before.before.args.at in
-    let h : isLetter (get_or s at 0) ≡ true = test_of isLetter c.before.before.before.before.byte_at.ensures c.before.before.before.is-letter.ensures c.before.before.if1.true in
+    let h : is_letter (get_or s at 0) ≡ true = test_of is_letter c.before.before.before.before.byte_at.ensures c.before.before.before.is-letter.ensures c.before.before.if1.true in
     let e = c.before.word-end.ensures in
-    rw (word-refused s at isName (not-name-long s at h (omega arith)))
+    rw (word_refused s at is_name (not_name_long s at h (omega arith)))
 
 returns-3 : tie.Need-returns-3
 returns-3 c =
     let s = c.before.before.before.before.args.s.now in
     let at = c.before.before.before.before.args.at in
-    let h : isLetter (get_or s at 0) ≡ false = test_of isLetter c.before.before.byte_at.ensures c.before.is-letter.ensures c.if1.false in
-    rw (word-refused s at isName (not-name-letter s at h))
+    let h : is_letter (get_or s at 0) ≡ false = test_of is_letter c.before.before.byte_at.ensures c.before.is-letter.ensures c.if1.false in
+    rw (word_refused s at is_name (not_name_letter s at h))
 
 pub name-end-spec : {M : Type 1} → statement M
 name-end-spec =

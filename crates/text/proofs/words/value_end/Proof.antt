@@ -2,11 +2,11 @@
 -- Assumes nothing.
 use borrow.Author.Rules.{rules}
 use mathlib.Core.Path.{◌∙◌, ap, sym}
-use Rattle.text.proofs.ByteLaws.{name-value}
-use Rattle.text.proofs.CodeLaws.{number_at, number-nothing, word-at, word-nothing}
-use Rattle.text.proofs.NumberLaws.{value-neither, value-number}
-use Rattle.text.proofs.WordLaws.{word_read, word-refused}
-use Rattle.text.specs.Names.{isName}
+use Rattle.text.proofs.ByteLaws.{name_value}
+use Rattle.text.proofs.CodeLaws.{number_at, number_nothing, word_at_lem, word_nothing}
+use Rattle.text.proofs.NumberLaws.{value_neither, value_number}
+use Rattle.text.proofs.WordLaws.{word_read, word_refused}
+use Rattle.text.specs.Names.{is_name}
 use Rattle.text.specs.Numbers.{is_value}
 use Rattle.text.specs.Words.{word_at}
 use Rattle.text.specs.declared.words.End.TheVariants.{At}
@@ -35,23 +35,23 @@ returns : tie.Need-returns
 returns c =
     let s = c.before.before.before.before.before.args.s.now in
     let at = c.before.before.before.before.before.args.at in
-    let w = word-at s at isName c.before.n.given.0.0 (sym c.before.before.before.name-end.ensures ∙ c.before.n.given.1) in
-    rw (word_read s at is_value (name-value (word_at s at) w.0)) (ap At w.1)
+    let w = word_at_lem s at is_name c.before.n.given.0.0 (sym c.before.before.before.name-end.ensures ∙ c.before.n.given.1) in
+    rw (word_read s at is_value (name_value (word_at s at) w.0)) (ap At w.1)
 
 returns-2 : tie.Need-returns-2
 returns-2 c =
     let s = c.before.before.before.before.before.before.before.before.args.s.now in
     let at = c.before.before.before.before.before.before.before.before.args.at in
     let w = number_at s at _ _ (sym c.before.before.before.read_number.ensures ∙ c.before.k.given.1) in
-    rw (word_read s at is_value (value-number (word_at s at) _ w.0)) (ap At w.1)
+    rw (word_read s at is_value (value_number (word_at s at) _ w.0)) (ap At w.1)
 
 returns-3 : tie.Need-returns-3
 returns-3 c =
     let s = c.before.before.before.before.before.before.before.args.s.now in
     let at = c.before.before.before.before.before.before.before.args.at in
-    let n = word-nothing s at isName (sym c.before.before.before.before.before.name-end.ensures ∙ c.before.before.before.enum_told.given.1) in
-    let k = number-nothing s at (sym c.before.before.read_number.ensures ∙ c.enum-told2.given.1) in
-    rw (word-refused s at is_value (value-neither (word_at s at) n k))
+    let n = word_nothing s at is_name (sym c.before.before.before.before.before.name-end.ensures ∙ c.before.before.before.enum_told.given.1) in
+    let k = number_nothing s at (sym c.before.before.read_number.ensures ∙ c.enum-told2.given.1) in
+    rw (word_refused s at is_value (value_neither (word_at s at) n k))
 
 pub value-end-spec : {M : Type 1} → statement M
 value-end-spec =

@@ -8,8 +8,8 @@ use mathlib.Core.List.{◌∷◌}
 use mathlib.Core.Path.{◌≡◌, ap, refl}
 use native.Mathlib.Omega.{arith}
 use Rattle.text.proofs.Lefts.{test_of}
-use Rattle.text.proofs.WordLaws.{name-byte-here, word_more, word-stop}
-use Rattle.text.specs.Bytes.{isNameByte}
+use Rattle.text.proofs.WordLaws.{name_byte_here, word_more, word_stop}
+use Rattle.text.specs.Bytes.{is_name_byte}
 use Rattle.text.specs.Words.{word_at}
 use Rattle.text.proofs.words.word_end.Statement.{statement}
 use Rattle.text.proofs.words.word_end.Tie as tie
@@ -37,8 +37,8 @@ turn : (c : tie.Then1 invariant-loop decreases-loop) →
 turn c =
     let s = c.before.before.before.before.before.args.s.now in
     let i = c.before.before.before.loop.i in
-    let h : isNameByte (get_or s i 0) ≡ true = test_of isNameByte c.before.before.byte_at.ensures c.before.is-name-byte.ensures c.if1.true in
-    (name-byte-here s i h, word_more s i h)
+    let h : is_name_byte (get_or s i 0) ≡ true = test_of is_name_byte c.before.before.byte_at.ensures c.before.is-name-byte.ensures c.if1.true in
+    (name_byte_here s i h, word_more s i h)
 
 add-i : tie.Need-overflow-add-i invariant-loop decreases-loop
 add-i c = omega (arith, (turn c).0)
@@ -53,8 +53,8 @@ returns : tie.Need-returns invariant-loop decreases-loop
 returns c =
     let s = c.before.before.before.before.before.args.s.now in
     let i = c.before.before.before.loop.i in
-    let h : isNameByte (get_or s i 0) ≡ false = test_of isNameByte c.before.before.byte_at.ensures c.before.is-name-byte.ensures c.if1.false in
-    omega (arith, ap length (word-stop s i h))
+    let h : is_name_byte (get_or s i 0) ≡ false = test_of is_name_byte c.before.before.byte_at.ensures c.before.is-name-byte.ensures c.if1.false in
+    omega (arith, ap length (word_stop s i h))
 
 pub word-end-spec : {M : Type 1} → statement M
 word-end-spec =

@@ -7,33 +7,33 @@ use mathlib.Core.List.{List, []}
 use mathlib.Core.Path.{◌∙◌, ◌≡◌, sym}
 use native.Mathlib.Omega.{arith}
 use Rattle.condition.specs.Answers.{kind_of}
-use Rattle.document.specs.Lookup.{columnsAt}
+use Rattle.document.specs.Lookup.{columns_at}
 use Rattle.document.specs.Policy.{Policy}
 use Rattle.relations.specs.Labels.{Labels}
 use Rattle.relations.specs.Rows.{FillingRow}
 use Rattle.relations.specs.Tables.{Tables}
-use Rattle.walks.proofs.CellTurns.{CellsPassed, all-cells-passed, cells-turn, label_at, no-cells-passed}
+use Rattle.walks.proofs.CellTurns.{CellsPassed, all_cells_passed, cells_turn, label_at, no_cells_passed}
 use Rattle.walks.specs.Walked.{KeepsRows}
 use Rattle.stepping.specs.Stored.{LineAt}
-use Rattle.text.proofs.Lefts.{before-end}
-use Rattle.text.proofs.Spaces.{space-here}
+use Rattle.text.proofs.Lefts.{before_end}
+use Rattle.text.proofs.Spaces.{space_here}
 use Rattle.walks.proofs.cells.take_cells.Statement.{statement}
 use Rattle.walks.proofs.cells.take_cells.Tie as tie
 
 abbrev invariant-loop : tie.invariant-loop
-invariant-loop text at line labels labels-count tables x n rows₀ k is m c₀ j₀ rows c j =
+invariant-loop text at line labels labels_count tables x n rows₀ k is m c₀ j₀ rows c j =
     (c ≤ n)
     × (length line < 2 ^ 64)
     × KeepsRows text rows₀ rows k
-    × ((d : Policy) (count : ℕ) (sets ls : List ℕ) → LineAt text at line → Labels text labels sets labels-count d.labels → Tables text tables count
+    × ((d : Policy) (count : ℕ) (sets ls : List ℕ) → LineAt text at line → Labels text labels sets labels_count d.labels → Tables text tables count
     d.tables → x < count → n ≡ length
-    (columnsAt d x) → k < 1024 → FillingRow text rows₀ k 0 m [] ls → CellsPassed text rows₀ rows line k n m ls c d (columnsAt d x) is j)
+    (columns_at d x) → k < 1024 → FillingRow text rows₀ k 0 m [] ls → CellsPassed text rows₀ rows line k n m ls c d (columns_at d x) is j)
 
 abbrev decreases-loop : tie.decreases-loop
-decreases-loop text at line labels labels-count tables x n rows₀ k is m c₀ j₀ rows c j = n - c
+decreases-loop text at line labels labels_count tables x n rows₀ k is m c₀ j₀ rows c j = n - c
 
 loop-holds : tie.Need-loop-init invariant-loop decreases-loop
-loop-holds c = (omega arith, omega arith, λ rs h. h, λ d count sets ls l N T b w small h. no-cells-passed h)
+loop-holds c = (omega arith, omega arith, λ rs h. h, λ d count sets ls l N T b w small h. no_cells_passed h)
 
 byte-at-requires : tie.Need-byte-at-requires invariant-loop decreases-loop
 byte-at-requires c κs = search rules
@@ -42,7 +42,7 @@ returns : tie.Need-returns invariant-loop decreases-loop
 returns c = (c.before.before.before.loop.invariant.2, λ d count sets ls l N T b w small h. tt)
 
 add-byte-at : tie.Need-overflow-add-byte-at invariant-loop decreases-loop
-add-byte-at c = omega (arith, (space-here c.before.before.before.before.before.before.args.line.now c.before.before.before.loop.j _ c.before.byte_at.ensures c.if1.false).1)
+add-byte-at c = omega (arith, (space_here c.before.before.before.before.before.before.args.line.now c.before.before.before.loop.j _ c.before.byte_at.ensures c.if1.false).1)
 
 byte-at-requires-2 : tie.Need-byte-at-requires-2 invariant-loop decreases-loop
 byte-at-requires-2 c κs = search rules
@@ -51,7 +51,7 @@ returns-2 : tie.Need-returns-2 invariant-loop decreases-loop
 returns-2 c = (c.before.before.before.before.before.loop.invariant.2, λ d count sets ls l N T b w small h. tt)
 
 add-v : tie.Need-overflow-add-v invariant-loop decreases-loop
-add-v c = omega (arith, before-end c.before.before.before.before.before.before.before.before.args.line.now (c.before.before.before.before.before.loop.j + 1) (λ z. absurd (omega (arith, z, c.before.byte-at2.ensures, c.if2.false))))
+add-v c = omega (arith, before_end c.before.before.before.before.before.before.before.before.args.line.now (c.before.before.before.before.before.loop.j + 1) (λ z. absurd (omega (arith, z, c.before.byte-at2.ensures, c.if2.false))))
 
 column-kind-requires : tie.Need-column-kind-requires invariant-loop decreases-loop
 column-kind-requires c κs = search rules
@@ -107,7 +107,7 @@ returns-5 c = (
 add-j : tie.Need-overflow-add-j invariant-loop decreases-loop
 add-j c = omega (
   arith,
-  before-end
+  before_end
       c.before.before.before.before.before.before.before.before.before.before.before.before.before.before.before.before.before.before.before.before.before.before.before.args.line.now
       c.before.before.before.l.given.0.0
       (λ z. absurd (omega (arith, z, c.before.byte-at3.ensures, c.if3.false))),
@@ -127,7 +127,7 @@ loop-again c = (
   λ rs h. c.before.before.before.before.before.take-label.ensures.0 rs
       (c.before.before.before.before.before.before.before.set_value.ensures.kept _ _ rs (omega arith) (c.before.before.before.before.before.before.before.before.before.before.before.before.before.before.before.before.before.before.before.before.loop.invariant.2 rs h)),
   λ d count sets ls l N T b w small h.
-      cells-turn d T b w ls c.before.before.before.before.before.before.before.before.before.before.before.before.before.before.before.before.before.before.before.before.before.before.before.args.is c.before.before.before.before.before.before.before.before.before.before.before.before.before.before.before.before.before.before.before.before.loop.j (kind_of c.before.before.before.before.before.before.before.before.before.before.before.before.before.before.column-kind.result) l small c.before.before.before.before.before.before.before.before.before.before.before.before.before.before.before.before.before.before.before.before.before.before.before.requires c.before.before.before.before.before.before.before.before.before.before.before.before.before.before.before.before.before.before.before.loop-test.true (sym c.before.before.before.before.before.before.before.before.before.before.before.before.before.before.before.before.before.before.byte_at.ensures ∙ c.before.before.before.before.before.before.before.before.before.before.before.before.before.before.before.before.before.if1.false) (sym c.before.before.before.before.before.before.before.before.before.before.before.before.before.before.before.before.byte-at2.ensures ∙ c.before.before.before.before.before.before.before.before.before.before.before.before.before.before.before.if2.false) c.before.before.before.before.before.before.before.before.before.before.before.before.before.before.column-kind.ensures
+      cells_turn d T b w ls c.before.before.before.before.before.before.before.before.before.before.before.before.before.before.before.before.before.before.before.before.before.before.before.args.is c.before.before.before.before.before.before.before.before.before.before.before.before.before.before.before.before.before.before.before.before.loop.j (kind_of c.before.before.before.before.before.before.before.before.before.before.before.before.before.before.column-kind.result) l small c.before.before.before.before.before.before.before.before.before.before.before.before.before.before.before.before.before.before.before.before.before.before.before.requires c.before.before.before.before.before.before.before.before.before.before.before.before.before.before.before.before.before.before.before.loop-test.true (sym c.before.before.before.before.before.before.before.before.before.before.before.before.before.before.before.before.before.before.byte_at.ensures ∙ c.before.before.before.before.before.before.before.before.before.before.before.before.before.before.before.before.before.if1.false) (sym c.before.before.before.before.before.before.before.before.before.before.before.before.before.before.before.before.byte-at2.ensures ∙ c.before.before.before.before.before.before.before.before.before.before.before.before.before.before.before.if2.false) c.before.before.before.before.before.before.before.before.before.before.before.before.before.before.column-kind.ensures
       (sym c.before.before.before.before.before.before.before.before.before.before.before.before.before.typed-end.ensures ∙ c.before.before.before.before.before.before.before.before.before.before.before.r.given.1)
       c.before.before.before.before.before.before.before.before.before.place.ensures
       c.before.before.before.before.before.before.before.set_value.ensures
@@ -139,7 +139,7 @@ loop-again c = (
 returns-6 : tie.Need-returns-6 invariant-loop decreases-loop
 returns-6 c =
     let q : c.before.loop.c ≡ c.before.before.before.before.args.n = omega (arith, c.loop-test.false, c.before.loop.invariant.0) in
-    (c.before.loop.invariant.2, λ d count sets ls l N T b w small h. all-cells-passed q (c.before.loop.invariant.3 d count sets ls l N T b w small h))
+    (c.before.loop.invariant.2, λ d count sets ls l N T b w small h. all_cells_passed q (c.before.loop.invariant.3 d count sets ls l N T b w small h))
 
 pub take-cells-spec : {M : Type 1} → statement M
 take-cells-spec =

@@ -3,9 +3,9 @@ use borrow.Author.Rules.{rules}
 use mathlib.Core.Path.{◌∙◌, ap, sym}
 use native.Mathlib.Omega.{arith}
 use Rattle.document.specs.Lookup.{label_of}
-use Rattle.workspace.specs.Found.{foundAs}
-use Rattle.walks.proofs.CellTurns.{label-taken}
-use Rattle.text.proofs.Spaces.{space-here}
+use Rattle.workspace.specs.Found.{found_as}
+use Rattle.walks.proofs.CellTurns.{label_taken}
+use Rattle.text.proofs.Spaces.{space_here}
 use Rattle.walks.proofs.cells.take_label.Statement.{statement}
 use Rattle.walks.proofs.cells.take_label.Tie as tie
 
@@ -16,7 +16,7 @@ returns : tie.Need-returns
 returns c = (λ rs h. h, λ d sets N. tt)
 
 add-name-end : tie.Need-overflow-add-name-end
-add-name-end c = let entry = c.before.before.before.before.args in omega (arith, (space-here entry.line.now entry.at _ c.before.byte_at.ensures c.if1.false).1)
+add-name-end c = let entry = c.before.before.before.before.args in omega (arith, (space_here entry.line.now entry.at _ c.before.byte_at.ensures c.if1.false).1)
 
 name-end-requires : tie.Need-name-end-requires
 name-end-requires c κs = search rules
@@ -32,7 +32,7 @@ returns-2 c = (λ rs h. h, λ d sets N. tt)
 
 add-find-label-to : tie.Need-overflow-add-find-label-to
 add-find-label-to c = let entry = c.before.before.before.before.before.before.before.before.args in omega
-    (arith, (space-here entry.line.now entry.at _ c.before.before.before.before.before.byte_at.ensures c.before.before.before.before.if1.false).1)
+    (arith, (space_here entry.line.now entry.at _ c.before.before.before.before.before.byte_at.ensures c.before.before.before.before.if1.false).1)
 
 find-label-to-requires : tie.Need-find-label-to-requires
 find-label-to-requires c κs = search rules
@@ -53,10 +53,10 @@ returns-4 : tie.Need-returns-4
 unfolding label_of
 returns-4 c = (
   λ rs h. c.set-label.ensures.kept _ _ rs (omega arith) h,
-  λ d sets N. label-taken
+  λ d sets N. label_taken
       (sym c.before.before.before.before.before.before.before.before.before.before.before.byte_at.ensures ∙ c.before.before.before.before.before.before.before.before.before.before.if1.false)
       (sym c.before.before.before.before.before.before.before.before.before.name-end.ensures ∙ c.before.before.before.before.before.before.before.r.given.1)
-      (λ ended. sym (ap foundAs c.before.before.before.found.given.1) ∙ c.before.before.before.before.before.find-label-to.ensures.0 sets _ ended N)
+      (λ ended. sym (ap found_as c.before.before.before.found.given.1) ∙ c.before.before.before.before.before.find-label-to.ensures.0 sets _ ended N)
       c.set-label.ensures,
 )
 

@@ -3,8 +3,8 @@
 use borrow.Author.Rules.{rules}
 use mathlib.Core.Path.{◌∙◌, ap, sym}
 use Rattle.condition.specs.Answers.{kind_of}
-use Rattle.walks.proofs.Typed.{typed-name}
-use Rattle.walks.specs.Walked.{typedEnd}
+use Rattle.walks.proofs.Typed.{typed_name}
+use Rattle.walks.specs.Walked.{typed_end}
 use Rattle.walks.proofs.cells.typed_end.Statement.{statement}
 use Rattle.walks.proofs.cells.typed_end.Tie as tie
 
@@ -29,17 +29,17 @@ existing-end-requires c κs = search rules
 returns : tie.Need-returns
 returns c =
     let a = c.before.before.before.before.args in
-    c.name-end.ensures ∙ typed-name a.line.now a.at ∙ ap (λ k. typedEnd a.line.now a.at (kind_of k)) (sym c.before.enum_told.given.1)
+    c.name-end.ensures ∙ typed_name a.line.now a.at ∙ ap (λ k. typed_end a.line.now a.at (kind_of k)) (sym c.before.enum_told.given.1)
 
 returns-2 : tie.Need-returns-2
 returns-2 c =
     let a = c.before.before.before.before.args in
-    c.number-end.ensures ∙ ap (λ k. typedEnd a.line.now a.at (kind_of k)) (sym c.before.enum-told2.given.1)
+    c.number-end.ensures ∙ ap (λ k. typed_end a.line.now a.at (kind_of k)) (sym c.before.enum-told2.given.1)
 
 returns-3 : tie.Need-returns-3
 returns-3 c =
     let a = c.before.before.before.before.args in
-    c.existing-end.ensures ∙ ap (λ k. typedEnd a.line.now a.at (kind_of k)) (sym c.before.enum-told3.given.1)
+    c.existing-end.ensures ∙ ap (λ k. typed_end a.line.now a.at (kind_of k)) (sym c.before.enum-told3.given.1)
 
 pub typed-end-spec : {M : Type 1} → statement M
 typed-end-spec =

@@ -4,10 +4,10 @@ use borrow.Author.Rules.{rules}
 use borrow.Author.Tests.{not-false}
 use mathlib.Core.List.{[]}
 use mathlib.Core.Path.{◌∙◌, subst, sym}
-use Rattle.document.specs.Lookup.{columnsAt}
-use Rattle.relations.proofs.RowLaws.{row-empty}
+use Rattle.document.specs.Lookup.{columns_at}
+use Rattle.relations.proofs.RowLaws.{row_empty}
 use Rattle.relations.proofs.TableLaws.{width_read}
-use Rattle.walks.proofs.RowsTaken.{cells-taken}
+use Rattle.walks.proofs.RowsTaken.{cells_taken}
 use Rattle.walks.specs.Walked.{CellsWalked}
 use Rattle.walks.proofs.lines.take_labelled.Statement.{statement}
 use Rattle.walks.proofs.lines.take_labelled.Tie as tie
@@ -42,10 +42,10 @@ returns-3 c d sets count l L T table inside u v small N =
     let n : ℕ = c.before.before.before.before.before.before.before.before.before.table-width.result in
     let wide = width_read a.text.now a.tables.now count a.x d.policy T inside n c.before.before.before.before.before.before.before.before.before.table-width.ensures in
     let t = subst
-    (CellsWalked a.text.now a.rows.now c.before.before.before.before.before.before.before.take-Cells.new.1.1.1.1.1.1.1.1.0 a.line.now a.k n 0 [] d.policy (columnsAt d.policy a.x) a.is)
+    (CellsWalked a.text.now a.rows.now c.before.before.before.before.before.before.before.take-Cells.new.1.1.1.1.1.1.1.1.0 a.line.now a.k n 0 [] d.policy (columns_at d.policy a.x) a.is)
     c.before.before.before.before.before.r.given.1
-    (c.before.before.before.before.before.before.before.take-Cells.ensures.1 d.policy count sets [] l L T inside wide small (row-empty a.text.now a.rows.now a.k)) in
-    cells-taken d a.line.now a.is c.before.before.before.before.before.r.given.0.0 N small table
+    (c.before.before.before.before.before.before.before.take-Cells.ensures.1 d.policy count sets [] l L T inside wide small (row_empty a.text.now a.rows.now a.k)) in
+    cells_taken d a.line.now a.is c.before.before.before.before.before.r.given.0.0 N small table
     (sym c.before.before.before.closes.ensures ∙ not-false _ c.before.before.if1.false) wide
     c.before.before.before.before.before.before.before.before.before.table-width.ensures.few u v t
     (c.add_row.ensures a.text.now)

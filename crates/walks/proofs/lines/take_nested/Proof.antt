@@ -5,11 +5,11 @@ use borrow.Author.Tests.{not-false}
 use mathlib.Core.List.{List, [], ◌∷◌}
 use mathlib.Core.Path.{◌∙◌, refl, subst, sym}
 use native.Mathlib.Omega.{arith}
-use Rattle.document.specs.Lookup.{columnsAt, label_of}
-use Rattle.relations.proofs.RowLaws.{row-empty}
+use Rattle.document.specs.Lookup.{columns_at, label_of}
+use Rattle.relations.proofs.RowLaws.{row_empty}
 use Rattle.relations.proofs.TableLaws.{width_read}
 use Rattle.lists.specs.Lists.{or_zero}
-use Rattle.walks.proofs.RowsTaken.{nested-taken}
+use Rattle.walks.proofs.RowsTaken.{nested_taken}
 use Rattle.walks.specs.Walked.{LabelWalked, CellsWalked}
 use Rattle.text.specs.Words.{word_of}
 use Rattle.walks.proofs.lines.take_nested.Statement.{statement}
@@ -64,15 +64,15 @@ returns-4 c d sets count l L T table inside u v small N =
     (LabelWalked a.rows.now c.before.before.before.before.before.before.before.before.before.before.before.before.before.take-label.new.1.1.1.1.0 a.line.now d.policy a.k 0 a.is)
     c.before.before.before.before.before.before.before.before.before.before.before.l.given.1
     (c.before.before.before.before.before.before.before.before.before.before.before.before.before.take-label.ensures.1 d.policy sets L) in
-    let marked = m.stored.grown a.text.now 0 [] [] small (omega arith) (row-empty a.text.now a.rows.now a.k) in
+    let marked = m.stored.grown a.text.now 0 [] [] small (omega arith) (row_empty a.text.now a.rows.now a.k) in
     let t = subst (CellsWalked a.text.now
     c.before.before.before.before.before.before.before.before.before.before.before.before.before.take-label.new.1.1.1.1.0
     c.before.before.before.before.before.before.before.take-Cells.new.1.1.1.1.1.1.1.1.0 a.line.now a.k n 1 label
-    d.policy (columnsAt d.policy a.x)
+    d.policy (columns_at d.policy a.x)
     c.before.before.before.before.before.before.before.before.before.before.before.l.given.0.0)
     c.before.before.before.before.before.r.given.1
     (c.before.before.before.before.before.before.before.take-Cells.ensures.1 d.policy count sets label l L T inside wide small marked) in
-    nested-taken d a.line.now a.is c.before.before.before.before.before.r.given.0.0 N small table
+    nested_taken d a.line.now a.is c.before.before.before.before.before.r.given.0.0 N small table
     (sym c.before.before.before.closes.ensures ∙ not-false _ c.before.before.if1.false) wide
     c.before.before.before.before.before.before.before.before.before.table-width.ensures.few m u v t refl
     (c.add_row.ensures a.text.now)

@@ -5,17 +5,17 @@ use mathlib.Core.Bool.{Bool}
 use mathlib.Core.List.{List}
 use mathlib.Core.Path.{◌∙◌, ◌≡◌, ap, refl, subst, sym}
 use Rattle.document.specs.Lookup.{table_of}
-use Rattle.document.specs.NameFaults.{rowLabels}
+use Rattle.document.specs.NameFaults.{row_labels}
 use Rattle.document.specs.Policy.{Doc}
-use Rattle.document.specs.ValueFaults.{rowValues}
-use Rattle.form.specs.Form.{hasBrackets, leadsLabel}
-use Rattle.relations.specs.Tables.{Tables, schemeBy}
+use Rattle.document.specs.ValueFaults.{row_values}
+use Rattle.form.specs.Form.{has_brackets, leads_label}
+use Rattle.relations.specs.Tables.{Tables, scheme_by}
 use Rattle.form.specs.declared.lines.Scheme as coded
-use Rattle.lists.proofs.Tests.{true-not-false}
-use Rattle.walks.proofs.RowLines.{line_taken, name-ends}
-use Rattle.walks.proofs.RowsTaken.{TableTold, table-told}
+use Rattle.lists.proofs.Tests.{true_not_false}
+use Rattle.walks.proofs.RowLines.{line_taken, name_ends}
+use Rattle.walks.proofs.RowsTaken.{TableTold, table_told}
 use Rattle.walks.specs.Taken.{TakesItems, TakesRow, table_end}
-use Rattle.text.specs.Walking.{wordEndAt}
+use Rattle.text.specs.Walking.{word_end_at}
 use Rattle.text.specs.Words.{word_of}
 use Rattle.text.specs.declared.words.End.TheVariants.{At}
 use Rattle.walks.proofs.lines.take_row.Statement.{statement}
@@ -37,11 +37,11 @@ found : (c : tie.After-table-scheme) (d : Doc) {s : coded.Scheme} → Tables
     c.before.before.before.before.before.before.before.before.before.before.before.before.args.tables-count
     c.before.before.found.given.0.0 s
     (word_of c.before.before.before.before.before.before.before.before.before.before.before.before.args.line.now 5) d.policy
-unfolding table_of wordEndAt
-found c d T told = let entry = c.before.before.before.before.before.before.before.before.before.before.before.before.args in table-told
+unfolding table_of word_end_at
+found c d T told = let entry = c.before.before.before.before.before.before.before.before.before.before.before.before.args in table_told
     (word_of entry.line.now 5) d.policy T
     c.before.before.found.given.1
-    (c.before.before.before.before.find-table-to.ensures.0 _ (name-ends entry.line.now c.before.before.before.before.before.before.t.given.0.0 (ends c)) T)
+    (c.before.before.before.before.find-table-to.ensures.0 _ (name_ends entry.line.now c.before.before.before.before.before.before.t.given.0.0 (ends c)) T)
     c.before.before.before.before.find-table-to.ensures.1 told c.table-scheme.ensures
 
 as_line : (c : tie.After-table-scheme) (after : List ℕ) (d : Doc) (r : Bool) → TakesItems
@@ -58,7 +58,7 @@ as_line c after d r = let entry = c.before.before.before.before.before.before.be
     entry.k d r
 
 returns : tie.Need-returns
-returns c = (λ d sets l L T N. N, λ e. true-not-false e refl)
+returns c = (λ d sets l L T N. N, λ e. true_not_false e refl)
 
 table-end-requires : tie.Need-table-end-requires
 table-end-requires c κs = search rules
@@ -100,8 +100,8 @@ returns-4 : tie.Need-returns-4
 returns-4 c = (
   λ d sets l L T N. let g = found (c.before.before.before.before.before.before) d T refl in as_line
       (c.before.before.before.before.before.before) _ d c.take-nested.result (c.take-nested.ensures d sets _ l L T g.table g.inside
-      (ap leadsLabel g.scheme ∙ sym (c.before.before.before.before.leads-label.ensures _ _) ∙ c.before.before.before.if2.true)
-      (ap hasBrackets g.scheme ∙ sym (c.before.before.before.before.before.has-brackets.ensures _ _) ∙ c.before.before.if3.true)
+      (ap leads_label g.scheme ∙ sym (c.before.before.before.before.leads-label.ensures _ _) ∙ c.before.before.before.if2.true)
+      (ap has_brackets g.scheme ∙ sym (c.before.before.before.before.before.has-brackets.ensures _ _) ∙ c.before.before.if3.true)
       (room (c.before.before.before.before.before.before)) N),
   λ e. room (c.before.before.before.before.before.before),
 )
@@ -113,8 +113,8 @@ returns-5 : tie.Need-returns-5
 returns-5 c = (
   λ d sets l L T N. let g = found (c.before.before.before.before.before.before) d T refl in as_line
       (c.before.before.before.before.before.before) _ d c.take-led.result (c.take-led.ensures d sets _ l L T g.table g.inside
-      (ap leadsLabel g.scheme ∙ sym (c.before.before.before.before.leads-label.ensures _ _) ∙ c.before.before.before.if2.true)
-      (ap hasBrackets g.scheme ∙ sym (c.before.before.before.before.before.has-brackets.ensures _ _) ∙ c.before.before.if3.false)
+      (ap leads_label g.scheme ∙ sym (c.before.before.before.before.leads-label.ensures _ _) ∙ c.before.before.before.if2.true)
+      (ap has_brackets g.scheme ∙ sym (c.before.before.before.before.before.has-brackets.ensures _ _) ∙ c.before.before.if3.false)
       (room (c.before.before.before.before.before.before)) N),
   λ e. room (c.before.before.before.before.before.before),
 )
@@ -126,8 +126,8 @@ returns-6 : tie.Need-returns-6
 returns-6 c = (
   λ d sets l L T N. let g = found (c.before.before.before.before.before.before) d T refl in as_line
       (c.before.before.before.before.before.before) _ d c.take-labelled.result (c.take-labelled.ensures d sets _ l L T g.table
-      g.inside (ap leadsLabel g.scheme ∙ sym (c.before.before.before.before.leads-label.ensures _ _) ∙ c.before.before.before.if2.false)
-      (ap hasBrackets g.scheme ∙ sym (c.before.before.before.before.before.has-brackets.ensures _ _) ∙ c.before.before.if4.true)
+      g.inside (ap leads_label g.scheme ∙ sym (c.before.before.before.before.leads-label.ensures _ _) ∙ c.before.before.before.if2.false)
+      (ap has_brackets g.scheme ∙ sym (c.before.before.before.before.before.has-brackets.ensures _ _) ∙ c.before.before.if4.true)
       (room (c.before.before.before.before.before.before)) N),
   λ e. room (c.before.before.before.before.before.before),
 )
@@ -139,8 +139,8 @@ returns-7 : tie.Need-returns-7
 returns-7 c = (
   λ d sets l L T N. let g = found (c.before.before.before.before.before.before) d T refl in as_line
       (c.before.before.before.before.before.before) _ d c.take-plain.result (c.take-plain.ensures d _ l T g.table g.inside
-      (ap leadsLabel g.scheme ∙ sym (c.before.before.before.before.leads-label.ensures _ _) ∙ c.before.before.before.if2.false)
-      (ap hasBrackets g.scheme ∙ sym (c.before.before.before.before.before.has-brackets.ensures _ _) ∙ c.before.before.if4.false)
+      (ap leads_label g.scheme ∙ sym (c.before.before.before.before.leads-label.ensures _ _) ∙ c.before.before.before.if2.false)
+      (ap has_brackets g.scheme ∙ sym (c.before.before.before.before.before.has-brackets.ensures _ _) ∙ c.before.before.if4.false)
       (room (c.before.before.before.before.before.before)) N),
   λ e. room (c.before.before.before.before.before.before),
 )

@@ -4,9 +4,9 @@ use borrow.Author.Tests.{not-false}
 use lib.ListN.{get_or, length}
 use mathlib.Core.Path.{◌∙◌, ◌≡◌, ap, sym}
 use native.Mathlib.Omega.{arith}
-use Rattle.walks.proofs.PurposeLines.{below-form, space}
-use Rattle.workspace.specs.Found.{foundAs}
-use Rattle.text.proofs.Lefts.{before-end}
+use Rattle.walks.proofs.PurposeLines.{below_form, space}
+use Rattle.workspace.specs.Found.{found_as}
+use Rattle.text.proofs.Lefts.{before_end}
 use borrow.Author.Rules.{rules}
 use Rattle.walks.proofs.purposes.read_below.Statement.{statement}
 use Rattle.walks.proofs.purposes.read_below.Tie as tie
@@ -46,7 +46,7 @@ enum-told-2 : tie.Need-enum-told-2
 enum-told-2 c = search rules
 
 add-v : tie.Need-overflow-add-v
-add-v c = let h = parted (c.before.before) in omega (arith, before-end c.before.before.before.before.before.before.before.before.before.before.before.args.line.now c.before.before.before.before.before.before.seek-purpose.result.end (λ z. absurd (omega (arith, h, z))))
+add-v c = let h = parted (c.before.before) in omega (arith, before_end c.before.before.before.before.before.before.before.before.before.before.before.args.line.now c.before.before.before.before.before.before.seek-purpose.result.end (λ z. absurd (omega (arith, h, z))))
 
 seek-purpose-requires-2 : tie.Need-seek-purpose-requires-2
 seek-purpose-requires-2 c κs = search rules
@@ -83,19 +83,19 @@ returns-8 c =
     let p = c.before.before.before.before.before.before.before.seek-purpose2.ensures in
     let first = space s b in
     let inside : 8 < length
-    entry.line.now = before-end
+    entry.line.now = before_end
     entry.line.now 8
     (λ z. absurd (omega (arith, first, z))) in
     record {
-      form = below-form s b _ _ n.ends
+      form = below_form s b _ _ n.ends
           (c.before.before.before.before.before.before.before.before.before.before.before.before.before.is-name-to.ensures (not-false _ c.before.before.before.before.before.before.before.before.before.before.before.before.if2.false) n.ends)
           (parted (c.before.before.before.before.before.before.before.before.before.before)) p.ends
           (c.before.before.before.before.before.before.is-name-to2.ensures (not-false _ c.before.before.before.before.before.if4.false) p.ends)
           (sym c.before.before.before.before.closes.ensures ∙ not-false _ c.before.before.before.if5.false);
       within = omega (arith, inside);
       hash = n.hash;
-      fresh = λ ns N. sym (ap foundAs c.before.before.before.before.before.before.before.before.enum-told2.given.1) ∙ n.is ns N;
-      known = λ ns N. sym (ap foundAs c.before.known.given.1) ∙ p.is ns N;
+      fresh = λ ns N. sym (ap found_as c.before.before.before.before.before.before.before.before.enum-told2.given.1) ∙ n.is ns N;
+      known = λ ns N. sym (ap found_as c.before.known.given.1) ∙ p.is ns N;
     }
 
 pub read-below-spec : {M : Type 1} → statement M

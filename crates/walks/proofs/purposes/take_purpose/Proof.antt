@@ -1,7 +1,7 @@
 -- `walks::purposes::take_purpose` meets its contract. Assumes nothing.
 use mathlib.Core.Path.{refl, subst}
 use Rattle.walks.specs.PurposeLine.{ReadsBelow}
-use Rattle.lists.proofs.Tests.{true-not-false}
+use Rattle.lists.proofs.Tests.{true_not_false}
 use borrow.Author.Rules.{rules}
 use Rattle.walks.proofs.purposes.take_purpose.Statement.{statement}
 use Rattle.walks.proofs.purposes.take_purpose.Tie as tie
@@ -24,7 +24,7 @@ returns c =
     (λ d l N. c.take_below.ensures.0 d l (subst (ReadsBelow a.text.now a.purposes.now a.k a.line.now) c.before.before.before.r.given.1 c.before.before.before.before.before.read_below.ensures) N, c.take_below.ensures.1)
 
 returns-2 : tie.Need-returns-2
-returns-2 c = (λ d l N. N, λ held. true-not-false held refl)
+returns-2 c = (λ d l N. N, λ held. true_not_false held refl)
 
 pub take-purpose-spec : {M : Type 1} → statement M
 take-purpose-spec =

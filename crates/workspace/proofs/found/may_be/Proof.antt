@@ -5,19 +5,19 @@ use borrow.Author.Tests.{ne_eqb}
 use lib.ListN.{get_or}
 use mathlib.Core.Path.{◌∙◌, ◌≡◌, ap, refl, sym}
 use native.Mathlib.Omega.{arith}
-use Rattle.workspace.proofs.SameLaws.{differ-first, differ-last, same-beyond}
-use Rattle.lists.proofs.Tests.{true-not-false}
-use Rattle.text.specs.Names.{sameByte}
+use Rattle.workspace.proofs.SameLaws.{differ_first, differ_last, same_beyond}
+use Rattle.lists.proofs.Tests.{true_not_false}
+use Rattle.text.specs.Names.{same_byte}
 use Rattle.workspace.proofs.found.may_be.Statement.{statement}
 use Rattle.workspace.proofs.found.may_be.Tie as tie
 
 returns : tie.Need-returns
-returns c line i sized f l isn't = true-not-false refl isn't
+returns c line i sized f l isn't = true_not_false refl isn't
 
 returns-2 : tie.Need-returns-2
 returns-2 c line i sized f l isn't =
     let a = c.before.before.before.args in
-    same-beyond line i a.len a.text.now a.p sized (omega arith) ∙ ne_eqb a.len 0 c.before.if1.false
+    same_beyond line i a.len a.text.now a.p sized (omega arith) ∙ ne_eqb a.len 0 c.before.if1.false
 
 sub-if3 : tie.Need-overflow-sub-if3
 sub-if3 c = omega arith
@@ -25,7 +25,7 @@ sub-if3 c = omega arith
 returns-3 : tie.Need-returns-3
 returns-3 c line i sized f l isn't =
     let a = c.before.before.before.before.args in
-    same-beyond line i a.len a.text.now a.p sized (omega arith) ∙ ne_eqb a.len 0 c.before.before.if1.false
+    same_beyond line i a.len a.text.now a.p sized (omega arith) ∙ ne_eqb a.len 0 c.before.before.if1.false
 
 sub-same-byte : tie.Need-overflow-sub-same-byte
 sub-same-byte c = search rules
@@ -49,13 +49,13 @@ returns-4 : tie.Need-returns-4
 returns-4 c line i sized f l isn't =
     let a = c.before.before.before.before.before.before.before.before.before.args in
     let some : 0 < c.before.before.before.before.before.before.before.before.before.args.len = omega arith in
-    differ-first line i a.len a.text.now a.p sized some (ap (λ b. sameByte b (get_or a.text.now a.p 0)) (sym f) ∙ sym c.same-byte2.ensures ∙ isn't)
+    differ_first line i a.len a.text.now a.p sized some (ap (λ b. same_byte b (get_or a.text.now a.p 0)) (sym f) ∙ sym c.same-byte2.ensures ∙ isn't)
 
 returns-5 : tie.Need-returns-5
 returns-5 c line i sized f l isn't =
     let a = c.before.before.before.before.before.before.before.args in
     let some : 0 < c.before.before.before.before.before.before.before.args.len = omega arith in
-    differ-last line i a.len a.text.now a.p sized some (ap (λ b. sameByte b (get_or a.text.now (a.p + (a.len - 1)) 0)) (sym l) ∙ sym c.before.same_byte.ensures ∙ c.if4.false)
+    differ_last line i a.len a.text.now a.p sized some (ap (λ b. same_byte b (get_or a.text.now (a.p + (a.len - 1)) 0)) (sym l) ∙ sym c.before.same_byte.ensures ∙ c.if4.false)
 
 pub may-be-spec : {M : Type 1} → statement M
 may-be-spec =

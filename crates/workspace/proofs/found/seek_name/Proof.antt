@@ -8,13 +8,13 @@ use mathlib.Core.Bool.{false}
 use mathlib.Core.Logic.{⊎_elim}
 use mathlib.Core.Path.{◌∙◌, ◌≡◌, ap, sym}
 use native.Mathlib.Omega.{arith}
-use Rattle.workspace.proofs.TabulatedLaws.{tabulated-found, tabulated-none}
-use Rattle.text.specs.Words.{isCalled, word_at, word_of}
+use Rattle.workspace.proofs.TabulatedLaws.{tabulated_found, tabulated_none}
+use Rattle.text.specs.Words.{is_called, word_at, word_of}
 use Rattle.workspace.proofs.found.seek_name.Statement.{statement}
 use Rattle.workspace.proofs.found.seek_name.Tie as tie
 
 abbrev invariant-loop : tie.invariant-loop
-invariant-loop text ws base n line i e len first last k₀ k = (k ≤ n) × (e ≡ i + length (word_at line i) → (j : ℕ) → j < k → isCalled (word_of line i) (word_at text (get_or ws (base + j) 0)) ≡ false)
+invariant-loop text ws base n line i e len first last k₀ k = (k ≤ n) × (e ≡ i + length (word_at line i) → (j : ℕ) → j < k → is_called (word_of line i) (word_at text (get_or ws (base + j) 0)) ≡ false)
 
 abbrev decreases-loop : tie.decreases-loop
 decreases-loop text ws base n line i e len first last k₀ k = n - k
@@ -50,12 +50,12 @@ same-length-name-requires : tie.Need-same-length-name-requires invariant-loop de
 same-length-name-requires c κs = search rules
 
 returns-2 : tie.Need-returns-2 invariant-loop decreases-loop
-unfolding isCalled
+unfolding is_called
 returns-2 c =
     let a = c.before.before.before.before.before.before.before.before.before.before.before.before.before.before.args in
     let l = c.before.before.before.before.before.before.loop in
     let small : c.before.before.before.before.before.before.loop.k < c.before.before.before.before.before.before.before.before.before.before.before.before.before.before.args.n = omega arith in
-    (λ ended. sym (tabulated-found (λ p. isCalled (word_of a.line.now a.i) (word_at a.text.now p)) (λ j. get_or a.ws.now (a.base + j) 0) a.n l.k small (l.invariant.1 ended) (sym (c.before.same-length-name.ensures (omega (arith, ended))) ∙ c.if3.true)), small)
+    (λ ended. sym (tabulated_found (λ p. is_called (word_of a.line.now a.i) (word_at a.text.now p)) (λ j. get_or a.ws.now (a.base + j) 0) a.n l.k small (l.invariant.1 ended) (sym (c.before.same-length-name.ensures (omega (arith, ended))) ∙ c.if3.true)), small)
 
 add-k : tie.Need-overflow-add-k invariant-loop decreases-loop
 add-k c = omega arith
@@ -65,8 +65,8 @@ loop-less c = omega arith
 
 -- the name at k is another: its first or last byte tells, or all of its bytes do
 another : (c : tie.Joined2 invariant-loop decreases-loop) → c.before.before.before.before.before.before.before.before.before.before.before.before.args.e ≡ c.before.before.before.before.before.before.before.before.before.before.before.before.args.i + length (word_at c.before.before.before.before.before.before.before.before.before.before.before.before.args.line.now c.before.before.before.before.before.before.before.before.before.before.before.before.args.i)
-    → isCalled (word_of c.before.before.before.before.before.before.before.before.before.before.before.before.args.line.now c.before.before.before.before.before.before.before.before.before.before.before.before.args.i) (word_at c.before.before.before.before.before.before.before.before.before.before.before.before.args.text.now (get_or c.before.before.before.before.before.before.before.before.before.before.before.before.args.ws.now (c.before.before.before.before.before.before.before.before.before.before.before.before.args.base + c.before.before.before.before.loop.k) 0)) ≡ false
-unfolding isCalled
+    → is_called (word_of c.before.before.before.before.before.before.before.before.before.before.before.before.args.line.now c.before.before.before.before.before.before.before.before.before.before.before.before.args.i) (word_at c.before.before.before.before.before.before.before.before.before.before.before.before.args.text.now (get_or c.before.before.before.before.before.before.before.before.before.before.before.before.args.ws.now (c.before.before.before.before.before.before.before.before.before.before.before.before.args.base + c.before.before.before.before.loop.k) 0)) ≡ false
+unfolding is_called
 another c ended =
     let a = c.before.before.before.before.before.before.before.before.before.before.before.before.args in
     let place : c.before.before.before.before.before.before.before2.result ≡ c.before.before.before.before.before.before.before.before.before.before.before.before.args.i + (c.before.before.before.before.before.before.before.before.before.before.before.before.args.e - c.before.before.before.before.before.before.before.before.before.before.before.before.args.i) - 1 = omega (arith, c.before.before.before.before.before.before.before2.ensures) in
@@ -82,7 +82,7 @@ returns-3 : tie.Need-returns-3 invariant-loop decreases-loop
 returns-3 c =
     let a = c.before.before.before.before.before.before.before.before.before.args in
     let inv = c.before.loop.invariant in
-    (λ ended. sym (tabulated-none (λ p. isCalled (word_of a.line.now a.i) (word_at a.text.now p)) (λ j. get_or a.ws.now (a.base + j) 0) a.n (λ j l. inv.1 ended j (omega (arith, l)))), tt)
+    (λ ended. sym (tabulated_none (λ p. is_called (word_of a.line.now a.i) (word_at a.text.now p)) (λ j. get_or a.ws.now (a.base + j) 0) a.n (λ j l. inv.1 ended j (omega (arith, l)))), tt)
 
 pub seek-name-spec : {M : Type 1} → statement M
 seek-name-spec =

@@ -1,7 +1,7 @@
 -- `workspace::hashes::in_name` meets its contract. Assumes nothing.
 use borrow.Author.Rules.{rules}
 use mathlib.Core.Path.{◌∙◌, sym}
-use Rattle.workspace.proofs.HashLaws.{letter-in-name}
+use Rattle.workspace.proofs.HashLaws.{letter_in_name}
 use Rattle.workspace.proofs.hashes.in_name.Statement.{statement}
 use Rattle.workspace.proofs.hashes.in_name.Tie as tie
 
@@ -9,7 +9,7 @@ is-letter-requires : tie.Need-is-letter-requires
 is-letter-requires c κs = search rules
 
 returns : tie.Need-returns
-returns c = letter-in-name c.before.before.args.b (sym c.before.is-letter.ensures ∙ c.if1.true)
+returns c = letter_in_name c.before.before.args.b (sym c.before.is-letter.ensures ∙ c.if1.true)
 
 is-name-byte-requires : tie.Need-is-name-byte-requires
 is-name-byte-requires c κs = search rules

@@ -6,7 +6,7 @@ use lib.ListN.{get_or, set}
 use mathlib.Core.Path.{◌∙◌, ap}
 use native.Mathlib.Omega.{arith}
 use Rattle.purpose.proofs.Bits.{one_shl}
-use Rattle.purpose.proofs.Words.{has-insert}
+use Rattle.purpose.proofs.Words.{has_insert}
 use Rattle.purpose.specs.Members.{has}
 use Rattle.workspace.proofs.met.set_bit.Statement.{statement}
 use Rattle.workspace.proofs.met.set_bit.Tie as tie
@@ -33,7 +33,7 @@ returns : tie.Need-returns
 returns c j =
     let ms = c.before.args.ms.now in
     let i = c.before.args.i in
-    ap (λ mask. has (set ms (i / 64) (bit_or (get_or ms (i / 64) 0) mask)) j) (one_shl (i % 64) 64 (omega arith)) ∙ has-insert ms i j c.before.requires
+    ap (λ mask. has (set ms (i / 64) (bit_or (get_or ms (i / 64) 0) mask)) j) (one_shl (i % 64) 64 (omega arith)) ∙ has_insert ms i j c.before.requires
 
 pub set-bit-spec : {M : Type 1} → statement M
 set-bit-spec =

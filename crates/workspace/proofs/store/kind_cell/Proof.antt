@@ -2,7 +2,7 @@
 use borrow.Author.Rules.{rules}
 use mathlib.Core.Path.{ap, sym}
 use Rattle.condition.specs.Answers.{kind_of}
-use Rattle.workspace.specs.Cells.{kindOfCell}
+use Rattle.workspace.specs.Cells.{kind_of_cell}
 use Rattle.workspace.proofs.store.kind_cell.Statement.{statement}
 use Rattle.workspace.proofs.store.kind_cell.Tie as tie
 
@@ -16,15 +16,15 @@ enum-told-3 : tie.Need-enum-told-3
 enum-told-3 c = search rules
 
 returns : tie.Need-returns
-unfolding kindOfCell
+unfolding kind_of_cell
 returns c = ap kind_of (sym c.enum_told.given.1)
 
 returns-2 : tie.Need-returns-2
-unfolding kindOfCell
+unfolding kind_of_cell
 returns-2 c = ap kind_of (sym c.enum-told2.given.1)
 
 returns-3 : tie.Need-returns-3
-unfolding kindOfCell
+unfolding kind_of_cell
 returns-3 c = ap kind_of (sym c.enum-told3.given.1)
 
 pub kind-cell-spec : {M : Type 1} → statement M

@@ -14,16 +14,16 @@ same_length : tie.Need-same-length
 same_length c = search rules
 
 returns : tie.Need-returns
-returns c = w.wrote-byte _ _ _
+returns c = w.wrote_byte _ _ _
 
 add-result-2 : tie.Need-overflow-add-result-2
 add-result-2 c = search rules
 
 returns-2 : tie.Need-returns-2
-returns-2 c = w.wrote-past _ _ _ c.before.if1.false
+returns-2 c = w.wrote_past _ _ _ c.before.if1.false
 
 returns-3 : tie.Need-returns-3
-returns-3 c = w.wrote-over _ _ _ c.if2.false
+returns-3 c = w.wrote_over _ _ _ c.if2.false
 
 pub put-byte-spec : {M : Type 1} → statement M
 put-byte-spec = tie.close (tie.spec slice-write-out add-result same_length returns add-result-2 returns-2 returns-3)

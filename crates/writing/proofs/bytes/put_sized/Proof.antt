@@ -1,18 +1,18 @@
 -- `writing::bytes::put_sized` meets its contract. Assumes nothing.
-use Rattle.writing.proofs.Writing.{sized-copied, sized-none, sized_past, written-short}
+use Rattle.writing.proofs.Writing.{sized_copied, sized_none, sized_past, written_short}
 use borrow.Author.Rules.{rules}
 use native.Mathlib.Omega.{arith}
 use Rattle.writing.proofs.bytes.put_sized.Statement.{statement}
 use Rattle.writing.proofs.bytes.put_sized.Tie as tie
 
 returns : tie.Need-returns
-returns c = λ e. absurd (omega (arith, e, written-short c.before.before.before.args.text.now c.before.before.before.args.start, c.if1.true))
+returns c = λ e. absurd (omega (arith, e, written_short c.before.before.before.args.text.now c.before.before.before.args.start, c.if1.true))
 
 sub-if2 : tie.Need-overflow-sub-if2
 sub-if2 c = search rules
 
 returns-2 : tie.Need-returns-2
-returns-2 c = let a = c.before.before.before.before.args in λ e. sized-none a.out.now a.at a.text.now a.start a.size e (omega (arith, c.before.if1.false)) c.if2.true
+returns-2 c = let a = c.before.before.before.before.args in λ e. sized_none a.out.now a.at a.text.now a.start a.size e (omega (arith, c.before.if1.false)) c.if2.true
 
 place-behind-requires : tie.Need-place-behind-requires
 place-behind-requires c κs = search rules
@@ -42,7 +42,7 @@ same-length-2 : tie.Need-same-length-2
 same-length-2 c = search rules
 
 returns-5 : tie.Need-returns-5
-returns-5 c = let a = c.before.before.before.before.before.before.before.before.before.before.args in λ e. sized-copied a.out.now a.at a.text.now a.start a.size e _ c.before.before.copy-bytes.ensures
+returns-5 c = let a = c.before.before.before.before.before.before.before.before.before.before.args in λ e. sized_copied a.out.now a.at a.text.now a.start a.size e _ c.before.before.copy-bytes.ensures
 
 pub put-sized-spec : {M : Type 1} → statement M
 put-sized-spec =
