@@ -43,7 +43,7 @@ fn two(number: usize) -> String {
     [letter(number / 16), letter(number)].into_iter().collect()
 }
 
-/// index `hashBy`.
+/// index `hash_by`.
 fn hash(name: &[u8], factor: u64, bound: u64) -> u64 {
     name.iter().fold(0, |hash, &byte| (factor * hash + u64::from(byte)) % bound)
 }

@@ -70,7 +70,7 @@ fn date(number: usize) -> String {
 
 const TYPES: [(&str, &str, fn(usize) -> String); 3] = [("names", "name", name), ("numbers", "num", number), ("dates", "date", date)];
 
-/// Dates of one slot. Their rank is 367 times the year and the day's number in it (calendar `pairRank`).
+/// Dates of one slot. Their rank is 367 times the year and the day's number in it (calendar `pair_rank`).
 fn slot_dates(from: usize) -> Vec<String> {
     let days = (1..10_000u64).filter_map(|year| {
         let mut day = SLOTS - year * 367 % SLOTS;
