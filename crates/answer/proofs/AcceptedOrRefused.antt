@@ -157,7 +157,7 @@ unfolding ask ask_unbounded if_fits ◌>>=◌ ask_faults query_faults form_answe
 lowest_refused doc text A is_A c room =
     ap refusal_number (ask_steps doc text c room) ∙ rw is_A (
     if_number _ _ _ _ (
-    need_number (query_faults A.doc c room (query_of text)) _ _ _ (λ q is-q. rw is-q (
+    need_number (query_faults A.doc c room (query_of text)) _ _ _ (λ q is_q. rw is_q (
     bind_number (answer_form A.doc c q) _ (form_faults A.doc c q) _ (form_number A.doc c q) (λ r is_r.
     if_number _ _ _ _ (accepted_number r)
     ∙ ap (λ (b : Answered). first_fault ((18, ltb room (length b.answer.bytes)) ∷ [])) (answered A.doc c q r is_r).is)))))

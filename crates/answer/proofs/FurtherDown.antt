@@ -102,12 +102,12 @@ seen_open o o' ns h i (v ∷ vs) = λ j. go (member i ns) refl j ∷ seen_open o
 -- where more labels are open, each row of an open table with open columns, of which all that are named withhold, is withheld before or
 -- seen as before
 module _ (is_open is_open' : Opening) (wider : Wider is_open is_open') (s : Scheme ℕ) (ns : List ℕ)
-    (open-table : table_open is_open s ≡ true) (open_columns : (c : ℕ) → member c ns ≡ true → column_open is_open s c ≡ true) where
+    (open_table : table_open is_open s ≡ true) (open_columns : (c : ℕ) → member c ns ≡ true → column_open is_open s c ≡ true) where
   both_open : (r : Row) → row_withheld is_open s ns r.labels ≡ false → row_withheld is_open' s ns r.labels ≡ false
       → (c : ℕ) → member c ns ≡ true → (cell_open is_open s r.labels c ≡ true) × (cell_open is_open' s r.labels c ≡ true)
   both_open r e f c m = (
-    shown_open is_open s ns r.labels open-table open_columns e c m,
-    shown_open is_open' s ns r.labels (table_open_more is_open is_open' wider s open-table) (λ k n. column_open_more is_open is_open' wider s k (open_columns k n)) f c m,
+    shown_open is_open s ns r.labels open_table open_columns e c m,
+    shown_open is_open' s ns r.labels (table_open_more is_open is_open' wider s open_table) (λ k n. column_open_more is_open is_open' wider s k (open_columns k n)) f c m,
   )
 
   row_further : (r : Row) → (seen_row is_open s ns ns r ≡ withheld) ⊎ (seen_row is_open s ns ns r ≡ seen_row is_open' s ns ns r)
@@ -133,7 +133,7 @@ seen_further d q p all open_parts wider =
 
 -- ---- the theorem
 
-module _ (d : Doc) (q : QueryForm) (w : Word) (p : ℕ) (is-p : purpose_of d.policy w ≡ some p)
+module _ (d : Doc) (q : QueryForm) (w : Word) (p : ℕ) (is_p : purpose_of d.policy w ≡ some p)
     (below : descends (tree_of d.policy.purposes) p (or_zero (purpose_of d.policy q.purpose)) ≡ true) where
   -- Where no gaps are left, Q's answer has P's rows in the same order, perhaps with others between, and withholds no more rows.
   pub further_down : has_gaps q.wanted ≡ false → (c : Clock) (r : Answered) → answer_form d c q ≡ accepted r
@@ -148,21 +148,21 @@ module _ (d : Doc) (q : QueryForm) (w : Word) (p : ℕ) (is-p : purpose_of d.pol
       let g = grant_below d.policy _ p below c a.user a.grant a.authorised in
       let s : Answered = record { answer = answer_to (resolved d.policy (for_purpose w q)) (seen_rows d (resolved d.policy (for_purpose w q))); grant = g.0 } in
       let f : Further (seen_rows d (resolved d.policy q)) (seen_rows d (to_purpose p (resolved d.policy q))) =
-      seen_further d (resolved d.policy q) p (all_withhold (resolved d.policy q) parts (unfold resolved wanted_of in gaps_map _ q.wanted ∙ whole)) (parts_open d.policy q a.columns a.parts) (unfold resolved in open_down d.policy q w p is-p below) in (
+      seen_further d (resolved d.policy q) p (all_withhold (resolved d.policy q) parts (unfold resolved wanted_of in gaps_map _ q.wanted ∙ whole)) (parts_open d.policy q a.columns a.parts) (unfold resolved in open_down d.policy q w p is_p below) in (
         s,
         is_answered d c (for_purpose w q) s (record {
           user = a.user;
           grant = g.0;
-          party = party_down d.policy q w p is-p below a.party;
+          party = party_down d.policy q w p is_p below a.party;
           has_role = a.has_role;
-          authorised = ap (λ x. first_grant d.policy c a.user (or_zero x)) is-p ∙ g.1;
+          authorised = ap (λ x. first_grant d.policy c a.user (or_zero x)) is_p ∙ g.1;
           columns = a.columns;
           types = a.types;
           ranges = a.ranges;
           dates = a.dates;
-          parts = parts_down d.policy q w p is-p below a.parts;
+          parts = parts_down d.policy q w p is_p below a.parts;
           is = refl;
         }),
-        rw (resolved_down d.policy q w p is-p below) (further_rows (satisfies (resolved d.policy q)) f),
-        rw (resolved_down d.policy q w p is-p below, a.is) (further_withheld f),
+        rw (resolved_down d.policy q w p is_p below) (further_rows (satisfies (resolved d.policy q)) f),
+        rw (resolved_down d.policy q w p is_p below, a.is) (further_withheld f),
       )

@@ -123,16 +123,16 @@ further_answered : (doc : List ℕ) (A : Accepted) → check doc ≡ accepted A
     → length (select_text k u r p' rest) ≤ 4096
     → (s : Answered) × ((room' : ℕ) → length s.answer.bytes ≤ room' → ask doc (select_text k u r p' rest) c room' ≡ accepted s) × Contains a.answer s.answer
 unfolding purpose_of is_called plain_word other or_zero IsSelect for_purpose placeless_query resolved satisfies
-further_answered doc A is_A k u r p p' rest is_k is_u is_r is-p is_p' n n' known-p known_p' below c room a h short =
+further_answered doc A is_A k u r p p' rest is_k is_u is_r is_p is_p' n n' known_p known_p' below c room a h short =
     let d : Doc = A.doc in
     let x = ask_answered doc _ c room a h in
     let same_a : x.checked ≡ A = accepted_same (sym x.accepts ∙ is_A) in
     let q : QueryForm = x.form in
     let answers : Answers d c q a = subst (λ (B : Accepted). Answers B.doc c q a) same_a x.answers in
-    let w : Word = other k u r p p' rest is_k is_u is_r is-p is_p' in
-    let y = other_query k u r p p' rest is_k is_u is_r is-p is_p' q x.reads (le-leb _ _ short) in
-    let sel = is_select_lem k u r p p' rest is_k is_u is_r is-p is_p' q x.reads in
-    let z = further_down d q w n' known_p' (subst (λ o. descends (tree_of d.policy.purposes) n' (or_zero o) ≡ true) (sym (ap (purpose_of d.policy) sel.0 ∙ known-p)) below) (unfold has_gaps leaves_gaps in ap has_gaps sel.2) c a (is_answered d c q a answers) in
+    let w : Word = other k u r p p' rest is_k is_u is_r is_p is_p' in
+    let y = other_query k u r p p' rest is_k is_u is_r is_p is_p' q x.reads (le-leb _ _ short) in
+    let sel = is_select_lem k u r p p' rest is_k is_u is_r is_p is_p' q x.reads in
+    let z = further_down d q w n' known_p' (subst (λ o. descends (tree_of d.policy.purposes) n' (or_zero o) ≡ true) (sym (ap (purpose_of d.policy) sel.0 ∙ known_p)) below) (unfold has_gaps leaves_gaps in ap has_gaps sel.2) c a (is_answered d c q a answers) in
     let s : Answered = z.0 in
     let q' : QueryForm = for_purpose w y.0 in
     let t : Answers d c (for_purpose w q) s = answered d c (for_purpose w q) s z.1 in

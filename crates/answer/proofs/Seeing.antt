@@ -84,12 +84,12 @@ free_unseen : (d : Policy) (q : QueryForm) (x : Source) (r : Row) (p : ℕ) → 
     → eqb r.table x.table ≡ true → row_withheld (open_to d p) (labelling_at d x.table) x.withholding r.labels ≡ false
     → (c : ℕ) → free d (some q) r c ≡ true → (member c x.named && cell_open (open_to d p) (labelling_at d x.table) r.labels c) ≡ false
 unfolding free holds_of any_of sees
-free_unseen d q x r p is-p is_x here w c f = go _ refl
+free_unseen d q x r p is_p is_x here w c f = go _ refl
   where
     go : (b : Bool) → (member c x.named && cell_open (open_to d p) (labelling_at d x.table) r.labels c) ≡ b
         → (member c x.named && cell_open (open_to d p) (labelling_at d x.table) r.labels c) ≡ false
     go false e = e
-    go true e = true_not_false f (simp (is-p, is_x, here, w, e))
+    go true e = true_not_false f (simp (is_p, is_x, here, w, e))
 
 module _ (d : Policy) (q : QueryForm) (known_party : unknown_party d q ≡ none) (known_columns : unknown_column d q ≡ none) where
   -- the table that the query reads

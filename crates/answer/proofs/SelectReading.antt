@@ -55,7 +55,7 @@ module _ (u r : Name) (rest : List ℕ) (is_u : is_name u ≡ true) (is_r : is_n
   body_reads : (p : Name) → is_name p ≡ true → query_body (wanted_rows select) (left 7 (32 ∷ (u ++ 32 ∷ (r ++ 32 ∷ (p ++ 32 ∷ rest)))))
       ≡ behind_purpose user_word role_word (record { at = purpose_at; bytes = p }) (left (purpose_at + length p) (32 ∷ rest))
   unfolding query_body behind_purpose user_word role_word purpose_at is_name_byte is_letter is_digit
-  body_reads p is-p = name_next _ 7 u _ is_u refl ∙ name_next _ (8 + length u) r _ is_r refl ∙ name_next _ (8 + length u + 1 + length r) p _ is-p refl
+  body_reads p is_p = name_next _ 7 u _ is_u refl ∙ name_next _ (8 + length u) r _ is_r refl ∙ name_next _ (8 + length u + 1 + length r) p _ is_p refl
 
 -- the form, behind the purpose
 unfoldable tail : Word → Word → Word → Reader QueryForm
@@ -74,8 +74,8 @@ form_reads : (k u r p : Name) (rest : List ℕ) → same_name k (ascii "select")
     → whole query_form (select_text k u r p rest)
     ≡ ended (tail (user_word u r rest is_u is_r) (role_word u r rest is_u is_r) (record { at = purpose_at u r rest is_u is_r; bytes = p }) (left (purpose_at u r rest is_u is_r + length p) (32 ∷ rest)))
 unfolding whole tail query_form bracketed byte select_text
-form_reads k u r p rest is_k is_u is_r is-p =
-    ap (λ o. ended (and_then o (λ x. byte 41 >> give x))) (keyword_select k (u ++ 32 ∷ (r ++ 32 ∷ (p ++ 32 ∷ rest))) is_k ∙ body_reads u r rest is_u is_r p is-p)
+form_reads k u r p rest is_k is_u is_r is_p =
+    ap (λ o. ended (and_then o (λ x. byte 41 >> give x))) (keyword_select k (u ++ 32 ∷ (r ++ 32 ∷ (p ++ 32 ∷ rest))) is_k ∙ body_reads u r rest is_u is_r p is_p)
 
 columns_agree : Agree (map_wanted placeless) (wanted_rows select) (wanted_rows select)
 unfolding wanted_rows column_list map_wanted
@@ -186,14 +186,14 @@ bounds_for : (w : Word) (q : QueryForm) → within_bounds (for_purpose w q) ≡ 
 unfolding within_bounds selected_words for_purpose
 bounds_for w q = refl
 
-module _ (k u r p p' : Name) (rest : List ℕ) (is_k : same_name k (ascii "select") ≡ true) (is_u : is_name u ≡ true) (is_r : is_name r ≡ true) (is-p : is_name p ≡ true) (is_p' : is_name p' ≡ true) where
+module _ (k u r p p' : Name) (rest : List ℕ) (is_k : same_name k (ascii "select") ≡ true) (is_u : is_name u ≡ true) (is_r : is_name r ≡ true) (is_p : is_name p ≡ true) (is_p' : is_name p' ≡ true) where
   -- the word of the other purpose
   unfoldable pub other : Word
   other = record { at = purpose_at u r rest is_u is_r; bytes = p' }
 
   -- the query for p is a select for p
   pub is_select_lem : (q : QueryForm) → query_of (select_text k u r p rest) ≡ some q → IsSelect (record { at = purpose_at u r rest is_u is_r; bytes = p }) q
-  is_select_lem q h = ended_always _ (tail_select _ _ _) _ q (sym (form_reads k u r p rest is_k is_u is_r is-p) ∙ (query_within _ q h).0)
+  is_select_lem q h = ended_always _ (tail_select _ _ _) _ q (sym (form_reads k u r p rest is_k is_u is_r is_p) ∙ (query_within _ q h).0)
 
   -- the same select for p' is a query, the same up to places but for its purpose
   pub other_query : (q : QueryForm) → query_of (select_text k u r p rest) ≡ some q → leb (length (select_text k u r p' rest)) 4096 ≡ true
@@ -205,7 +205,7 @@ module _ (k u r p p' : Name) (rest : List ℕ) (is_k : same_name k (ascii "selec
       let rw' : Word = role_word u r rest is_u is_r in
       let pw : Word = record { at = purpose_at u r rest is_u is_r; bytes = p } in
       let at : ℕ = purpose_at u r rest is_u is_r in
-      let x = both_ended other ((tail_agree uw rw' pw).on (at + length p) (at + length p') (32 ∷ rest)) q (sym (form_reads k u r p rest is_k is_u is_r is-p) ∙ w.0) in
+      let x = both_ended other ((tail_agree uw rw' pw).on (at + length p) (at + length p') (32 ∷ rest)) q (sym (form_reads k u r p rest is_k is_u is_r is_p) ∙ w.0) in
       let whole' : whole query_form (select_text k u r p' rest) ≡ some (for_purpose other x.0) = form_reads k u r p' rest is_k is_u is_r is_p' ∙ ap ended (tail_swap uw rw' pw other (left (at + length p') (32 ∷ rest))) ∙ x.1 in
       let bounds : within_bounds x.0 ≡ true = sym (bounds_placeless x.0) ∙ ap within_bounds (sym x.2) ∙ bounds_placeless q ∙ w.1 in
       (x.0, query_is _ _ l whole' (bounds_for other x.0 ∙ bounds), x.2)

@@ -41,9 +41,9 @@ module _ (y n : ℕ) where
       go : (b : Bool) → (year_held y && within 1 (days_in y) n) ≡ b → (year_held y && within 1 (days_in y) n) ≡ false
       go false e = e
       go true e =
-          let inYear : within 1 (days_in y) n ≡ true = and_right (year_held y) (within 1 (days_in y) n) e in
+          let in_year : within 1 (days_in y) n ≡ true = and_right (year_held y) (within 1 (days_in y) n) e in
           let f : Dated y n =
-          dated y n (and_left (year_held y) (within 1 (days_in y) n) e) (within_low 1 (days_in y) n inYear) (within_high 1 (days_in y) n inYear) in
+          dated y n (and_left (year_held y) (within 1 (days_in y) n) e) (within_low 1 (days_in y) n in_year) (within_high 1 (days_in y) n in_year) in
           absurd (let k : none ≡ some f.date = sym h ∙ f.found in let z : ◌≡◌ {A = ℕ} 0 1 = cc in omega arith)
 
 -- a date that has a rank exists, and one that has none does not

@@ -127,8 +127,8 @@ day_of_its_date y n d h = go (year_held y && within 1 (days_in y) n) refl
   where
     go : (b : Bool) → (year_held y && within 1 (days_in y) n) ≡ b → (d.year ≡ y) × (day_of_date d ≡ some n)
     go true e =
-        let inYear : within 1 (days_in y) n ≡ true = and_right (year_held y) (within 1 (days_in y) n) e in
-        let f : Dated y n = dated y n (and_left (year_held y) (within 1 (days_in y) n) e) (within_low 1 (days_in y) n inYear) (within_high 1 (days_in y) n inYear) in
+        let in_year : within 1 (days_in y) n ≡ true = and_right (year_held y) (within 1 (days_in y) n) e in
+        let f : Dated y n = dated y n (and_left (year_held y) (within 1 (days_in y) n) e) (within_low 1 (days_in y) n in_year) (within_high 1 (days_in y) n in_year) in
         let same : f.date ≡ d = some-injective _ _ (sym f.found ∙ h) in
         (subst (λ (x : Date). x.year ≡ y) same f.of_year, subst (λ (x : Date). day_of_date x ≡ some n) same f.back)
     go false e = absurd (let k : none ≡ some d = rw e at h in let z : ◌≡◌ {A = ℕ} 0 1 = cc in omega arith)

@@ -96,16 +96,16 @@ orders_agree a b ha hb =
     let r : Real a = real a ha in
     let s : Real b = real b hb in
     let by_month : Bool = lexed a.month b.month (ltb a.day b.day) in
-    let byNumber : Bool = ltb (day_number a) (day_number b) in
+    let by_number : Bool = ltb (day_number a) (day_number b) in
     three a.year b.year
-    (λ (h : a.year < b.year). lexed_less a.year b.year byNumber h ∙ sym (lexed_less a.year b.year by_month h))
+    (λ (h : a.year < b.year). lexed_less a.year b.year by_number h ∙ sym (lexed_less a.year b.year by_month h))
     (λ (h : a.year ≡ b.year).
     ap (λ (x : Bool). lexed a.year b.year x)
     (ap (λ (y : ℕ). ltb (day_number a) (total (take (b.month - 1) (months (leap y))) + b.day)) (sym h)
     ∙ in_year a.year a.month a.day b.month b.day
     r.month_low r.month_high r.day_low r.day_high
     s.month_low s.month_high s.day_low (subst (λ (y : ℕ). b.day ≤ month_days y b.month) (sym h) s.day_high)))
-    (λ (h : b.year < a.year). lexed_more a.year b.year byNumber h ∙ sym (lexed_more a.year b.year by_month h))
+    (λ (h : b.year < a.year). lexed_more a.year b.year by_number h ∙ sym (lexed_more a.year b.year by_month h))
 
 -- the order of ranks is the order of the pair of year and day number, and that of year, month and day
 pub rank_order :

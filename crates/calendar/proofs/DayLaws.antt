@@ -94,11 +94,11 @@ module _ (y n : ℕ) where
       landed m a b before after =
           let ks = months (leap y) in
           let t : ℕ = total (take (m - 1) ks) in
-          let inYear : n ≤ days_in y = omega (arith, total_take_le ks m, days_in_year y) in
+          let in_year : n ≤ days_in y = omega (arith, total_take_le ks m, days_in_year y) in
           let in_month : n - t ≤ get_or ks (m - 1) 0 = omega (arith, month_span y m a b) in
           let counted : 1 + (m - 1) ≡ m = omega arith in
           let summed : t + (n - t) ≡ n = omega arith in
-          rw (held, le-leb 1 n low, le-leb n (days_in y) inYear)
+          rw (held, le-leb 1 n low, le-leb n (days_in y) in_year)
           (subst (λ (x : ℕ). date_from y 1 ks x ≡ some (on y m (n - t))) summed
           (date_from_at y 1 ks (m - 1) (n - t) (omega (arith, twelve (leap y))) (omega arith) in_month
           ∙ ap (λ (x : ℕ). some (on y x (n - t))) counted))

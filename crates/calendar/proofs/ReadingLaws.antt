@@ -22,7 +22,7 @@ use Rattle.text.specs.Words.{read_number}
 use Rattle.text.specs.declared.numbers.Number.{Number}
 use Rattle.text.specs.declared.numbers.Number.TheVariants as number
 use Rattle.text.specs.declared.words.End.TheVariants.{At, Nothing}
-use Rattle.calendar.specs.declared.reading.DateRead.TheVariants as dateRead
+use Rattle.calendar.specs.declared.reading.DateRead.TheVariants as date_read
 
 -- a byte that the code reads stands before the end
 pub byte_here : (s : List ℕ) (i b k : ℕ) → 1 ≤ k → b ≡ get_or s i 0 → b ≡ k → (get_or s i 0 ≡ k) × (i < length s)
@@ -63,27 +63,27 @@ module _ (s : List ℕ) (at : ℕ) where
 -- ---- the date
 
 module _ (s : List ℕ) (at : ℕ) where
-  pub date_shut : (get_or s at 0 ≡ 40 → ⊥) → dateRead.Nothing ≡ date_read_of (date_text (from s at))
+  pub date_shut : (get_or s at 0 ≡ 40 → ⊥) → date_read.Nothing ≡ date_read_of (date_text (from s at))
   unfolding date_text bracketed
   date_shut h = rw (byte_at_refused s at 40 h)
 
   module _ (opened : get_or s at 0 ≡ 40) where
-    pub year_wrong : natural (from s (at + 1)) ≡ none → dateRead.Nothing ≡ date_read_of (date_text (from s at))
+    pub year_wrong : natural (from s (at + 1)) ≡ none → date_read.Nothing ≡ date_read_of (date_text (from s at))
     unfolding date_text bracketed date_parts
     year_wrong h = rw (byte_at_read s at 40 opened, h)
 
     module _ (a y : ℕ) (first : natural (from s (at + 1)) ≡ some (y, from s a)) where
-      pub month_wrong : next natural (from s a) ≡ none → dateRead.Nothing ≡ date_read_of (date_text (from s at))
+      pub month_wrong : next natural (from s a) ≡ none → date_read.Nothing ≡ date_read_of (date_text (from s at))
       unfolding date_text bracketed date_parts
       month_wrong h = rw (byte_at_read s at 40 opened, first, h)
 
       module _ (b m : ℕ) (second : next natural (from s a) ≡ some (m, from s b)) where
-        pub day_wrong : next natural (from s b) ≡ none → dateRead.Nothing ≡ date_read_of (date_text (from s at))
+        pub day_wrong : next natural (from s b) ≡ none → date_read.Nothing ≡ date_read_of (date_text (from s at))
         unfolding date_text bracketed date_parts
         day_wrong h = rw (byte_at_read s at 40 opened, first, second, h)
 
         module _ (e d : ℕ) (third : next natural (from s b) ≡ some (d, from s e)) where
-          pub date_open : (get_or s e 0 ≡ 41 → ⊥) → dateRead.Nothing ≡ date_read_of (date_text (from s at))
+          pub date_open : (get_or s e 0 ≡ 41 → ⊥) → date_read.Nothing ≡ date_read_of (date_text (from s at))
           unfolding date_text bracketed date_parts
           date_open h = rw (byte_at_read s at 40 opened, first, second, third, byte_at_refused s e 41 h)
 
@@ -93,25 +93,25 @@ module _ (s : List ℕ) (at : ℕ) where
 
 -- ---- the end alone, and the rank alone
 
-ended_at_lem : (e : ℕ) (o : Option ℕ) (f r : ℕ) → ranked_at e o ≡ dateRead.At f r → f ≡ e
+ended_at_lem : (e : ℕ) (o : Option ℕ) (f r : ℕ) → ranked_at e o ≡ date_read.At f r → f ≡ e
 ended_at_lem e none f r h = absurd (let z : ◌≡◌ {A = ℕ} 0 1 = cc in omega arith)
 ended_at_lem e (some k) f r h = cc
 
-ended_none : (e : ℕ) (o : Option ℕ) (f : ℕ) → ranked_at e o ≡ dateRead.NoSuchDate f → f ≡ e
+ended_none : (e : ℕ) (o : Option ℕ) (f : ℕ) → ranked_at e o ≡ date_read.NoSuchDate f → f ≡ e
 ended_none e none f h = cc
 ended_none e (some k) f h = absurd (let z : ◌≡◌ {A = ℕ} 0 1 = cc in omega arith)
 
-ranked_at_lem : (e : ℕ) (o : Option ℕ) (f r : ℕ) → ranked_at e o ≡ dateRead.At f r → r ≡ or_zero o
+ranked_at_lem : (e : ℕ) (o : Option ℕ) (f r : ℕ) → ranked_at e o ≡ date_read.At f r → r ≡ or_zero o
 unfolding or_zero
 ranked_at_lem e none f r h = absurd (let z : ◌≡◌ {A = ℕ} 0 1 = cc in omega arith)
 ranked_at_lem e (some k) f r h = cc
 
-ranked_none : (e : ℕ) (o : Option ℕ) (f : ℕ) → ranked_at e o ≡ dateRead.NoSuchDate f → 0 ≡ or_zero o
+ranked_none : (e : ℕ) (o : Option ℕ) (f : ℕ) → ranked_at e o ≡ date_read.NoSuchDate f → 0 ≡ or_zero o
 unfolding or_zero
 ranked_none e none f h = refl
 ranked_none e (some k) f h = absurd (let z : ◌≡◌ {A = ℕ} 0 1 = cc in omega arith)
 
-ranked_some : (e : ℕ) (o : Option ℕ) → ranked_at e o ≡ dateRead.Nothing → ⊥
+ranked_some : (e : ℕ) (o : Option ℕ) → ranked_at e o ≡ date_read.Nothing → ⊥
 ranked_some e none h = let z : ◌≡◌ {A = ℕ} 0 1 = cc in omega arith
 ranked_some e (some k) h = let z : ◌≡◌ {A = ℕ} 0 1 = cc in omega arith
 
@@ -120,26 +120,26 @@ abbrev pub rank_read : Option (Date × Left) → ℕ
 rank_read o = or_zero (bind o (λ r. date_rank r.0))
 
 module _ (o : Option (Date × Left)) where
-  pub date_at : (e r : ℕ) → date_read_of o ≡ dateRead.At e r → (At e ≡ word_end o) × (r ≡ rank_read o)
+  pub date_at : (e r : ℕ) → date_read_of o ≡ date_read.At e r → (At e ≡ word_end o) × (r ≡ rank_read o)
   unfolding bind
   date_at e r h = go o h
     where
-      go : (o : Option (Date × Left)) → date_read_of o ≡ dateRead.At e r → (At e ≡ word_end o) × (r ≡ rank_read o)
+      go : (o : Option (Date × Left)) → date_read_of o ≡ date_read.At e r → (At e ≡ word_end o) × (r ≡ rank_read o)
       go none k = absurd (let z : ◌≡◌ {A = ℕ} 0 1 = cc in omega arith)
       go (some x) k = (ap At (ended_at_lem x.1.at (date_rank x.0) e r k), ranked_at_lem x.1.at (date_rank x.0) e r k)
 
-  pub date_missing : (e : ℕ) → date_read_of o ≡ dateRead.NoSuchDate e → (At e ≡ word_end o) × (0 ≡ rank_read o)
+  pub date_missing : (e : ℕ) → date_read_of o ≡ date_read.NoSuchDate e → (At e ≡ word_end o) × (0 ≡ rank_read o)
   unfolding bind
   date_missing e h = go o h
     where
-      go : (o : Option (Date × Left)) → date_read_of o ≡ dateRead.NoSuchDate e → (At e ≡ word_end o) × (0 ≡ rank_read o)
+      go : (o : Option (Date × Left)) → date_read_of o ≡ date_read.NoSuchDate e → (At e ≡ word_end o) × (0 ≡ rank_read o)
       go none k = absurd (let z : ◌≡◌ {A = ℕ} 0 1 = cc in omega arith)
       go (some x) k = (ap At (ended_none x.1.at (date_rank x.0) e k), ranked_none x.1.at (date_rank x.0) e k)
 
-  pub date_nothing : date_read_of o ≡ dateRead.Nothing → (Nothing ≡ word_end o) × (0 ≡ rank_read o)
+  pub date_nothing : date_read_of o ≡ date_read.Nothing → (Nothing ≡ word_end o) × (0 ≡ rank_read o)
   unfolding bind or_zero
   date_nothing h = go o h
     where
-      go : (o : Option (Date × Left)) → date_read_of o ≡ dateRead.Nothing → (Nothing ≡ word_end o) × (0 ≡ rank_read o)
+      go : (o : Option (Date × Left)) → date_read_of o ≡ date_read.Nothing → (Nothing ≡ word_end o) × (0 ≡ rank_read o)
       go none k = (refl, refl)
       go (some x) k = absurd (ranked_some x.1.at (date_rank x.0) k)

@@ -15,7 +15,7 @@ use Rattle.csv.specs.Scanned.{field_of, field_size, field_unfit, record_read_of,
 use Rattle.csv.specs.Fields.{Field, field}
 use Rattle.csv.specs.Records.{fields, fields_up_to, line_ending, record_end}
 use Rattle.csv.specs.declared.fields.FieldRead.TheVariants as field_read
-use Rattle.csv.specs.declared.records.RecordRead.TheVariants as recordRead
+use Rattle.csv.specs.declared.records.RecordRead.TheVariants as record_read
 use Rattle.csv.specs.declared.records.RecordRead.{RecordRead}
 use Rattle.lists.specs.Lists.{is_empty}
 use Rattle.text.proofs.Lefts.{before_end, drop_here, first_drop}
@@ -228,11 +228,11 @@ pub record RecordGot (s : List ℕ) (at e n z u : ℕ) : Type 0 where
   pub inside : at ≤ length s → e ≤ length s
   pub small : z ≤ e - at + 1
 
-pub record_got : (s : List ℕ) (at e n z u : ℕ) → record_read_of (fields (from s at)) ≡ recordRead.At e n z u → RecordGot s at e n z u
+pub record_got : (s : List ℕ) (at e n z u : ℕ) → record_read_of (fields (from s at)) ≡ record_read.At e n z u → RecordGot s at e n z u
 unfolding fields
 record_got s at e n z u h = go (fields (from s at)) refl h
   where
-    go : (o : Option (List Field × Left)) → fields (from s at) ≡ o → record_read_of o ≡ recordRead.At e n z u → RecordGot s at e n z u
+    go : (o : Option (List Field × Left)) → fields (from s at) ≡ o → record_read_of o ≡ record_read.At e n z u → RecordGot s at e n z u
     go none f k = let x : ◌≡◌ {A = ℕ} 0 1 = cc in absurd (omega arith)
     go (some r) f k =
         let p = eats_fields (from s at) r.0 r.1 f in
@@ -251,10 +251,10 @@ record_got s at e n z u h = go (fields (from s at)) refl h
           small = omega (arith, a, d, left_past s at p);
         }
 
-pub record_lost : (s : List ℕ) (at : ℕ) → record_read_of (fields (from s at)) ≡ recordRead.Malformed → fields (from s at) ≡ none
+pub record_lost : (s : List ℕ) (at : ℕ) → record_read_of (fields (from s at)) ≡ record_read.Malformed → fields (from s at) ≡ none
 record_lost s at h = go (fields (from s at)) h
   where
-    go : (o : Option (List Field × Left)) → record_read_of o ≡ recordRead.Malformed → o ≡ none
+    go : (o : Option (List Field × Left)) → record_read_of o ≡ record_read.Malformed → o ≡ none
     go none k = refl
     go (some r) k = let x : ◌≡◌ {A = ℕ} 0 1 = cc in absurd (omega arith)
 
@@ -262,8 +262,8 @@ record_lost s at h = go (fields (from s at)) h
 
 -- what was gathered before, and what comes from the fields that are left
 abbrev pub gathered : ℕ → ℕ → ℕ → Option (List Field × Left) → RecordRead
-gathered n z u none = recordRead.Malformed
-gathered n z u (some r) = recordRead.At r.1.at (n + length r.0) (z + size_of r.0) (u + unfit_in r.0)
+gathered n z u none = record_read.Malformed
+gathered n z u (some r) = record_read.At r.1.at (n + length r.0) (z + size_of r.0) (u + unfit_in r.0)
 
 gather_none : (o : Option (List Field × Left)) → gathered 0 0 0 o ≡ record_read_of o
 gather_none none = refl
@@ -314,7 +314,7 @@ module _ (s : List ℕ) (at : ℕ) {i n z u : ℕ} (g : Gathering s at i n z u) 
   now_at : gathered n z u (fields_up_to (suc fueled.0) (from s i)) ≡ record_read_of (fields (from s at))
   now_at = ap (λ (k : ℕ). gathered n z u (fields_up_to k (from s i))) (sym fueled.1) ∙ g.same
 
-  pub gather_broken : field (from s i) ≡ none → recordRead.Malformed ≡ record_read_of (fields (from s at))
+  pub gather_broken : field (from s i) ≡ none → record_read.Malformed ≡ record_read_of (fields (from s at))
   gather_broken f = sym (ap (gathered n z u) (fields_broken s i fueled.0 f)) ∙ now_at
 
   module _ {e x y : ℕ} (f : FieldGot s i e x y) where
@@ -339,22 +339,22 @@ module _ (s : List ℕ) (at : ℕ) {i n z u : ℕ} (g : Gathering s at i n z u) 
     last_at : (get_or s e 0 ≡ 44 → ⊥) → gathered n z u (and_then (record_end (from s e)) (λ w. give (f.v ∷ []))) ≡ record_read_of (fields (from s at))
     last_at c = sym (ap (gathered n z u) (fields_last s i f.v e f.read fueled.0 c)) ∙ now_at
 
-    pub gather_wrong : (get_or s e 0 ≡ 44 → ⊥) → word_end (record_end (from s e)) ≡ Nothing → recordRead.Malformed ≡ record_read_of (fields (from s at))
+    pub gather_wrong : (get_or s e 0 ≡ 44 → ⊥) → word_end (record_end (from s e)) ≡ Nothing → record_read.Malformed ≡ record_read_of (fields (from s at))
     gather_wrong c h = go (record_end (from s e)) h (last_at c)
       where
-        go : (o : Option (Unit {0} × Left)) → word_end o ≡ Nothing → gathered n z u (and_then o (λ w. give (f.v ∷ []))) ≡ record_read_of (fields (from s at)) → recordRead.Malformed ≡ record_read_of (fields (from s at))
+        go : (o : Option (Unit {0} × Left)) → word_end o ≡ Nothing → gathered n z u (and_then o (λ w. give (f.v ∷ []))) ≡ record_read_of (fields (from s at)) → record_read.Malformed ≡ record_read_of (fields (from s at))
         go none k q = q
         go (some r) k q = let x : ◌≡◌ {A = ℕ} 0 1 = cc in absurd (omega arith)
 
-    pub gather_last : (get_or s e 0 ≡ 44 → ⊥) → {p : ℕ} → word_end (record_end (from s e)) ≡ At p → recordRead.At p (n + 1) (z + x) (u + y) ≡ record_read_of (fields (from s at))
+    pub gather_last : (get_or s e 0 ≡ 44 → ⊥) → {p : ℕ} → word_end (record_end (from s e)) ≡ At p → record_read.At p (n + 1) (z + x) (u + y) ≡ record_read_of (fields (from s at))
     gather_last c {p} h = go (record_end (from s e)) h (last_at c)
       where
         go : (o : Option (Unit {0} × Left)) → word_end o ≡ At p → gathered n z u (and_then o (λ w. give (f.v ∷ []))) ≡ record_read_of (fields (from s at))
-            → recordRead.At p (n + 1) (z + x) (u + y) ≡ record_read_of (fields (from s at))
+            → record_read.At p (n + 1) (z + x) (u + y) ≡ record_read_of (fields (from s at))
         go none k q = let x : ◌≡◌ {A = ℕ} 0 1 = cc in absurd (omega arith)
         go (some r) k q =
             let a : p ≡ r.1.at = cc in
             rw (a, f.size, f.unfit) (sym (gather_one n z u f.v (some ([], r.1)) ∙ sum) ∙ q)
           where
-            sum : gathered (n + 1) (z + field_size f.v) (u + field_unfit f.v) (some ([], r.1)) ≡ recordRead.At r.1.at (n + 1) (z + field_size f.v) (u + field_unfit f.v)
+            sum : gathered (n + 1) (z + field_size f.v) (u + field_unfit f.v) (some ([], r.1)) ≡ record_read.At r.1.at (n + 1) (z + field_size f.v) (u + field_unfit f.v)
             sum = unfold size_of unfit_in in rw (add-zero (n + 1), add-zero (z + field_size f.v), add-zero (u + field_unfit f.v))

@@ -6,7 +6,7 @@ use Rattle.csv.specs.Records.{Entry, Split, first_unfit, malformed, split}
 use Rattle.csv.specs.declared.fields.FieldRead.{FieldRead}
 use Rattle.csv.specs.declared.fields.FieldRead.TheVariants as field_read
 use Rattle.csv.specs.declared.records.RecordRead.{RecordRead}
-use Rattle.csv.specs.declared.records.RecordRead.TheVariants as recordRead
+use Rattle.csv.specs.declared.records.RecordRead.TheVariants as record_read
 use Rattle.csv.specs.declared.records.Scan.{Scan}
 use Rattle.csv.specs.declared.records.Scan.TheVariants as scan
 use Rattle.text.specs.Bytes.{is_digit}
@@ -50,8 +50,8 @@ unfit_in (v ∷ vs) = field_unfit v + unfit_in vs
 
 -- where a record ends, how many fields it has, and these two
 abbrev pub record_read_of : Option (List Field × Left) → RecordRead
-record_read_of none = recordRead.Malformed
-record_read_of (some r) = recordRead.At r.1.at (length r.0) (size_of r.0) (unfit_in r.0)
+record_read_of none = record_read.Malformed
+record_read_of (some r) = record_read.At r.1.at (length r.0) (size_of r.0) (unfit_in r.0)
 
 -- the bytes that the fields of all records take
 unfoldable pub total_size : List Entry → ℕ

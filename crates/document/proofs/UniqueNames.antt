@@ -89,9 +89,9 @@ marks_differ : (d : Policy) (l : Word) (ps qs : List Word) → taken d (label l 
     → NoTwoSame eqb (marks_of d ps qs).allowed × NoTwoSame eqb (marks_of d ps qs).denied
 unfolding taken unknown marks_of
 marks_differ d l ps qs t k =
-    let in-sets = leftmost_tail _ _ t in
+    let in_sets = leftmost_tail _ _ t in
     let known_all = all_parts (λ w. there (purpose_of d w)) ps qs (missing_none _ (ps ++ qs) k) in
-    (set_differs d ps (leftmost_head _ _ in-sets) known_all.0, set_differs d qs (leftmost_head _ _ (leftmost_tail _ _ in-sets)) known_all.1)
+    (set_differs d ps (leftmost_head _ _ in_sets) known_all.0, set_differs d qs (leftmost_head _ _ (leftmost_tail _ _ in_sets)) known_all.1)
 
 -- one more label
 sets_grown : (ls : List Label) (l : Label) → ((i : ℕ) (x : Label) → get_elem? ls i ≡ some x → NoTwoSame eqb x.marks.allowed × NoTwoSame eqb x.marks.denied)

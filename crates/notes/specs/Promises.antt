@@ -63,9 +63,9 @@ LabelNoteFaultPromise text labels tables rows c line t l strong? r =
     ((t ≤ length line) × (l ≤ length line)) line (note (word_of line t) (note_by strong? (word_of line l))) 0 1 r
 
 -- note_storing::store_label_note: stores the label of the name at l of the line for the table of the name at t
-abbrev pub StoreLabelNotePromise : (text labels : List ℕ) (labelsCount : ℕ) (tables tables' : List ℕ) (k : ℕ) (line : List ℕ) (t l : ℕ) (strong? : Bool) → Type 0
-StoreLabelNotePromise text labels labelsCount tables tables' k line t l strong? =
-    (d : Doc) (sets : List ℕ) → Labels text labels sets labelsCount d.policy.labels → Tables text tables k d.policy.tables → Notes tables k d.policy.notes →
+abbrev pub StoreLabelNotePromise : (text labels : List ℕ) (labels_count : ℕ) (tables tables' : List ℕ) (k : ℕ) (line : List ℕ) (t l : ℕ) (strong? : Bool) → Type 0
+StoreLabelNotePromise text labels labels_count tables tables' k line t l strong? =
+    (d : Doc) (sets : List ℕ) → Labels text labels sets labels_count d.policy.labels → Tables text tables k d.policy.tables → Notes tables k d.policy.notes →
     Passes d line (note (word_of line t) (note_by strong? (word_of line l))) →
     Tables text tables' k d.policy.tables × Notes tables' k (add d (note (word_of line t) (note_by strong? (word_of line l)))).policy.notes
 

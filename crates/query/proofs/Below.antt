@@ -48,16 +48,16 @@ grant_below d p q below c u g = go (get_elem? d.users u)
     go none e = unfold bind in (g, e)
     go (some x) e = unfold bind in find_index_from_mono 0 (authorises d c x p) (authorises d c x q) (authorised x) d.grants g e
 
-module _ (d : Policy) (q : QueryForm) (w : Word) (p : ℕ) (is-p : purpose_of d w ≡ some p)
+module _ (d : Policy) (q : QueryForm) (w : Word) (p : ℕ) (is_p : purpose_of d w ≡ some p)
     (below : descends (tree_of d.purposes) p (or_zero (purpose_of d q.purpose)) ≡ true) where
   pub open_down : Wider (open_to d (or_zero (purpose_of d q.purpose))) (open_to d p)
-  open_down = open_below d (or_zero (purpose_of d q.purpose)) p (purpose_inside d w p is-p) below
+  open_down = open_below d (or_zero (purpose_of d q.purpose)) p (purpose_inside d w p is_p) below
 
   pub party_down : unknown_party d q ≡ none → unknown_party d (for_purpose w q) ≡ none
   unfolding unknown_party for_purpose there
   party_down h =
       leftmost_none _ _ (leftmost_head _ _ h) (leftmost_none _ _ (leftmost_head _ _ (leftmost_tail _ _ h))
-      (leftmost_none _ _ (unless_true (there (purpose_of d w)) w (rw is-p)) leftmost_nil))
+      (leftmost_none _ _ (unless_true (there (purpose_of d w)) w (rw is_p)) leftmost_nil))
 
   pub parts_down : closed_part d q ≡ none → closed_part d (for_purpose w q) ≡ none
   unfolding closed_part open_for for_purpose named_words named_refs selected_refs tested_refs selected_words or_zero
@@ -65,10 +65,10 @@ module _ (d : Policy) (q : QueryForm) (w : Word) (p : ℕ) (is-p : purpose_of d 
       let s : Scheme ℕ = labelling_of d q.table in
       let cs : List Column = columns_of d q.table in
       let here : Opening = open_to d (or_zero (purpose_of d q.purpose)) in
-      rw is-p (leftmost_none _ _
+      rw is_p (leftmost_none _ _
       (unless_true _ _ (table_open_more here (open_to d p) open_down s (unless_none _ _ (leftmost_head _ _ h))))
       (leftmost_none _ _ (missing_mono _ _ (λ v. column_open_more here (open_to d p) open_down s (or_zero (column_of cs v))) (named_words q) (leftmost_head _ _ (leftmost_tail _ _ h))) leftmost_nil))
 
   pub resolved_down : resolved d (for_purpose w q) ≡ to_purpose p (resolved d q)
   unfolding resolved source_of withholding_refs named_refs selected_refs tested_refs selected_words for_purpose to_purpose or_zero
-  resolved_down = rw is-p
+  resolved_down = rw is_p

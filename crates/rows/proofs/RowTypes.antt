@@ -11,7 +11,7 @@ use Rattle.calendar.proofs.DateValues.{written_date}
 use Rattle.calendar.specs.Calendar.{Date, date_rank, day_number, day_of_date, exists, pair_rank}
 use Rattle.calendar.specs.DateText.{date_of, date_text, is_date}
 use Rattle.calendar.specs.Found.{date_read_of, ranked_at}
-use Rattle.calendar.specs.declared.reading.DateRead.TheVariants as dateRead
+use Rattle.calendar.specs.declared.reading.DateRead.TheVariants as date_read
 use Rattle.condition.specs.Kinds.{Kind, dates, has_kind, names, numbers}
 use Rattle.document.specs.AmountFaults.{date_exists, in_order}
 use Rattle.document.specs.TypeFaults.{cell_has_kind}
@@ -87,42 +87,42 @@ rank_there d = go (exists d)
     go true = refl
     go false = refl
 
-ranked : (e : ℕ) (o : Option ℕ) (f r : ℕ) → ranked_at e o ≡ dateRead.At f r → there o ≡ true
+ranked : (e : ℕ) (o : Option ℕ) (f r : ℕ) → ranked_at e o ≡ date_read.At f r → there o ≡ true
 unfolding there
 ranked e none f r h = absurd (let z : ◌≡◌ {A = ℕ} 0 1 = cc in omega arith)
 ranked e (some k) f r h = refl
 
-unranked : (e : ℕ) (o : Option ℕ) (f : ℕ) → ranked_at e o ≡ dateRead.NoSuchDate f → there o ≡ false
+unranked : (e : ℕ) (o : Option ℕ) (f : ℕ) → ranked_at e o ≡ date_read.NoSuchDate f → there o ≡ false
 unfolding there
 unranked e none f h = refl
 unranked e (some k) f h = absurd (let z : ◌≡◌ {A = ℕ} 0 1 = cc in omega arith)
 
-undated : (e : ℕ) (o : Option ℕ) → ranked_at e o ≡ dateRead.Nothing → ⊥
+undated : (e : ℕ) (o : Option ℕ) → ranked_at e o ≡ date_read.Nothing → ⊥
 undated e none h = let z : ◌≡◌ {A = ℕ} 0 1 = cc in omega arith
 undated e (some k) h = let z : ◌≡◌ {A = ℕ} 0 1 = cc in omega arith
 
 module _ (s : List ℕ) (at : ℕ) where
-  pub date_real : (e r : ℕ) → date_read_of (date_text (from s at)) ≡ dateRead.At e r → date_exists (date_of (written_at s at)) ≡ true
+  pub date_real : (e r : ℕ) → date_read_of (date_text (from s at)) ≡ date_read.At e r → date_exists (date_of (written_at s at)) ≡ true
   unfolding date_exists
   date_real e r h = ap date_exists (written_date s at) ∙ go (date_text (from s at)) h
     where
-      go : (o : Option (Date × Left)) → date_read_of o ≡ dateRead.At e r → date_exists (map (λ x. x.0) o) ≡ true
+      go : (o : Option (Date × Left)) → date_read_of o ≡ date_read.At e r → date_exists (map (λ x. x.0) o) ≡ true
       go none q = refl
       go (some x) q = sym (rank_there x.0) ∙ ranked x.1.at (date_rank x.0) e r q
 
-  pub date_unreal : (e : ℕ) → date_read_of (date_text (from s at)) ≡ dateRead.NoSuchDate e → date_exists (date_of (written_at s at)) ≡ false
+  pub date_unreal : (e : ℕ) → date_read_of (date_text (from s at)) ≡ date_read.NoSuchDate e → date_exists (date_of (written_at s at)) ≡ false
   unfolding date_exists
   date_unreal e h = ap date_exists (written_date s at) ∙ go (date_text (from s at)) h
     where
-      go : (o : Option (Date × Left)) → date_read_of o ≡ dateRead.NoSuchDate e → date_exists (map (λ x. x.0) o) ≡ false
+      go : (o : Option (Date × Left)) → date_read_of o ≡ date_read.NoSuchDate e → date_exists (map (λ x. x.0) o) ≡ false
       go none q = let z : ◌≡◌ {A = ℕ} 0 1 = cc in absurd (omega arith)
       go (some x) q = sym (rank_there x.0) ∙ unranked x.1.at (date_rank x.0) e q
 
   -- any other value
-  pub date_none : date_read_of (date_text (from s at)) ≡ dateRead.Nothing → date_exists (date_of (written_at s at)) ≡ true
+  pub date_none : date_read_of (date_text (from s at)) ≡ date_read.Nothing → date_exists (date_of (written_at s at)) ≡ true
   unfolding date_exists
   date_none h = ap date_exists (written_date s at) ∙ go (date_text (from s at)) h
     where
-      go : (o : Option (Date × Left)) → date_read_of o ≡ dateRead.Nothing → date_exists (map (λ x. x.0) o) ≡ true
+      go : (o : Option (Date × Left)) → date_read_of o ≡ date_read.Nothing → date_exists (map (λ x. x.0) o) ≡ true
       go none q = refl
       go (some x) q = absurd (undated x.1.at (date_rank x.0) q)

@@ -46,9 +46,9 @@ pub record DatesJudged (line : List ℕ) (at : ℕ) (r : Verdict) : Type 0 where
   pub told : r ≡ date_verdict absent
 
 -- faults::row_fault: what is wrong with `(row T item ..)`, the table's name at t and the items from `is` on, where there are k rows already
-abbrev pub RowFaultPromise : (text labels : List ℕ) (labelsCount : ℕ) (tables : List ℕ) (tables_count k : ℕ) (line : List ℕ) (t is : ℕ) (r : Verdict) → Type 0
-RowFaultPromise text labels labelsCount tables tables_count k line t is r =
-    Judges (λ d. ((sets : List ℕ) × Labels text labels sets labelsCount d.policy.labels) × Tables text tables tables_count d.policy.tables × (k ≡ length d.rows)) ((t ≤ length line) × (is ≤ length line)) line (row (word_of line t) (items_at line is)) k 1024 r
+abbrev pub RowFaultPromise : (text labels : List ℕ) (labels_count : ℕ) (tables : List ℕ) (tables_count k : ℕ) (line : List ℕ) (t is : ℕ) (r : Verdict) → Type 0
+RowFaultPromise text labels labels_count tables tables_count k line t is r =
+    Judges (λ d. ((sets : List ℕ) × Labels text labels sets labels_count d.policy.labels) × Tables text tables tables_count d.policy.tables × (k ≡ length d.rows)) ((t ≤ length line) × (is ≤ length line)) line (row (word_of line t) (items_at line is)) k 1024 r
 
 -- steps::step_row: a row of the table whose name stands at t, with its items from a place on
 abbrev pub StepRowPromise : (text : List ℕ) (at : ℕ) (line labels tables rows rows' : List ℕ) (c : Counts) (t items : ℕ) (s : Step) → Type 0
@@ -59,37 +59,37 @@ StepRowPromise text at line labels tables rows rows' c t items s =
 
 -- storing::store_cells: stores the cells `(v L)` that stand from a place of the line on as the values of row k and its labels behind m of them, and
 -- gives their number
-abbrev pub StoreCellsPromise : (text labels : List ℕ) (labelsCount : ℕ) (rows rows' : List ℕ) (k at : ℕ) (line : List ℕ) (is m r : ℕ) → Type 0
-StoreCellsPromise text labels labelsCount rows rows' k at line is m r =
-    (d : Policy) (sets ls : List ℕ) → LineAt text at line → Labels text labels sets labelsCount d.labels → k < 1024 → length (cells_at line is) ≤ 16 →
+abbrev pub StoreCellsPromise : (text labels : List ℕ) (labels_count : ℕ) (rows rows' : List ℕ) (k at : ℕ) (line : List ℕ) (is m r : ℕ) → Type 0
+StoreCellsPromise text labels labels_count rows rows' k at line is m r =
+    (d : Policy) (sets ls : List ℕ) → LineAt text at line → Labels text labels sets labels_count d.labels → k < 1024 → length (cells_at line is) ≤ 16 →
     FillingRow text rows k 0 m [] ls →
     RowFilled text rows rows' k r (m + r) (map (λ g. g.0.bytes) (cells_at line is)) (ls ++ map (λ g. or_zero (label_of d g.1)) (cells_at line is))
 
 -- storing::store_by_row: stores row k of a table, with the label that stands first from a place of the line on, and the values behind it
-abbrev pub StoreByRowPromise : (text labels : List ℕ) (labelsCount : ℕ) (rows rows' : List ℕ) (k at : ℕ) (line : List ℕ) (table is : ℕ) → Type 0
-StoreByRowPromise text labels labelsCount rows rows' k at line table is =
-    (d : Policy) (sets : List ℕ) (rs : List Row) (ws : List Word) → LineAt text at line → Labels text labels sets labelsCount d.labels →
+abbrev pub StoreByRowPromise : (text labels : List ℕ) (labels_count : ℕ) (rows rows' : List ℕ) (k at : ℕ) (line : List ℕ) (table is : ℕ) → Type 0
+StoreByRowPromise text labels labels_count rows rows' k at line table is =
+    (d : Policy) (sets : List ℕ) (rs : List Row) (ws : List Word) → LineAt text at line → Labels text labels sets labels_count d.labels →
     Rows text rows k rs → k < 1024 → values_behind_label plain_values (items_at line is) ≡ some ws → length ws ≤ 16 →
     Rows text rows' (k + 1) (rs ++ (record { table = table; values = map (λ w. w.bytes) ws; labels = map (λ w. or_zero (label_of d w)) (leading_name (items_at line is)) } ∷ []))
 
 -- storing::store_by_cell: stores row k of a table, with the values from a place of the line on and a label at each
-abbrev pub StoreByCellPromise : (text labels : List ℕ) (labelsCount : ℕ) (rows rows' : List ℕ) (k at : ℕ) (line : List ℕ) (table is : ℕ) → Type 0
-StoreByCellPromise text labels labelsCount rows rows' k at line table is =
-    (d : Policy) (sets : List ℕ) (rs : List Row) (ws : List Word) → LineAt text at line → Labels text labels sets labelsCount d.labels →
+abbrev pub StoreByCellPromise : (text labels : List ℕ) (labels_count : ℕ) (rows rows' : List ℕ) (k at : ℕ) (line : List ℕ) (table is : ℕ) → Type 0
+StoreByCellPromise text labels labels_count rows rows' k at line table is =
+    (d : Policy) (sets : List ℕ) (rs : List Row) (ws : List Word) → LineAt text at line → Labels text labels sets labels_count d.labels →
     Rows text rows k rs → k < 1024 → bracket_values (items_at line is) ≡ some ws → length ws ≤ 16 →
     Rows text rows' (k + 1) (rs ++ (record { table = table; values = map (λ w. w.bytes) ws; labels = map (λ w. or_zero (label_of d w)) (bracket_labels (items_at line is)) } ∷ []))
 
 -- storing::store_nested: stores row k of a table, with the label that stands first from a place of the line on, and the values behind it with a label at
 -- each
-abbrev pub StoreNestedPromise : (text labels : List ℕ) (labelsCount : ℕ) (rows rows' : List ℕ) (k at : ℕ) (line : List ℕ) (table is : ℕ) → Type 0
-StoreNestedPromise text labels labelsCount rows rows' k at line table is =
-    (d : Policy) (sets : List ℕ) (rs : List Row) (ws : List Word) → LineAt text at line → Labels text labels sets labelsCount d.labels →
+abbrev pub StoreNestedPromise : (text labels : List ℕ) (labels_count : ℕ) (rows rows' : List ℕ) (k at : ℕ) (line : List ℕ) (table is : ℕ) → Type 0
+StoreNestedPromise text labels labels_count rows rows' k at line table is =
+    (d : Policy) (sets : List ℕ) (rs : List Row) (ws : List Word) → LineAt text at line → Labels text labels sets labels_count d.labels →
     Rows text rows k rs → k < 1024 → values_behind_label bracket_values (items_at line is) ≡ some ws → length ws ≤ 16 →
     Rows text rows' (k + 1) (rs ++ (record { table = table; values = map (λ w. w.bytes) ws; labels = map (λ w. or_zero (label_of d w)) (leading_name (items_at line is) ++ bracket_labels (items_at line is)) } ∷ []))
 
 -- storing::store_row: stores the row of the table of the name at t of the line, behind k of them, with the items from `is` on
-abbrev pub StoreRowPromise : (text labels : List ℕ) (labelsCount : ℕ) (tables : List ℕ) (tables_count : ℕ) (rows rows' : List ℕ) (k at : ℕ) (line : List ℕ) (t is : ℕ) → Type 0
-StoreRowPromise text labels labelsCount tables tables_count rows rows' k at line t is =
-    (d : Doc) (sets : List ℕ) → LineAt text at line → Labels text labels sets labelsCount d.policy.labels →
+abbrev pub StoreRowPromise : (text labels : List ℕ) (labels_count : ℕ) (tables : List ℕ) (tables_count : ℕ) (rows rows' : List ℕ) (k at : ℕ) (line : List ℕ) (t is : ℕ) → Type 0
+StoreRowPromise text labels labels_count tables tables_count rows rows' k at line t is =
+    (d : Doc) (sets : List ℕ) → LineAt text at line → Labels text labels sets labels_count d.policy.labels →
     Tables text tables tables_count d.policy.tables → Rows text rows k d.rows → Passes d line (row (word_of line t) (items_at line is)) →
     Rows text rows' (k + 1) (add d (row (word_of line t) (items_at line is))).rows

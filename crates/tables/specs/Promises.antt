@@ -50,15 +50,15 @@ StepTablePromise text at line labels tables tables' c t scheme l cs s =
     Follows (Indexed text ps' rs' bs' us' cs' gs' labels ms' tables' ws') line (check_form d line (table_line line t scheme l cs)) s
 
 -- table_storing::store_labelled_columns: stores the columns `(COL num L)` of table k that stand from a place of the line on, and gives their number
-abbrev pub StoreLabelledColumnsPromise : (text labels : List ℕ) (labelsCount : ℕ) (tables tables' : List ℕ) (k at : ℕ) (line : List ℕ) (cs r : ℕ) → Type 0
-StoreLabelledColumnsPromise text labels labelsCount tables tables' k at line cs r =
-    (d : Policy) (sets : List ℕ) → LineAt text at line → Labels text labels sets labelsCount d.labels → k < 8 →
+abbrev pub StoreLabelledColumnsPromise : (text labels : List ℕ) (labels_count : ℕ) (tables tables' : List ℕ) (k at : ℕ) (line : List ℕ) (cs r : ℕ) → Type 0
+StoreLabelledColumnsPromise text labels labels_count tables tables' k at line cs r =
+    (d : Policy) (sets : List ℕ) → LineAt text at line → Labels text labels sets labels_count d.labels → k < 8 →
     length (labelled_columns_at line cs) ≤ 16 →
     ColumnsFilled text tables tables' k r (map column_meant (labelled_columns_at line cs)) (map (λ w. or_zero (label_of d w)) (column_labels_at line cs))
 
 -- table_storing::store_table: stores the table of the name at t of the line, behind k of them, of which no note is
-abbrev pub StoreTablePromise : (text labels : List ℕ) (labelsCount : ℕ) (tables tables' : List ℕ) (k at : ℕ) (line : List ℕ) (t : ℕ) (scheme : coded.Scheme) (l cs : ℕ) → Type 0
-StoreTablePromise text labels labelsCount tables tables' k at line t scheme l cs =
-    (d : Doc) (sets : List ℕ) → LineAt text at line → Labels text labels sets labelsCount d.policy.labels →
+abbrev pub StoreTablePromise : (text labels : List ℕ) (labels_count : ℕ) (tables tables' : List ℕ) (k at : ℕ) (line : List ℕ) (t : ℕ) (scheme : coded.Scheme) (l cs : ℕ) → Type 0
+StoreTablePromise text labels labels_count tables tables' k at line t scheme l cs =
+    (d : Doc) (sets : List ℕ) → LineAt text at line → Labels text labels sets labels_count d.policy.labels →
     Tables text tables k d.policy.tables → Passes d line (table_line line t scheme l cs) → t ≤ length line →
     Tables text tables' (k + 1) (add d (table_line line t scheme l cs)).policy.tables × ((ns : List Noted) → Notes tables k ns → Notes tables' (k + 1) ns)

@@ -244,7 +244,7 @@ module _ {text tables : List ℕ} {count x : ℕ} (d : Policy) (T : Tables text 
       → word_end (item (from line (j + 1))) ≡ At e → e ≡ item_end_at line (j + 1)
       → ItemsPassed b line n c (columns_at d x) is j → ItemsPassed b line n (c + 1) (columns_at d x) is e
   unfolding is_sound
-  items_turn b line c is j e v type small space shape kind place is_typed is-sound read end p = record {
+  items_turn b line c is j e v type small space shape kind place is_typed sound_so read end p = record {
     ends = p.ends ∙ sym (list_more item forward_item line j refl space refl read refl);
     fits = p.fits ∙ fits_more line j c n b space shape ∙ ap (λ i. count_fits (c + 1) n (shaped_values b (items_at line i))) (sym end);
     typed =
@@ -253,10 +253,10 @@ module _ {text tables : List ℕ} {count x : ℕ} (d : Policy) (T : Tables text 
         ∙ ap (λ i. mistyped_value (drop (c + 1) (columns_at d x)) (values_at line i)) (sym end);
     ordered =
         p.ordered
-        ∙ test_on (λ v. in_order (range_of v)) line j space v place true (sym (and_left (in_order (range_of (written_at line v))) _ is-sound)) refl
+        ∙ test_on (λ v. in_order (range_of v)) line j space v place true (sym (and_left (in_order (range_of (written_at line v))) _ sound_so)) refl
         ∙ ap (λ i. first_broken (values_at line i)) (sym end);
     dated =
         p.dated
-        ∙ test_on (λ v. date_exists (date_of v)) line j space v place true (sym (and_right (in_order (range_of (written_at line v))) _ is-sound)) refl
+        ∙ test_on (λ v. date_exists (date_of v)) line j space v place true (sym (and_right (in_order (range_of (written_at line v))) _ sound_so)) refl
         ∙ ap (λ i. first_unreal (values_at line i)) (sym end);
   }

@@ -2,7 +2,7 @@
 use Rattle.std.specs.Prelude.{◌+◌, ℕ, eqb, leb, drop, get_or, length, Bool, ◌&&◌, cond, false, true, List, [], ◌++◌, map, ◌≡◌}
 use Rattle.calendar.specs.DateText.{date_of}
 use Rattle.calendar.specs.declared.reading.DateRead.{DateRead}
-use Rattle.calendar.specs.declared.reading.DateRead.TheVariants as dateRead
+use Rattle.calendar.specs.declared.reading.DateRead.TheVariants as date_read
 use Rattle.condition.specs.Kinds.{Kind}
 use Rattle.document.specs.AmountFaults.{date_exists, in_order}
 use Rattle.document.specs.Lookup.{label_of}
@@ -49,9 +49,9 @@ ordered_end (span.At e l h) = cond (leb l h) (At e) Nothing
 
 -- where a date ends, if it exists, by the code's answer for its reader
 abbrev pub existing_end : DateRead → End
-existing_end dateRead.Nothing = Nothing
-existing_end (dateRead.NoSuchDate e) = Nothing
-existing_end (dateRead.At e r) = At e
+existing_end date_read.Nothing = Nothing
+existing_end (date_read.NoSuchDate e) = Nothing
+existing_end (date_read.At e r) = At e
 
 -- the first k rows stay
 abbrev pub KeepsRows : (text before after : List ℕ) → ℕ → Type 0
