@@ -24,7 +24,7 @@ use workspace::layout::{COLUMNS, ROW_CELLS, ROWS, TABLE_CELLS, VERDICTS};
 const TEXT_BYTES: usize = 60000;
 
 // An answer's length and its counts.
-#[derive(Drop)]
+#[derive(Clone, Copy)]
 pub struct Measured {
     pub len: usize,
     pub tally: Tally,

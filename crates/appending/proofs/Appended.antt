@@ -20,7 +20,7 @@ use Rattle.form.specs.RowText.{row_text}
 use Rattle.import.proofs.ReadBack.{lines_cut}
 use Rattle.import.proofs.RowLaws.{unfit_first}
 use Rattle.import.specs.Importing.{one_label, record_lines}
-use Rattle.csv.specs.Records.{Entry, first_unfit}
+use Rattle.csv_text.specs.Records.{Entry, first_unfit}
 use Rattle.lists.proofs.ListLaws.{there_some}
 use Rattle.lists.proofs.Tests.{and_both, and_left, and_right}
 use Rattle.lists.specs.Lists.{all_of, or_zero, there}

@@ -9,7 +9,7 @@ use Rattle.appending.specs.Computing.{computing}
 use Rattle.document.specs.Check.{Accepted, check}
 use Rattle.document.specs.Policy.{empty_doc}
 use Rattle.import.specs.Importing.{importing}
-use Rattle.csv.specs.Records.{Entry, Split, malformed, records, split}
+use Rattle.csv_text.specs.Records.{Entry, Split, malformed, records, split}
 use Rattle.text.proofs.RefusalLaws.{Accepts, accepted_is, accepted_or}
 use Rattle.text.specs.Bytes.{ascii}
 use Rattle.text.specs.Refusal.{accepted}

@@ -10,7 +10,7 @@ use mathlib.Core.Path.{◌≡◌, ap, refl, subst₂}
 use Rattle.appending.specs.Appended.{fits_columns}
 use Rattle.document.specs.Policy.{Column}
 use Rattle.document.specs.TypeFaults.{cell_has_kind, mistyped_value}
-use Rattle.csv.specs.Records.{Entry}
+use Rattle.csv_text.specs.Records.{Entry}
 use Rattle.lists.proofs.ListLaws.{there_none}
 use Rattle.lists.proofs.Tests.{and_both, and_left, and_right}
 use Rattle.lists.specs.Lists.{there}

@@ -11,7 +11,7 @@ use Rattle.document.specs.Lookup.{scheme_of}
 use Rattle.form.specs.Form.{by_row}
 use Rattle.import.proofs.ReadBack.{was_accepted}
 use Rattle.import.specs.Importing.{importing, record_lines}
-use Rattle.csv.specs.Records.{Entry, first_unfit}
+use Rattle.csv_text.specs.Records.{Entry, first_unfit}
 use Rattle.lists.proofs.Tests.{and_left, and_right, true_not_false}
 use Rattle.lists.specs.Lists.{is_empty}
 use Rattle.text.specs.Names.{Name, is_name}

@@ -27,8 +27,8 @@ use Rattle.form.specs.Form.{Form, Item, Scheme, by_row, has_brackets, leads_labe
 use Rattle.form.specs.FormReader.{form_of}
 use Rattle.form.specs.RowText.{label_count, row_text}
 use Rattle.import.specs.Importing.{one_label}
-use Rattle.csv.specs.Fields.{Field}
-use Rattle.csv.specs.Records.{Entry}
+use Rattle.csv_text.specs.Fields.{Field}
+use Rattle.csv_text.specs.Records.{Entry}
 use Rattle.lists.proofs.ListLaws.{map_inv, map_map, there_none}
 use Rattle.lists.proofs.Tests.{and_both, and_left, and_right, not-false, true_not_false}
 use Rattle.lists.specs.Lists.{all_of, holds_of, or_zero, there}

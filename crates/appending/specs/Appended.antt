@@ -7,7 +7,7 @@ use Rattle.document.specs.Lookup.{columns_at, label_of, scheme_at, scheme_of, ta
 use Rattle.document.specs.Policy.{Column, Row}
 use Rattle.document.specs.TypeFaults.{mistyped_value}
 use Rattle.form.specs.Form.{by_row}
-use Rattle.csv.specs.Records.{Entry, records, split}
+use Rattle.csv_text.specs.Records.{Entry, records, split}
 use Rattle.lists.specs.Lists.{all_of, is_empty, there}
 use Rattle.text.specs.Names.{Name}
 use Rattle.text.specs.Refusal.{accepted}

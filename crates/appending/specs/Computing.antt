@@ -5,11 +5,11 @@ use Rattle.text.specs.Computing as text
 use Rattle.calendar.specs.Computing as calendar
 use Rattle.condition.specs.Computing as condition
 use Rattle.form.specs.Computing as form
-use Rattle.csv.specs.Computing as csv
+use Rattle.csv_text.specs.Computing as csv_text
 use Rattle.import.specs.Computing as import
 use Rattle.document.specs.Computing as document
 use Rattle.appending.specs.Appended as Appended
 
 unfoldable pub computing : Unit {0}
-unfolding mathlib.Core.Option.bind mathlib.Core.List.flatten lists.computing purpose.computing text.computing calendar.computing condition.computing form.computing csv.computing import.computing document.computing Appended.fits_columns Appended.row_for Appended.appended
+unfolding mathlib.Core.Option.bind mathlib.Core.List.flatten lists.computing purpose.computing text.computing calendar.computing condition.computing form.computing csv_text.computing import.computing document.computing Appended.fits_columns Appended.row_for Appended.appended
 computing = tt

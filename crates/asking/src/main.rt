@@ -2,6 +2,8 @@
 // query a line; the last line may lack its line feed. Prints each answer, or `(refused NUMBER query START LENGTH)`; for a refused
 // policy one such line with `document`, and stops. It stops too, and standard error says why, where something can't be read or
 // written: no query gets another's answer.
+#![tactic(auto)]
+
 use clock_line::read_clock;
 use gate::documents::{Checked, load};
 use loaded::asks::ask_loaded;
@@ -23,20 +25,30 @@ mod clock_line;
 // One byte more than a query may have, which tells a longer one.
 const LINE_BYTES: usize = 4097;
 
+// Room for the bytes that one read brings.
+const BUFFER: usize = 4096;
+
 // Writes what a query gets, and says whether it was written whole.
-fn write_answered(a: Answered, out: &[u8], kept: usize, len: usize) -> bool {
+fn write_answered<R: Print + Eprint>(
+    rt: &R,
+    a: Answered,
+    out: &[u8],
+    kept: usize,
+    len: usize,
+) -> bool {
     match a {
-        Answered::Given(x) => write_first(x.len, out),
+        Answered::Given(x) => write_first(rt, x.len, out),
         Answered::Refused(r) => {
             let mut whole = r;
             whole.len = part_len(r.len, kept, len);
-            write_refused(whole)
+            write_refused(rt, whole)
         }
     }
 }
 
 // The clock's line, and then a query a line: the last may lack its line feed.
-fn ask_policy(
+fn ask_policy<R: Input + Print + Eprint>(
+    rt: &R,
     policy: &[u8],
     purposes: &[usize; PURPOSE_CELLS],
     roles: &[usize; ROLE_CELLS],
@@ -49,16 +61,19 @@ fn ask_policy(
     rows: &[usize; ROW_CELLS],
     cells: &[usize; CELLS],
 ) {
-    let mut bytes = io::buffer();
+    let mut bytes = [0u8; BUFFER];
     let mut line = [0u8; LINE_BYTES];
     let mut out = [0u8; 60021];
+    let mut input = rt.reader();
     let mut r = at_start();
-    r = read_line(&mut bytes, &mut line, r);
+    r = read_line(rt, &mut input, &mut bytes, &mut line, r);
     let first = within(r.len, &line);
     let clock = read_clock(&line[..first]);
-    let mut turns = u64::MAX;
-    while turns > 0 && r.more {
-        r = read_line(&mut bytes, &mut line, r);
+    for _ in 0..u64::MAX {
+        if !r.more {
+            return;
+        }
+        r = read_line(rt, &mut input, &mut bytes, &mut line, r);
         if !is_line(r) {
             return;
         }
@@ -79,15 +94,14 @@ fn ask_policy(
             &line[..kept],
             &mut out,
         );
-        if !write_answered(a, &out, kept, r.len) {
+        if !write_answered(rt, a, &out, kept, r.len) {
             return;
         }
-        turns -= 1;
     }
 }
 
 // The policy is loaded once, and asked with each query. One that is refused answers nothing.
-fn ask_checked(policy: &[u8]) {
+fn ask_checked<R: Input + Print + Eprint>(rt: &R, policy: &[u8]) {
     let mut purposes = [0usize; PURPOSE_CELLS];
     let mut roles = [0usize; ROLE_CELLS];
     let mut attributes = [0usize; ATTRIBUTE_CELLS];
@@ -116,6 +130,7 @@ fn ask_checked(policy: &[u8]) {
     match c {
         Checked::Accepted(_, _) => {
             ask_policy(
+                rt,
                 policy,
                 &purposes,
                 &roles,
@@ -130,16 +145,15 @@ fn ask_checked(policy: &[u8]) {
             );
         }
         Checked::Refused(r) => {
-            write_refused(r);
+            write_refused(rt, r);
         }
     }
 }
 
-fn main() {
+fn main(rt: HostRuntime) {
     let mut text = [0u8; policy::ROOM];
-    let l = policy::load(&mut text);
-    let Loaded::Text(n) = l else {
+    let Loaded::Text(n) = policy::load(&rt, &mut text) else {
         return;
     };
-    ask_checked(&text[..n]);
+    ask_checked(&rt, &text[..n]);
 }

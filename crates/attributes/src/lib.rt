@@ -1,4 +1,6 @@
 // Lines of attributes and conditional roles: what is wrong with one, storing it, and the step that does both.
+#![tactic(auto)]
+
 pub mod attr_faults;
 pub mod attr_storing;
 pub mod cond_faults;

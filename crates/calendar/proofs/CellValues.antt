@@ -73,10 +73,19 @@ pub date_cell : (d : Date) (v : List ℕ) → DateShape d v → is_cell_value v 
 unfolding is_cell_value is_date date_of there
 date_cell d v t = or_right (is_value v) (is_range v || is_date v) (or_right (is_range v) (is_date v) (ap there (enclosed_whole DateShape date_text enclosed_date d v t)))
 
+-- what the two tests say
+range_there : (v : List ℕ) → is_range v ≡ true → there (range_of v) ≡ true
+unfolding is_range
+range_there v h = h
+
+date_there : (v : List ℕ) → is_date v ≡ true → there (date_of v) ≡ true
+unfolding is_date
+date_there v h = h
+
 -- the bytes of a value are a name's or a number's, a range's, or a date's
 pub cell_cases : {C : Type 0} (v : List ℕ) → is_cell_value v ≡ true → (is_value v ≡ true → C) → ((r : Range) → RangeText r v → C) → ((d : Date) → DateShape d v → C) → C
 unfolding is_cell_value
-cell_cases {C} v h plainly ranged dated = or_cases (is_value v) (is_range v || is_date v) h plainly (λ e. or_cases (is_range v) (is_date v) e (λ k. a_range (range_of v) refl (unfold is_range in k)) (λ k. a_date (date_of v) refl (unfold is_date in k)))
+cell_cases {C} v h plainly ranged dated = or_cases (is_value v) (is_range v || is_date v) h plainly (λ e. or_cases (is_range v) (is_date v) e (λ k. a_range (range_of v) refl (range_there v k)) (λ k. a_date (date_of v) refl (date_there v k)))
   where
     a_range : (o : Option Range) → range_of v ≡ o → there o ≡ true → C
     a_range none e f = unfold there in true_not_false f refl

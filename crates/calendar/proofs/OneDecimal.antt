@@ -15,7 +15,6 @@ use Rattle.lists.proofs.Tests.{and_both, and_left, and_right}
 use Rattle.lists.specs.Lists.{all_of}
 use Rattle.text.proofs.Integers.{is_decimal, negative, place_value, rank_decimal, rank_integer, rank_opposite, unsigned}
 use Rattle.text.proofs.NumberLaws.{digit_range, rank_down_is, rank_down_not, rank_up_is, rank_up_not}
-use Rattle.text.proofs.Written.{Spells}
 use Rattle.text.specs.Bytes.{is_digit}
 use Rattle.text.specs.Numbers.{decimal, digits_of, no_leading_zero, rank}
 use Rattle.text.proofs.Integers as integers

@@ -15,7 +15,6 @@ use Rattle.text.specs.Brackets.{next}
 use Rattle.text.specs.Numbers.{decimal, rank}
 use Rattle.text.specs.Reader.{Left, give, given}
 use Rattle.text.specs.Words.{read_number, word}
-use Rattle.text.proofs.Integers as integers
 
 -- the bytes that a number's reader read, where the number is above 0
 abbrev Natural : ℕ → List ℕ → Type 0

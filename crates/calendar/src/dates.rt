@@ -12,7 +12,7 @@ const DAYS_BEFORE: [[u16; 12]; 2] = [
     [0, 31, 60, 91, 121, 152, 182, 213, 244, 274, 305, 335],
 ];
 
-#[derive(Drop)]
+#[derive(Clone, Copy)]
 pub struct Date {
     pub year: u64,
     pub month: u64,
@@ -20,7 +20,7 @@ pub struct Date {
 }
 
 // A date, where there is one.
-#[derive(Drop)]
+#[derive(Clone, Copy)]
 pub enum DateFound {
     On(Date),
     NoDate,

@@ -13,7 +13,7 @@ use text::numbers::{Amount, Number, read_number};
 use text::words::End;
 
 // A date in a text: where it ends, and its rank; where it ends, if there is no such date; or that no date's text stands there.
-#[derive(Drop)]
+#[derive(Clone, Copy)]
 pub enum DateRead {
     At(usize, u64),
     NoSuchDate(usize),

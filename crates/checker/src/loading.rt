@@ -21,7 +21,7 @@ use workspace::layout::{
 const TEXT_BYTES: usize = 60000;
 
 // What the check of a document into arrays says: how many of each kind they hold and the number of lines, or a refusal.
-#[derive(Drop)]
+#[derive(Clone, Copy)]
 pub enum Loaded {
     Accepted(Counts, usize),
     Refused(Refusal),

@@ -1,5 +1,7 @@
 // Checks the document in policy.txt, taken as empty where there is none, and writes what the check says: `(accepted LINES RESERVE)`,
 // or `(refused NUMBER document START LENGTH)`. Where the file can't be read, or nothing can be written, standard error says why.
+#![tactic(auto)]
+
 use gate::documents::{Checked, check};
 use programs::input::Loaded;
 use programs::lines::accepted_line;
@@ -8,28 +10,27 @@ use programs::policy::load;
 use programs::refusals::write_refused;
 use programs::{lines, policy};
 
-fn write_accepted(lines: usize, reserve: usize) {
+fn write_accepted<R: Print + Eprint>(rt: &R, lines: usize, reserve: usize) {
     let mut line = [0u8; lines::ROOM];
     let n = accepted_line(&mut line, lines, reserve);
-    write_out(&line[..n]);
+    write_out(rt, &line[..n]);
 }
 
-fn write_checked(c: Checked) {
+fn write_checked<R: Print + Eprint>(rt: &R, c: Checked) {
     match c {
         Checked::Accepted(lines, reserve) => {
-            write_accepted(lines, reserve);
+            write_accepted(rt, lines, reserve);
         }
         Checked::Refused(r) => {
-            write_refused(r);
+            write_refused(rt, r);
         }
     }
 }
 
-fn main() {
+fn main(rt: HostRuntime) {
     let mut text = [0u8; policy::ROOM];
-    let l = load(&mut text);
-    let Loaded::Text(n) = l else {
+    let Loaded::Text(n) = load(&rt, &mut text) else {
         return;
     };
-    write_checked(check(&text[..n]));
+    write_checked(&rt, check(&text[..n]));
 }

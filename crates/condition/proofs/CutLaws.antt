@@ -1,15 +1,14 @@
 -- Readers look at nothing behind what they read: where a text is cut off there they read the same, with the same places. So a column that is
 -- kept as it was written names what was read (02, Q-3). Assumes nothing.
 use Prim.Native.Nat.{◌+◌, ◌-◌, ◌≤◌, suc, zero, ℕ}
-use borrow.Author.Tests.{eqb-true}
 use lib.Dec.{eqb}
 use lib.ListN.{drop, length, length-drop, take}
 use lib.Seq.{drop_at, length-take-le, take-add, take-nil}
 use mathlib.Core.Bool.{Bool, cond, false, true}
-use mathlib.Core.List.{List, [], ◌++◌, ◌∷◌}
+use mathlib.Core.List.{List, [], ◌∷◌}
 use mathlib.Core.Option.{Option, get_or, map, none, some}
-use mathlib.Core.Path.{◌∙◌, ◌≡◌, ap, refl, subst, sym}
-use native.Mathlib.Nat.{add_assoc, add-zero}
+use mathlib.Core.Path.{◌∙◌, ◌≡◌, ap, refl, sym}
+use native.Mathlib.Nat.{add_assoc}
 use native.Mathlib.Omega.{arith}
 use Rattle.condition.specs.CondForm.{Ref, of_ref, ref_body, ref_of}
 use Rattle.text.proofs.ByteLaws.{run_within}

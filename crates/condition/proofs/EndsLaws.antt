@@ -1,6 +1,6 @@
 -- The ends of the value at a position, as code reads them. Assumes nothing.
 use Prim.Native.Nat.{◌+◌, ℕ}
-use lib.ListN.{drop, get_or, length}
+use lib.ListN.{drop, get_or}
 use mathlib.Core.Bool.{false, true}
 use mathlib.Core.List.{List, ◌∷◌}
 use mathlib.Core.Option
@@ -11,8 +11,8 @@ use Rattle.condition.specs.Ranges.{ends_of, point}
 use Rattle.lists.specs.Lists.{or_zero, there}
 use Rattle.text.proofs.Closings.{closing_more, written_bracket, written_word}
 use Rattle.text.proofs.Lefts.{before_end}
-use Rattle.text.proofs.RangeLaws.{is_range_lem, range_unopened, written_range}
-use Rattle.text.specs.Amounts.{Range, is_range, range, range_of}
+use Rattle.text.proofs.RangeLaws.{range_unopened, written_range}
+use Rattle.text.specs.Amounts.{Range, is_range, range}
 use Rattle.text.specs.Bytes.{is_digit}
 use Rattle.text.specs.CodeEnds.{end_of_range}
 use Rattle.text.specs.Numbers.{digits_from, magnitude, no_leading_zero, rank}

@@ -11,7 +11,7 @@ use text::amounts::{Span, read_range};
 use text::bytes::byte_at;
 
 // The ends of a range, by their ranks; those of a plain number are equal.
-#[derive(Drop)]
+#[derive(Clone, Copy)]
 pub struct Ends {
     pub low: u64,
     pub high: u64,

@@ -1,12 +1,13 @@
 // The whole calendar, for a comparison with one that is not ours (tests/calendar). After each hundredth year a line: the year, how many
 // dates there were so far, and a checksum over all that the calendar answered so far, of the years 0 to 10000.
+#![tactic(auto)]
+
 ghost use Rattle.std.specs.Prelude.{◌≤◌, ◌≡◌, ◌&&◌};
 ghost use Rattle.text.specs.Bytes.{within};
 ghost use Rattle.calendar.specs.Calendar.{Date, days_in, year_held, exists};
 ghost use Rattle.calendar.specs.Order.{earlier};
 
 use calendar::dates::{DateFound, date_of_day, date_rank, day_of_date};
-use libc::STDOUT_FILENO;
 use text::numbers::Amount;
 
 // Whether a day of a year has a date whose day it is: so do all the days of the year.
@@ -113,16 +114,12 @@ fn count_days(year: u64) -> u64
     n
 }
 
-fn print_line(year: u64, dates: u64, sum: u64) {
-    io::print_decimal(STDOUT_FILENO, year);
-    io::write_all(STDOUT_FILENO, b" ");
-    io::print_decimal(STDOUT_FILENO, dates);
-    io::write_all(STDOUT_FILENO, b" ");
-    io::print_decimal(STDOUT_FILENO, sum);
-    io::write_all(STDOUT_FILENO, b"\n");
+// A line that can't be written is lost: what is printed is held to what is expected.
+fn print_line<R: Print>(rt: &R, year: u64, dates: u64, sum: u64) {
+    let _ = println!(rt; "{year} {dates} {sum}");
 }
 
-fn main() {
+fn main(rt: HostRuntime) {
     let mut dates: u64 = 0;
     let mut sum: u64 = 0;
     let mut year: u64 = 0;
@@ -130,7 +127,7 @@ fn main() {
         dates += count_days(year);
         sum = with_months(with_days(sum, year), year);
         if year % 100 == 0 {
-            print_line(year, dates, sum);
+            print_line(&rt, year, dates, sum);
         }
         year += 1;
     }

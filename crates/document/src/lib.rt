@@ -1,1 +1,2 @@
 // What a document means, and its check.
+#![tactic(auto)]

@@ -4,7 +4,7 @@ use lib.ListN.{length, length-drop}
 use mathlib.Core.Bool.{Bool, cond, false, true}
 use mathlib.Core.List.{List, [], ◌∷◌}
 use mathlib.Core.Option.{Option, none-ne-some, none, some}
-use mathlib.Core.Path.{◌≡◌, ap, refl, sym}
+use mathlib.Core.Path.{◌∙◌, ◌≡◌, ap, refl, sym}
 use native.Mathlib.Omega.{arith}
 use Rattle.explaining.proofs.NumberLength.{number_short}
 use Rattle.lists.specs.Lists.{is_empty}
@@ -74,12 +74,17 @@ up_to_body =
 abbrev keywords : Keywords WhyForm
 keywords = (ascii "why", why_body) ∷ []
 
-up_to_keyword : EatsUpTo 99 (keyword keywords)
-up_to_keyword = record { most = λ l w l' h. go l w l' (is_called (seen l) (ascii "why")) refl (unfold keyword word among in h) }
-  where
-    seen : Left → Word
-    seen l = record { at = l.at; bytes = name_bytes l.bytes }
+-- the word that is read as the keyword
+abbrev seen : Left → Word
+seen l = record { at = l.at; bytes = name_bytes l.bytes }
 
+keyword_read : (l : Left) → keyword keywords l ≡ cond {A = Reader WhyForm} (is_called (seen l) (ascii "why")) why_body refuse (skip (length (name_bytes l.bytes)) l)
+unfolding keyword word among
+keyword_read l = refl
+
+up_to_keyword : EatsUpTo 99 (keyword keywords)
+up_to_keyword = record { most = λ l w l' h. go l w l' (is_called (seen l) (ascii "why")) refl (sym (keyword_read l) ∙ h) }
+  where
     go : (l : Left) (w : WhyForm) (l' : Left) (t : Bool) → is_called (seen l) (ascii "why") ≡ t → cond {A = Reader WhyForm} t why_body refuse (skip (length (name_bytes l.bytes)) l) ≡ some (w, l') → length l.bytes ≤ 99 + length l'.bytes
     go l w l' true e h =
         let three : length (name_bytes l.bytes) ≡ 3 = same_name_length (name_bytes l.bytes) (ascii "why") (unfold is_called in e) in

@@ -2,14 +2,17 @@
 // `(why P T ROW COL)` for each; the last may lack its line feed. Prints the reason, or `(refused NUMBER query START LENGTH)`; for a refused
 // policy one such line with `document`, and stops. It stops too, and standard error says why, where something can't be read or written: no
 // line gets another's reason. With arguments it says how it is called, and reads nothing.
+#![tactic(auto)]
+
 use checker::loading::{Loaded, load};
 use index::counts::Counts;
 use kept_line::{LINE_BYTES, explain_kept};
-use libc::STDERR_FILENO;
+use programs::arguments::is_given;
 use programs::line_reader::{at_start, is_line, read_line};
 use programs::output::{within, write_first};
 use programs::refusals::write_refused;
 use programs::{input, policy};
+use std::rt::Files;
 use telling::texts;
 use telling::texts::{Told, tell};
 use workspace::layout::{
@@ -19,16 +22,20 @@ use workspace::layout::{
 
 mod kept_line;
 
+// Room for the bytes that one read brings.
+const BUFFER: usize = 4096;
+
 // Writes what a line gets, and says whether it was written whole.
-fn write_told(t: Told, out: &[u8; texts::LINE_BYTES]) -> bool {
+fn write_told<R: Print + Eprint>(rt: &R, t: Told, out: &[u8; texts::LINE_BYTES]) -> bool {
     match t {
-        Told::Line(len) => write_first(len, out),
-        Told::Refused(r) => write_refused(r),
+        Told::Line(len) => write_first(rt, len, out),
+        Told::Refused(r) => write_refused(rt, r),
     }
 }
 
 // The lines of standard input, each told by itself. The turns are counted down as in reading.
-fn explain_input(
+fn explain_input<R: Input + Print + Eprint>(
+    rt: &R,
     policy: &[u8],
     purposes: &[usize; PURPOSE_CELLS],
     labels: &[usize; LABELS],
@@ -37,13 +44,16 @@ fn explain_input(
     rows: &[usize; ROW_CELLS],
     c: Counts,
 ) {
-    let mut bytes = io::buffer();
+    let mut bytes = [0u8; BUFFER];
     let mut line = [0u8; LINE_BYTES];
     let mut out = [0u8; texts::LINE_BYTES];
+    let mut input = rt.reader();
     let mut r = at_start();
-    let mut turns = u64::MAX;
-    while turns > 0 && r.more {
-        r = read_line(&mut bytes, &mut line, r);
+    for _ in 0..u64::MAX {
+        if !r.more {
+            return;
+        }
+        r = read_line(rt, &mut input, &mut bytes, &mut line, r);
         if !is_line(r) {
             return;
         }
@@ -60,15 +70,14 @@ fn explain_input(
             r.len,
         );
         let t = tell(policy, e, &mut out);
-        if !write_told(t, &out) {
+        if !write_told(rt, t, &out) {
             return;
         }
-        turns -= 1;
     }
 }
 
 // The policy is loaded once, and asked with each line. One that is refused tells nothing.
-fn explain_checked(policy: &[u8]) {
+fn explain_checked<R: Input + Print + Eprint>(rt: &R, policy: &[u8]) {
     let mut purposes = [0usize; PURPOSE_CELLS];
     let mut roles = [0usize; ROLE_CELLS];
     let mut attributes = [0usize; ATTRIBUTE_CELLS];
@@ -94,30 +103,28 @@ fn explain_checked(policy: &[u8]) {
     );
     match l {
         Loaded::Accepted(c, _) => {
-            explain_input(policy, &purposes, &labels, &sets, &tables, &rows, c);
+            explain_input(rt, policy, &purposes, &labels, &sets, &tables, &rows, c);
         }
         Loaded::Refused(r) => {
-            write_refused(r);
+            write_refused(rt, r);
         }
     }
 }
 
-fn explain_policy() {
+fn explain_policy<R: Files + Input + Print + Eprint>(rt: &R) {
     let mut text = [0u8; policy::ROOM];
-    let l = policy::load(&mut text);
-    let input::Loaded::Text(n) = l else {
+    let input::Loaded::Text(n) = policy::load(rt, &mut text) else {
         return;
     };
-    explain_checked(&text[..n]);
+    explain_checked(rt, &text[..n]);
 }
 
-fn main() {
-    if os::arg_count() != 1 {
-        io::write_all(
-            STDERR_FILENO,
-            b"usage: explaining, with why lines on standard input and policy.txt in this folder\n",
+fn main(rt: HostRuntime) {
+    if !is_given(&rt, 0) || is_given(&rt, 1) {
+        let _ = eprintln!(rt;
+            "usage: explaining, with why lines on standard input and policy.txt in this folder"
         );
         return;
     }
-    explain_policy();
+    explain_policy(&rt);
 }

@@ -16,7 +16,7 @@ use text::bytes::byte_at;
 use text::words::{End, is_word, word_end};
 
 // Where a table's labels stand.
-#[derive(Drop)]
+#[derive(Clone, Copy)]
 pub enum Scheme {
     Unlabelled,
     ByTable,
@@ -43,7 +43,7 @@ pub fn labels_columns(s: Scheme) -> bool
 // A line that was read. Words are given by their places, lists by the place of the space before their first item (of the
 // closing bracket, where they are empty), a condition by the place of its bracket; a table by the places of its name, of its own
 // label (0 where its scheme has none there) and of its columns.
-#[derive(Drop)]
+#[derive(Clone, Copy)]
 pub enum Line {
     Wrong,
     Purpose(usize),
@@ -63,21 +63,21 @@ pub enum Line {
 }
 
 // What stands behind a line's keyword, and where it ends.
-#[derive(Drop)]
+#[derive(Clone, Copy)]
 enum Body {
     At(Line, usize),
     Refused,
 }
 
 // Where the names of a set begin, and where its bracket ends.
-#[derive(Drop)]
+#[derive(Clone, Copy)]
 enum Set {
     At(usize, usize),
     Refused,
 }
 
 // A table's scheme, where its label stands, where its columns begin, and where they end.
-#[derive(Drop)]
+#[derive(Clone, Copy)]
 enum Columns {
     At(Scheme, usize, usize, usize),
     Refused,

@@ -13,7 +13,7 @@ use workspace::layout::{
 };
 
 // What the check of a document says: the number of lines with the reserve, or a refusal.
-#[derive(Drop)]
+#[derive(Clone, Copy)]
 pub enum Checked {
     Accepted(usize, usize),
     Refused(Refusal),

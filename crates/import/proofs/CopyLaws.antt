@@ -5,8 +5,8 @@ use mathlib.Core.Bool.{false, true}
 use mathlib.Core.List.{List, [], ◌∷◌, append-nil}
 use mathlib.Core.Path.{◌∙◌, ◌≡◌, ap, refl, subst, sym}
 use native.Mathlib.Omega.{arith}
-use Rattle.csv.proofs.FieldLaws.{plain_more, plain_none, plain_stop}
-use Rattle.csv.specs.Fields.{is_plain, plain_bytes}
+use Rattle.csv_text.proofs.FieldLaws.{plain_more, plain_none, plain_stop}
+use Rattle.csv_text.specs.Fields.{is_plain, plain_bytes}
 use Rattle.import.specs.Placement.{PlainCopied, PlainCopying}
 use Rattle.import.specs.declared.rows.Placed.{Placed}
 use Rattle.writing.proofs.Writing.{Ahead, done, start, step, wrote_nothing}

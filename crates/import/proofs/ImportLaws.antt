@@ -11,14 +11,14 @@ use native.Mathlib.Nat.{suc-mul}
 use native.Mathlib.Omega.{arith}
 use Rattle.form.specs.RowText.{spaced}
 use Rattle.import.proofs.RowLaws.{line_bytes_lem, lines_one, spaced_one, unfit_first}
-use Rattle.csv.specs.Fields.{Field}
+use Rattle.csv_text.specs.Fields.{Field}
 use Rattle.import.specs.Importing.{after_import, if_writable, importable, importing, length_only, longest_buffer, measure_import, record_line, record_lines, refusal_at, refuse_unfit, well_formed}
 use Rattle.import.specs.Outside.{Imports, imported_as, in_brief, length_within}
 use Rattle.import.specs.Placement.{RowsPlaced}
-use Rattle.csv.specs.Records.{Entry, Split, first_unfit, malformed, records, split}
-use Rattle.csv.specs.Scanned.{field_size, place_of, scan_of, size_of, total_size}
+use Rattle.csv_text.specs.Records.{Entry, Split, first_unfit, malformed, records, split}
+use Rattle.csv_text.specs.Scanned.{field_size, place_of, scan_of, size_of, total_size}
 use Rattle.import.specs.declared.importing.Imported.TheVariants as imported
-use Rattle.csv.specs.declared.records.Scan.TheVariants as scan
+use Rattle.csv_text.specs.declared.records.Scan.TheVariants as scan
 use Rattle.lists.proofs.Tests.{and_left, and_right}
 use Rattle.lists.specs.Lists.{all_of}
 use Rattle.text.proofs.RefusalLaws.{accepted_same, not_refused}

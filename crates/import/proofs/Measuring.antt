@@ -6,7 +6,7 @@ use mathlib.Core.Path.{◌∙◌, ◌≡◌, ap}
 use native.Mathlib.Omega.{arith}
 use Rattle.import.proofs.ImportLaws.{Taken, admits_all, admits_room, was_taken}
 use Rattle.import.specs.Importing.{if_writable, importable, importing, length_only, longest_buffer, measure_import, record_lines, refusal_at, well_formed}
-use Rattle.csv.specs.Records.{Entry, Split, records, split}
+use Rattle.csv_text.specs.Records.{Entry, Split, records, split}
 use Rattle.text.proofs.RefusalLaws.{accepted_same, bind_accepted}
 use Rattle.text.specs.Names.{Name}
 use Rattle.text.specs.Refusal.{Result, ◌>>=◌, accepted, refused}

@@ -10,12 +10,12 @@ use Rattle.form.proofs.RowBack.{items_of, placeless_item, row_back, row_read, ro
 use Rattle.form.specs.Form.{Form, Item, attr, cond_role, grant, has_brackets, label, labelled, leads_label, note, plain, purpose, role, row, table, user}
 use Rattle.form.specs.RowText.{item_texts, row_text, spaced, value_texts}
 use Rattle.import.proofs.RowLaws.{lines_one, spaced_one, unfit_first}
-use Rattle.csv.proofs.FieldLaws.{not_name}
+use Rattle.csv_text.proofs.FieldLaws.{not_name}
 use Rattle.import.proofs.ImportLaws.{was_taken}
 use Rattle.import.specs.Importing.{importable, importing, one_label, record_line, record_lines}
 use Rattle.import.specs.ReadBack.{ReadsBack, item_words, line_words, lines_read, row_words, whole_lines}
-use Rattle.csv.specs.Fields.{Field}
-use Rattle.csv.specs.Records.{Entry, first_unfit, records, split}
+use Rattle.csv_text.specs.Fields.{Field}
+use Rattle.csv_text.specs.Records.{Entry, first_unfit, records, split}
 use Rattle.lists.proofs.KeptLaws.{all_append}
 use Rattle.lists.proofs.Tests.{and_both, and_left, and_right}
 use Rattle.lists.specs.Lists.{all_of}

@@ -11,14 +11,14 @@ use native.Mathlib.Omega.{arith}
 use Rattle.form.proofs.RowBack.{row_text_bytes}
 use Rattle.form.specs.Form.{has_brackets, leads_label}
 use Rattle.form.specs.RowText.{item_texts, spaced, value_texts}
-use Rattle.csv.proofs.FieldLaws.{eats_field, field_fit, field_is, field_plain}
-use Rattle.csv.proofs.RecordLaws.{eats_fields, end_next, fields_broken, fields_last, fields_more}
-use Rattle.csv.proofs.ScanLaws.{record_none, record_other, record_read, records_end, records_step}
+use Rattle.csv_text.proofs.FieldLaws.{eats_field, field_fit, field_is, field_plain}
+use Rattle.csv_text.proofs.RecordLaws.{eats_fields, end_next, fields_broken, fields_last, fields_more}
+use Rattle.csv_text.proofs.ScanLaws.{record_none, record_other, record_read, records_end, records_step}
 use Rattle.writing.proofs.Writing.{Ahead, both, done, start, step}
 use Rattle.import.specs.Importing.{one_label, record_line, record_lines}
 use Rattle.import.specs.Placement.{FieldPlaced, FieldsPlaced, Placing, RowPlaced, RowsPlaced}
-use Rattle.csv.specs.Fields.{Field, field, plain_bytes}
-use Rattle.csv.specs.Records.{Entry, Split, entry_before, fields, fields_up_to, first_unfit, go_on, malformed, record_end, record_of, records, records_up_to, split, width}
+use Rattle.csv_text.specs.Fields.{Field, field, plain_bytes}
+use Rattle.csv_text.specs.Records.{Entry, Split, entry_before, fields, fields_up_to, first_unfit, go_on, malformed, record_end, record_of, records, records_up_to, split, width}
 use Rattle.writing.specs.Write.{Wrote}
 use Rattle.import.specs.declared.rows.Placed.{Placed}
 use Rattle.lists.proofs.Tests.{and_left, and_right}

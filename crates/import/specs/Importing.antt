@@ -4,8 +4,8 @@ use mathlib.Core.List.{List, [], ◌++◌, ◌∷◌, flatten, map}
 use Rattle.std.proofs.Math.Option.{Option, none, some}
 use Rattle.form.specs.Form.{Scheme, by_row}
 use Rattle.form.specs.RowText.{row_text}
-use Rattle.csv.specs.Fields.{Field}
-use Rattle.csv.specs.Records.{Entry, Split, first_unfit, malformed, records, split}
+use Rattle.csv_text.specs.Fields.{Field}
+use Rattle.csv_text.specs.Records.{Entry, Split, first_unfit, malformed, records, split}
 use Rattle.text.specs.Bytes.{ascii}
 use Rattle.text.specs.Names.{Name, is_name}
 use Rattle.text.specs.Refusal.{Refusal, Result, ◌>>=◌, ◌>>◌, accepted, file, refuse_if, refused}

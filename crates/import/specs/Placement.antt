@@ -2,9 +2,9 @@
 use Rattle.std.specs.Prelude.{◌+◌, ◌-◌, ◌<◌, ◌≤◌, ℕ, drop, length, true, List, [], ◌∷◌, ◌≡◌}
 use Rattle.std.proofs.Math.Option.{none, some}
 use Rattle.form.specs.RowText.{spaced}
-use Rattle.csv.specs.Fields.{Field, field, plain_bytes}
+use Rattle.csv_text.specs.Fields.{Field, field, plain_bytes}
 use Rattle.import.specs.Importing.{record_line, record_lines}
-use Rattle.csv.specs.Records.{Entry, fields, first_unfit, records, split}
+use Rattle.csv_text.specs.Records.{Entry, fields, first_unfit, records, split}
 use Rattle.import.specs.declared.rows.Placed.{Placed}
 use Rattle.lists.specs.Lists.{all_of}
 use Rattle.text.specs.Names.{Name}

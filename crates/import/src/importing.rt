@@ -2,14 +2,14 @@
 ghost use Rattle.std.specs.Prelude.{◌*◌, ◌+◌, ◌<◌, ◌^◌, ℕ, List, ◌≡◌};
 ghost use Rattle.import.specs.Importing.{if_writable, importable, measure_import, refusal_at};
 ghost use Rattle.import.specs.Outside.{Imports, imported_as, in_brief, judged_as, length_within};
-ghost use Rattle.csv.specs.Records.{Entry, records, split};
-ghost use Rattle.csv.specs.Scanned.{scan_of};
-ghost use Rattle.csv.specs.declared.records.Scan.TheVariants as scan;
+ghost use Rattle.csv_text.specs.Records.{Entry, records, split};
+ghost use Rattle.csv_text.specs.Scanned.{scan_of};
+ghost use Rattle.csv_text.specs.declared.records.Scan.TheVariants as scan;
 ghost use Rattle.text.specs.Names.{is_name};
 ghost use Rattle.text.specs.Reasons.{reason_number, refusal_of};
 
 use crate::rows::put_rows;
-use csv::records::{Scan, scan_file};
+use csv_text::records::{Scan, scan_file};
 use text::refusals::{Reason, Refusal, Source};
 use text::words::{End, name_end};
 
@@ -17,14 +17,14 @@ use text::words::{End, name_end};
 const MOST: usize = 9223372036854775807;
 
 // A refusal, or the length of the lines.
-#[derive(Drop)]
+#[derive(Clone, Copy)]
 pub enum Imported {
     Refused(Refusal),
     Lines(usize),
 }
 
 // What judging a file gives: a refusal, or how many records it has and how long their lines are.
-#[derive(Drop)]
+#[derive(Clone, Copy)]
 pub enum Judged {
     Refused(Refusal),
     Fit(usize, usize),

@@ -3,13 +3,13 @@ ghost use Rattle.std.specs.Prelude.{◌+◌, ◌≤◌, length, true, [], ◌∷
 ghost use Rattle.import.specs.Placement.{FieldPlaced, FieldsPlaced, PlainCopied, PlainCopying, Reaching, RowPlaced, RowsPlaced};
 ghost use Rattle.writing.specs.Write.{Wrote};
 
-use csv::fields::is_plain;
+use csv_text::fields::is_plain;
 use text::bytes::byte_at;
 use text::walking::skip_byte;
 use writing::bytes::{put_byte, put_bytes};
 
 // Where the next byte goes in the buffer, and where to read on in the file.
-#[derive(Drop)]
+#[derive(Clone, Copy)]
 pub struct Placed {
     pub to: usize,
     pub at: usize,

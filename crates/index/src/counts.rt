@@ -1,5 +1,5 @@
 // How many of each kind the workspace holds.
-#[derive(Drop)]
+#[derive(Clone, Copy)]
 pub struct Counts {
     pub purposes: usize,
     pub roles: usize,

@@ -10,7 +10,7 @@ use text::numbers::{Amount, rank_at};
 use text::words::{End, name_end};
 
 // A constant as it is read: 1 if it is of the type and else 0, and its rank, if it is a number or a date.
-#[derive(Drop)]
+#[derive(Clone, Copy)]
 pub(crate) struct Constant {
     pub fits: usize,
     pub rank: usize,

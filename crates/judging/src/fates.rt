@@ -27,7 +27,7 @@ use relations::tables::table_scheme;
 use workspace::layout::{COLUMNS, ROW_CELLS, ROWS, TABLE_CELLS, VERDICTS};
 
 // What becomes of a row: it lies in another table, or is withheld, or passes, or its condition does not hold.
-#[derive(Drop)]
+#[derive(Clone, Copy)]
 pub enum Fate {
     Elsewhere,
     Withheld,

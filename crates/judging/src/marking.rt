@@ -13,7 +13,7 @@ use relations::tables::{is_nested, table_scheme};
 use workspace::layout::{COLUMNS, ROW_CELLS, TABLE_CELLS, VERDICTS};
 
 // Whether a table is nested, and what its strong and its weak labels say of the purpose; of a row, what its weak labels say, merged.
-#[derive(Drop)]
+#[derive(Clone, Copy)]
 pub struct Marking {
     pub nested: bool,
     pub strong: Verdict,

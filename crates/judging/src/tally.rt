@@ -1,5 +1,5 @@
 // The three counts of an answer.
-#[derive(Drop)]
+#[derive(Clone, Copy)]
 pub struct Tally {
     pub passed: usize,
     pub withheld: usize,

@@ -27,7 +27,7 @@ pub const TEST_CELLS: usize = 704;
 // The comparisons of a condition: the table whose columns they compare, and the one whose columns are numbered behind the `width` columns of
 // the first; the condition and how many there are; how many numbers of columns stand before theirs; whether it is a join's condition, and
 // whether it is asked for sure.
-#[derive(Drop)]
+#[derive(Clone, Copy)]
 pub struct Comparisons {
     pub first: usize,
     pub second: usize,
@@ -42,7 +42,7 @@ pub struct Comparisons {
 // A comparison as it is read: the number of its column, its type as a number, the code of its operator and where that stands in the
 // query; where its value stands, how long it is, 1 if it is of the type and else 0, and its rank, if it is a number or a date; and the
 // comparison to go on with where it holds, and where it does not; and 1 if it is asked for sure, 0 if it is for what is possible.
-#[derive(Drop)]
+#[derive(Clone, Copy)]
 pub(crate) struct TestRead {
     pub column: usize,
     pub kind: usize,

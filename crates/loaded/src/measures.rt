@@ -13,7 +13,7 @@ use workspace::layout::{
 };
 
 // The refusal that no buffer would change, or the length of the answer.
-#[derive(Drop)]
+#[derive(Clone, Copy)]
 pub enum Measured {
     Refused(Refusal),
     Length(usize),

@@ -1,4 +1,6 @@
 // Lines of users and grants: what is wrong with one, storing it, and the step that does both.
+#![tactic(auto)]
+
 mod givens;
 pub mod grant_faults;
 pub mod grant_storing;

@@ -16,7 +16,7 @@ use text::refusals::{Reason, Refusal};
 use workspace::layout::{ROW_CELLS, TABLE_CELLS, VERDICTS};
 
 // Nothing to refuse, or a refusal.
-#[derive(Drop)]
+#[derive(Clone, Copy)]
 pub(crate) enum Judged {
     Fine,
     Refused(Refusal),

@@ -14,7 +14,7 @@ use workspace::layout::{
 };
 
 // The answers of two documents.
-#[derive(Drop)]
+#[derive(Clone, Copy)]
 pub struct Pair {
     pub first: Answered,
     pub second: Answered,

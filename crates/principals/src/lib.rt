@@ -1,4 +1,6 @@
 // Purposes, roles, attributes, users, conditional roles and grants in the workspace: looked up and added.
+#![tactic(auto)]
+
 pub mod attributes;
 pub mod conds;
 pub mod grants;

@@ -15,7 +15,7 @@ use workspace::layout::{PURPOSE_CELLS, PURPOSES, ROLE_CELLS, ROLES, SLOTS};
 use workspace::store::put;
 
 // What looking a name up gives: its number, if it is known; where the word ends, and its hash.
-#[derive(Drop)]
+#[derive(Clone, Copy)]
 pub struct Sought {
     pub found: Found,
     pub end: usize,

@@ -6,7 +6,7 @@ use mathlib.Core.List.{List, ◌++◌, ◌∷◌}
 use mathlib.Core.Path.{◌∙◌, ◌≡◌, ap, sym}
 use native.Mathlib.Omega.{arith}
 use Rattle.answer.specs.Session.{refusal_line, source_name}
-use Rattle.io.specs.Counts.{IsPrefixLen}
+use Rattle.programs.specs.Counts.{IsPrefixLen}
 use Rattle.programs.specs.Lines.{accepted_line}
 use Rattle.text.specs.Bytes.{ascii}
 use Rattle.text.specs.Numbers.{decimal}

@@ -1,6 +1,6 @@
--- Contract: what reading to the end of an input promises: what it says of the buffer. Of the bytes that are read no contract can speak.
-use Rattle.std.specs.Prelude.{ℕ, List}
-use Rattle.io.specs.Counts.{IsPrefixLen}
+-- Contract: what reading to the end of an input promises: what it says of the buffer, and where the input's bytes are known, which it has.
+use Rattle.std.specs.Prelude.{◌≡◌, ℕ, List, length, take, Option, None, Some}
+use Rattle.programs.specs.Counts.{IsPrefixLen}
 use Rattle.programs.specs.declared.input.Loaded.{Loaded}
 use Rattle.programs.specs.declared.input.Loaded.TheVariants.{Failed, Text}
 
@@ -8,3 +8,9 @@ use Rattle.programs.specs.declared.input.Loaded.TheVariants.{Failed, Text}
 abbrev pub ReadsWithin : List ℕ → Loaded → Type 0
 ReadsWithin buffer (Text n) = IsPrefixLen n buffer
 ReadsWithin buffer Failed = Unit {0}
+
+-- a text that was read is all of the known bytes, or as many as the buffer has room for
+abbrev pub ReadsFront : Option (List ℕ) → List ℕ → Loaded → Type 0
+ReadsFront None buffer l = Unit {0}
+ReadsFront (Some xs) buffer Failed = Unit {0}
+ReadsFront (Some xs) buffer (Text n) = take n buffer ≡ take (length buffer) xs

@@ -1,4 +1,5 @@
--- What the programs share: the lines that they print, what reading promises, and refusals of lines that were not kept whole. Assumes nothing.
+-- What the programs share: the lines that they print, what reading and writing promise, and refusals of lines that were not kept whole. Assumes nothing.
+pub mod Counts
 pub mod Lines
 pub mod Input
 pub mod Kept

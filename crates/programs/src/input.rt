@@ -1,12 +1,17 @@
-// Reading from a descriptor.
+// Reading from an input.
 ghost use Rattle.std.specs.Prelude.{length};
-ghost use Rattle.libc.specs.Io.{Moved};
-ghost use Rattle.programs.specs.Input.{ReadsWithin};
+ghost use Rattle.std.specs.Io.{ReadsAtMost};
+ghost use Rattle.std.specs.Io.KnownBytes.{ReadConsumes};
+ghost use Rattle.programs.specs.Counts.{Moved};
+ghost use Rattle.programs.specs.Input.{ReadsFront, ReadsWithin};
 
+use crate::failures::fail;
 use crate::retry::is_made_again;
+use std::io;
+use std::io::{Eprint, ErrorKind, Read};
 
 // What became of reading a text: it has so many bytes, or an error was told on standard error.
-#[derive(Drop)]
+#[derive(Clone, Copy)]
 pub enum Loaded {
     Text(usize),
     Failed,
@@ -14,37 +19,36 @@ pub enum Loaded {
 
 // One read, made again until it brings bytes, the end of the input or an error. A proved loop has to end: its turns are counted
 // down, from a number that no run uses up.
-pub fn read_some(fd: i32, buf: &mut [u8]) -> isize
-    ensures { Moved (length buf.old) result }
+pub fn read_some<I: Read>(input: &mut I, buf: &mut [u8]) -> io::Result<usize>
+    ensures moved { Moved (length buf.old) result }
+    ensures within { ReadsAtMost result buf.new }
+    ensures bytes { ReadConsumes (I.remaining input.old) (I.remaining input.new) result buf.new }
 {
-    let mut turns = u64::MAX;
-    while turns > 0 {
-        let got = libc::read(fd, buf);
-        if !is_made_again(got) {
+    for _ in 0..u64::MAX {
+        let got = input.read(buf);
+        if !is_made_again(&got) {
             return got;
         }
-        turns -= 1;
     }
-    -1
+    Err(io::Error::from(ErrorKind::TimedOut))
 }
 
 // Reads until the input ends or the buffer is full. A read that fails leaves no text: what came before may be cut anywhere. The name
 // is what standard error calls the input.
-pub fn read_all(fd: i32, name: &[u8], text: &mut [u8]) -> Loaded
-    ensures { ReadsWithin text.new result }
+pub fn read_all<R: Eprint, I: Read>(rt: &R, input: &mut I, name: &[u8], text: &mut [u8]) -> Loaded
+    ensures within { ReadsWithin text.new result }
+    ensures bytes { ReadsFront (I.remaining input.old) text.new result }
 {
     let mut done = 0;
     while done < text.len() {
-        let got = read_some(fd, &mut text[done..]);
-        if got < 0 {
-            os::fail(name);
-            return Loaded::Failed;
+        match read_some(input, &mut text[done..]) {
+            Ok(0) => return Loaded::Text(done),
+            Ok(n) => done += n,
+            Err(e) => {
+                fail(rt, name, &e);
+                return Loaded::Failed;
+            }
         }
-        let n = io::count(got, &text[done..]);
-        if n == 0 {
-            return Loaded::Text(done);
-        }
-        done += n;
     }
     Loaded::Text(done)
 }

@@ -1,12 +1,13 @@
 // Lines of standard input, one at a time. Bytes that were read and not yet taken wait in a lent buffer, and so does a line's beginning in
 // another; a line's whole length is counted, be it longer than what is kept of it.
+use crate::failures::fail;
 use crate::input::read_some;
 use crate::output::within;
-use libc::STDIN_FILENO;
+use std::io::{Eprint, Read};
 
 // What was read of standard input: the place of the next byte in the buffer and how many bytes that holds; how long the line is so far,
 // and whether its line feed was read; and whether there may be more.
-#[derive(Drop)]
+#[derive(Clone, Copy)]
 pub struct Reading {
     at: usize,
     got: usize,
@@ -50,9 +51,8 @@ fn take_byte(line: &mut [u8], s: Reading, b: u8) -> Reading {
         next.ended = true;
         return next;
     }
-    let len = s.len;
-    keep_byte(line, len, b);
-    next.len = counted(len);
+    keep_byte(line, s.len, b);
+    next.len = counted(s.len);
     next
 }
 
@@ -69,41 +69,55 @@ fn take_bytes(bytes: &[u8], line: &mut [u8], s: Reading) -> Reading {
 }
 
 // Some bytes of standard input, or that it ended. Where reading fails a line that was begun is dropped: what came may be cut anywhere.
-fn read_more(bytes: &mut [u8], s: Reading) -> Reading {
+fn read_more<R: Eprint, I: Read>(rt: &R, input: &mut I, bytes: &mut [u8], s: Reading) -> Reading {
     let mut next = s;
-    let got = read_some(STDIN_FILENO, bytes);
-    if got < 0 {
-        os::fail(b"standard input");
-        next.len = 0;
-        next.more = false;
-        return next;
+    match read_some(input, bytes) {
+        Ok(n) => {
+            next.at = 0;
+            next.got = n;
+            next.more = n != 0;
+        }
+        Err(e) => {
+            fail(rt, b"standard input", &e);
+            next.len = 0;
+            next.more = false;
+        }
     }
-    let n = io::count(got, bytes);
-    next.at = 0;
-    next.got = n;
-    next.more = n != 0;
     next
 }
 
 // One step of reading a line: the bytes that wait, or new ones.
-fn read_part(bytes: &mut [u8], line: &mut [u8], s: Reading) -> Reading {
+fn read_part<R: Eprint, I: Read>(
+    rt: &R,
+    input: &mut I,
+    bytes: &mut [u8],
+    line: &mut [u8],
+    s: Reading,
+) -> Reading {
     if s.at < s.got {
         let n = within(s.got, bytes);
         return take_bytes(&bytes[..n], line, s);
     }
-    read_more(bytes, s)
+    read_more(rt, input, bytes, s)
 }
 
 // The next line. A proved loop has to end, and nothing says that an input does: so the turns are counted down, from a number that no run
 // uses up.
-pub fn read_line(bytes: &mut [u8], line: &mut [u8], s: Reading) -> Reading {
+pub fn read_line<R: Eprint, I: Read>(
+    rt: &R,
+    input: &mut I,
+    bytes: &mut [u8],
+    line: &mut [u8],
+    s: Reading,
+) -> Reading {
     let mut r = s;
     r.len = 0;
     r.ended = false;
-    let mut turns = u64::MAX;
-    while turns > 0 && r.more && !r.ended {
-        r = read_part(bytes, line, r);
-        turns -= 1;
+    for _ in 0..u64::MAX {
+        if !r.more || r.ended {
+            break;
+        }
+        r = read_part(rt, input, bytes, line, r);
     }
     r
 }

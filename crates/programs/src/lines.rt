@@ -1,7 +1,7 @@
 // The lines that programs print, each put together in a lent array, so that it is written in one call.
 ghost use Rattle.std.specs.Prelude.{take, ◌∷◌, ◌≡◌};
 ghost use Rattle.answer.specs.Session.{refusal_line, source_name};
-ghost use Rattle.io.specs.Counts.{IsPrefixLen};
+ghost use Rattle.programs.specs.Counts.{IsPrefixLen};
 ghost use Rattle.programs.specs.Lines.{accepted_line};
 ghost use Rattle.text.specs.Reasons.{refusal_of, source_of};
 ghost use Rattle.writing.specs.Write.{Wrote};

@@ -1,21 +1,24 @@
 // When a read or a write is made again.
-ghost use Rattle.std.specs.Prelude.{T, false, ◌≡◌};
-ghost use Rattle.std.specs.Int.Signed.{non_neg};
+ghost use Rattle.std.specs.Prelude.{IsOk, false, ◌≡◌};
 
-use libc::{EAGAIN, EINTR};
+use std::io;
+use std::io::ErrorKind;
+use std::thread::yield_now;
 
 // Whether the call that answered so is made again: a signal interrupted it, or it would have to wait; then others run first. One
 // that did not fail is never made again: its bytes are taken.
-pub(crate) fn is_made_again(got: isize) -> bool
-    ensures { T (non_neg got) → result ≡ false }
+pub(crate) fn is_made_again(got: &io::Result<usize>) -> bool
+    ensures { IsOk got.now → result ≡ false }
 {
-    if got >= 0 {
-        return false;
+    match got {
+        Ok(_) => false,
+        Err(e) => match e.kind() {
+            ErrorKind::Interrupted => true,
+            ErrorKind::WouldBlock => {
+                yield_now();
+                true
+            }
+            _ => false,
+        },
     }
-    let e = os::errno();
-    if e == EAGAIN {
-        libc::sched_yield();
-        return true;
-    }
-    e == EINTR
 }

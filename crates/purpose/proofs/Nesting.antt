@@ -4,7 +4,7 @@ use borrow.Author.Tests.{eqb-true, lt-ltb, ltb-true, not-true}
 use lib.Dec.{eqb}
 use lib.ListN.{length}
 use mathlib.Core.Bool.{Bool, ◌&&◌, ◌||◌, and-false, and-true, cond, false, not, or-false, or-true, true, true≢false}
-use mathlib.Core.List.{List, [], ◌++◌, ◌∷◌}
+use mathlib.Core.List.{List, [], ◌∷◌}
 use mathlib.Core.Logic.{⊎_elim}
 use mathlib.Core.Path.{◌∙◌, ◌≡◌, ap, ap₂, refl, sym}
 use native.Mathlib.Omega.{arith}
@@ -16,7 +16,7 @@ use Rattle.purpose.proofs.Compliance.{allowed_down, denied_up, meet_closure, spr
 use Rattle.purpose.proofs.Lists.{member_cond, member_passing}
 use Rattle.purpose.specs.Compliance.{Marks, descends, in_tree, opens, related}
 use Rattle.purpose.specs.Meaning.{ClosureOf, marks_held}
-use Rattle.purpose.specs.Members.{members, passing}
+use Rattle.purpose.specs.Members.{members}
 use Rattle.purpose.specs.Nest.{closed_both_ways, closed_down, closed_sets, merged_over, nest_opens, open_in_sets, unmarked, weak_sets, without}
 use Rattle.purpose.specs.Verdicts.{first_said, open_by, over, silent, verdict, verdict_by}
 use Rattle.purpose.specs.declared.Closure.{Closure}

@@ -1,4 +1,6 @@
 // Purpose trees, labels and compliance: a library that knows no texts and no tables.
+#![tactic(auto)]
+
 ghost use Rattle.std.specs.Prelude.{◌≡◌, ◌&&◌, ◌||◌, [], ℕ, ◌≤◌, ◌<◌, min, length, get_or, take, eqb, ltb};
 ghost use Rattle.lists.specs.Lists.{member};
 ghost use Rattle.purpose.specs.Compliance.{intersects, Same, descends, related, in_tree, opens};
@@ -12,21 +14,21 @@ pub const WORDS: usize = 4;
 pub const LIMIT: usize = WORDS * 64;
 
 // A tree of purposes: the parent of each of the first `count`, in order of definition. The first has none.
-#[derive(Drop)]
+#[derive(Clone, Copy)]
 pub struct Tree {
     pub parents: [u8; LIMIT],
     pub count: usize,
 }
 
 // What growing a tree gives: whether it grew, and the tree.
-#[derive(Drop)]
+#[derive(Clone, Copy)]
 pub struct Growth {
     pub ok: bool,
     pub tree: Tree,
 }
 
 // The purposes that a label allows and denies, as bits.
-#[derive(Drop)]
+#[derive(Clone, Copy)]
 pub struct Label {
     pub allowed: [u64; WORDS],
     pub denied: [u64; WORDS],
@@ -34,14 +36,14 @@ pub struct Label {
 
 // What a label, or several merged, say of a purpose: whether it descends from an allowed one, and whether it is ancestor or descendant
 // of a denied one.
-#[derive(Drop)]
+#[derive(Clone, Copy)]
 pub struct Verdict {
     pub allowed: bool,
     pub denied: bool,
 }
 
 // The ancestors of a purpose, and its ancestors with its descendants, as bits.
-#[derive(Drop)]
+#[derive(Clone, Copy)]
 pub struct Closure {
     pub ancestors: [u64; WORDS],
     pub relatives: [u64; WORDS],

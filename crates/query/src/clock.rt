@@ -6,7 +6,7 @@ ghost use Rattle.query.specs.Authority.{in_range};
 use calendar::dates::days_in;
 
 // The host's clock. The day is counted from 1, the first of January.
-#[derive(Drop)]
+#[derive(Clone, Copy)]
 pub struct Clock {
     pub year: u64,
     pub day: u64,

@@ -1,4 +1,6 @@
 // Queries: their form, joins among them, who may ask them, and what they name; lines of the explaining tool.
+#![tactic(auto)]
+
 pub mod clock;
 pub mod joins;
 pub mod naming;

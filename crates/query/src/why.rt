@@ -13,7 +13,7 @@ use text::numbers::{Number, read_number};
 use text::words::{End, is_word, word_end};
 
 // `P T ROW COL`: where the four words stand.
-#[derive(Drop)]
+#[derive(Clone, Copy)]
 pub struct Why {
     pub purpose: usize,
     pub table: usize,
@@ -22,14 +22,14 @@ pub struct Why {
 }
 
 // What a line is read as.
-#[derive(Drop)]
+#[derive(Clone, Copy)]
 pub enum Line {
     Wrong,
     Is(Why),
 }
 
 // What stands behind the keyword, and where it ends.
-#[derive(Drop)]
+#[derive(Clone, Copy)]
 enum Body {
     At(Why, usize),
     Refused,

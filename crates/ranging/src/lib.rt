@@ -1,3 +1,5 @@
 // Ranges in the columns that a query names (27).
+#![tactic(auto)]
+
 pub mod join_ranged;
 pub mod ranged;

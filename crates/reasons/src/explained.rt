@@ -10,7 +10,7 @@ use text::words::word_end;
 
 // Why a cell is open or closed: it is open; its label denies the purpose whose name stands at a position of the document; its label
 // allows none above; its table has no labels and is not public.
-#[derive(Drop)]
+#[derive(Clone, Copy)]
 pub enum Cause {
     Opened,
     Denied(usize),
@@ -19,7 +19,7 @@ pub enum Cause {
 }
 
 // A reason, or a refusal.
-#[derive(Drop)]
+#[derive(Clone, Copy)]
 pub enum Explained {
     Given(Cause),
     Refused(Refusal),

@@ -1,3 +1,5 @@
 // The reserve of a document that the workspace holds.
+#![tactic(auto)]
+
 pub mod longest;
 mod sums;

@@ -13,7 +13,7 @@ use text::words::written_end;
 use workspace::layout::ROW_CELLS;
 
 // How many rows, and how long their lines are.
-#[derive(Drop)]
+#[derive(Clone, Copy)]
 pub(crate) struct Sum {
     pub count: usize,
     pub bytes: usize,

@@ -15,7 +15,7 @@ use workspace::layout::{PURPOSE_CELLS, ROLE_CELLS, USER_CELLS};
 
 // Who asks: the purpose and the user form by number; or the place of the first word that is unknown; or that no user form gives
 // the user the role.
-#[derive(Drop)]
+#[derive(Clone, Copy)]
 pub enum Parties {
     Known(usize, usize),
     Unknown(usize),

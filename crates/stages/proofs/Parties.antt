@@ -78,9 +78,7 @@ module _ (d : Policy) (s : List ℕ) (q : QueryForm) (c : Counts) {x : who.Parti
   parties_known e = subst (PartiesAre d s q c) e h
 
 -- who is neither known nor unknown has no such role
-pub not_given : (x : who.Parties) → (tag_of the_type x ≡ 0) ⊎ (tag_of the_type x ≡ 2) → (tag_of the_type x ≡ 1) ⊎ (tag_of the_type x ≡ 2) → x ≡ parties.NotGiven
+pub not_given : (x : who.Parties) → ((at : ℕ) → x ≡ parties.Unknown at → ⊥) → ((p u : ℕ) → x ≡ parties.Known p u → ⊥) → x ≡ parties.NotGiven
 not_given parties.NotGiven g h = refl
-not_given (parties.Known p u) g (inl e) = absurd (omega (arith, e))
-not_given (parties.Known p u) g (inr e) = absurd (omega (arith, e))
-not_given (parties.Unknown at) (inl e) h = absurd (omega (arith, e))
-not_given (parties.Unknown at) (inr e) h = absurd (omega (arith, e))
+not_given (parties.Known p u) g h = absurd (h p u refl)
+not_given (parties.Unknown at) g h = absurd (g at refl)

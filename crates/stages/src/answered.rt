@@ -2,7 +2,7 @@
 use text::refusals::Refusal;
 
 // An accepted answer: its length, the position of the grant that authorised it, and the rows passed, withheld and unmatched.
-#[derive(Drop)]
+#[derive(Clone, Copy)]
 pub struct Figures {
     pub len: usize,
     pub grant: usize,
@@ -12,7 +12,7 @@ pub struct Figures {
 }
 
 // An answer, or a refusal.
-#[derive(Drop)]
+#[derive(Clone, Copy)]
 pub enum Answered {
     Given(Figures),
     Refused(Refusal),

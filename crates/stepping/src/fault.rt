@@ -2,7 +2,7 @@
 use text::refusals::Reason;
 
 // What is wrong: the whole line is refused, or the word at a place of it, or the value of a cell, as it is written there.
-#[derive(Drop)]
+#[derive(Clone, Copy)]
 pub enum Fault {
     Whole(Reason),
     Item(Reason, usize),
@@ -10,7 +10,7 @@ pub enum Fault {
 }
 
 // What a fault finder gives: nothing is wrong, or a fault.
-#[derive(Drop)]
+#[derive(Clone, Copy)]
 pub enum Verdict {
     Fine,
     Faulty(Fault),

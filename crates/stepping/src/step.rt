@@ -3,7 +3,7 @@ use crate::fault::Fault;
 use index::counts::Counts;
 
 // What a line does: it fails, or what it defines is stored and there are so many of each kind.
-#[derive(Drop)]
+#[derive(Clone, Copy)]
 pub enum Step {
     Fails(Fault),
     Goes(Counts),

@@ -1,4 +1,6 @@
 // Lines of labels and tables: what is wrong with one, storing it, and the step that does both.
+#![tactic(auto)]
+
 pub mod label_faults;
 pub mod label_storing;
 pub mod steps;

@@ -17,7 +17,7 @@ use workspace::layout::{
 pub const LINE_BYTES: usize = 39;
 
 // What a host gets: the line's length, or a refusal.
-#[derive(Drop)]
+#[derive(Clone, Copy)]
 pub enum Told {
     Line(usize),
     Refused(Refusal),

@@ -20,7 +20,7 @@ use Rattle.text.specs.Brackets.{next}
 use Rattle.text.specs.Bytes.{first_byte, is_digit, is_letter, is_name_byte, within}
 use Rattle.text.specs.Names.{is_name}
 use Rattle.text.specs.Numbers.{digits_from, is_value, magnitude, no_leading_zero, rank, rank_up}
-use Rattle.text.specs.Reader.{Left, Reader, byte, from}
+use Rattle.text.specs.Reader.{Left, Reader, byte}
 use Rattle.text.specs.Words.{Word, cut_out, plain_word, read_number, word, written_at, written}
 
 -- ---- what a reader reads as it was written

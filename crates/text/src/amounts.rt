@@ -9,7 +9,7 @@ use crate::numbers::{Number, read_number};
 use crate::words::End;
 
 // Where a range ends, and the ranks of LOW and HIGH.
-#[derive(Drop)]
+#[derive(Clone, Copy)]
 pub enum Span {
     At(usize, u64, u64),
     Nothing,

@@ -10,7 +10,7 @@ use crate::words::{End, name_end, value_end};
 
 // What stands where a name may stand: a name behind a space, by where it begins and where it ends; no name, by where the reader
 // ends; or something else behind a space.
-#[derive(Drop)]
+#[derive(Clone, Copy)]
 pub enum Optional {
     Name(usize, usize),
     Absent(usize),

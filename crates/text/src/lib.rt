@@ -1,4 +1,6 @@
 // Bracket texts: bytes and their classes, words, names and numbers, items behind a space, and lines.
+#![tactic(auto)]
+
 pub mod amounts;
 pub mod brackets;
 pub mod bytes;

@@ -8,14 +8,14 @@ ghost use Rattle.text.specs.CodeEnds.{limited, ended_at, amount_of, end_of_numbe
 use crate::bytes::{byte_at, is_digit, is_name_byte};
 
 // A number, where there is one.
-#[derive(Drop)]
+#[derive(Clone, Copy)]
 pub enum Amount {
     Is(u64),
     Nothing,
 }
 
 // Where a number ends, and its rank.
-#[derive(Drop)]
+#[derive(Clone, Copy)]
 pub enum Number {
     At(usize, u64),
     Nothing,

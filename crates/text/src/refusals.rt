@@ -3,7 +3,7 @@ ghost use Rattle.std.specs.Prelude.{◌≡◌};
 ghost use Rattle.text.specs.Reasons.{reason_number};
 
 // Why a document, a query or a file is refused; each case has its number in the paper.
-#[derive(Drop)]
+#[derive(Clone, Copy)]
 pub enum Reason {
     TooLong,
     WrongForm,
@@ -37,7 +37,7 @@ pub enum Reason {
 }
 
 // The text that a refusal points into.
-#[derive(Drop)]
+#[derive(Clone, Copy)]
 pub enum Source {
     Document,
     Query,
@@ -45,7 +45,7 @@ pub enum Source {
 }
 
 // A refusal: why, and the part handed back, by the place of its first byte and its length.
-#[derive(Drop)]
+#[derive(Clone, Copy)]
 pub struct Refusal {
     pub reason: Reason,
     pub source: Source,

@@ -9,7 +9,7 @@ use crate::bytes::{byte_at, is_letter, is_name_byte, lower};
 use crate::numbers::{Number, read_number};
 
 // Where a reader ends, or that it refuses.
-#[derive(Drop)]
+#[derive(Clone, Copy)]
 pub enum End {
     At(usize),
     Nothing,

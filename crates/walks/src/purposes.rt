@@ -18,7 +18,7 @@ use workspace::found::Found;
 use workspace::layout::{PURPOSE_CELLS, PURPOSES};
 
 // Such a line that the check accepts: the hash of its name, the place of the other's name, and the other's number; or another line.
-#[derive(Drop)]
+#[derive(Clone, Copy)]
 enum Below {
     At(usize, usize, usize),
     Other,

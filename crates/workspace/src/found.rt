@@ -12,7 +12,7 @@ use text::bytes::{byte_at, is_name_byte};
 use text::words::{same_byte, word_end};
 
 // A number among names, or that there is none.
-#[derive(Drop)]
+#[derive(Clone, Copy)]
 pub enum Found {
     At(usize),
     Nothing,

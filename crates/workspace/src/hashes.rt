@@ -11,7 +11,7 @@ use text::bytes::{byte_at, is_letter, is_name_byte, lower};
 pub const PRINTS: usize = 4294967296;
 
 // Where a word ends, and its hash or its print.
-#[derive(Drop)]
+#[derive(Clone, Copy)]
 pub struct Hashed {
     pub end: usize,
     pub hash: usize,

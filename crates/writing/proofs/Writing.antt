@@ -2,7 +2,6 @@
 use Prim.Native.Nat.{◌+◌, ◌-◌, ◌<◌, ◌^◌, ◌≤◌, suc, ℕ}
 use lib.ListN.{drop, get_or, length, length-append, length-drop, length-set, set, take}
 use lib.Seq.{get_or-drop, length-sets, length-take-le, set_out, sets, sets-eq, take-suc}
-use mathlib.Core.Bool.{Bool, cond, false, true}
 use mathlib.Core.List.{List, [], ◌++◌, ◌∷◌}
 use mathlib.Core.Path.{◌∙◌, ◌≡◌, ap, refl, subst, sym}
 use native.Mathlib.Nat.{add-zero}

@@ -1,2 +1,4 @@
 // Writing into lent buffers.
+#![tactic(auto)]
+
 pub mod bytes;

@@ -1,3 +1,0 @@
-// Comma-separated files: their fields and records.
-pub mod fields;
-pub mod records;

@@ -1,0 +1,24 @@
+-- `explaining::kept_line::explain_kept` meets its contract: what is kept of a line decides.
+use Prim.Native.Nat.{ℕ}
+use lib.ListN.{length, take}
+use mathlib.Core.List.{List}
+use mathlib.Core.Path.{◌∙◌, ap}
+use Rattle.explaining.proofs.KeptLaws.{reason_kept, refusal_kept}
+use Rattle.explaining.specs.Kept.{line_bytes}
+use Rattle.programs.specs.Kept.{part_length}
+use Rattle.reasons.specs.Explaining.{explain_line, explained_as, reason_of}
+use Rattle.text.specs.Reasons.{refusal_of}
+use Rattle.explaining.proofs.kept_line.explain_kept.Goals as goal
+
+pub returns-in-Given : goal.returns-in-Given
+unfolding explained_as
+returns-in-Given c d line K kept long =
+    reason_kept d line (reason_of c.args.text.now c.in-Given.x) (c.in-Given.ensures d K ∙ ap (explain_line d) kept)
+
+pub returns-in-Refused : goal.returns-in-Refused
+unfolding explained_as
+returns-in-Refused c d line K kept long =
+    let r = c.in-Refused.r in
+    refusal_kept d line (refusal_of r) c.part_len.result
+    (c.part_len.ensures ∙ ap (λ (k : List ℕ). part_length r.len (length k) c.args.len) kept ∙ ap (part_length r.len (length (take line_bytes line))) long)
+    (c.in-Refused.ensures d K ∙ ap (explain_line d) kept)

@@ -1,0 +1,16 @@
+-- `form::parts::columns_end` meets its contract. The loop's invariant: the list from the loop's place on ends where the whole list ends.
+-- Assumes nothing.
+use Prim.Native.Nat.{◌-◌}
+use lib.ListN.{length}
+use mathlib.Core.Path.{◌≡◌}
+use Rattle.form.specs.FormReader.{column}
+use Rattle.text.specs.Brackets.{many}
+use Rattle.text.specs.CodeEnds.{word_end}
+use Rattle.text.specs.Reader.{from}
+use Rattle.form.proofs.parts.columns_end.Given as goal
+
+abbrev pub invariant-loop-n : goal.invariant-loop-n
+invariant-loop-n l = word_end (many column (from l.s l.i)) ≡ word_end (many column (from l.s l.at))
+
+abbrev pub decreases-loop-n : goal.decreases-loop-n
+decreases-loop-n l = length l.s - l.i

@@ -1,0 +1,26 @@
+-- `nodes::faults::purpose_below_fault` meets its contract: each answer by its law. Assumes nothing.
+use Prim.Native.Nat.{◌≤◌}
+use lib.ListN.{length}
+use mathlib.Core.Option.{some}
+use native.Mathlib.Omega.{arith}
+use Rattle.nodes.proofs.NodeFaults.{below_fine, below_unknown, node_full, node_taken, purpose_kind}
+use Rattle.form.specs.Form.{purpose}
+use Rattle.purpose.specs.Members.{limit}
+use Rattle.text.specs.Words.{word_of}
+use Rattle.nodes.proofs.faults.purpose_below_fault.Goals as goal
+
+pub returns-then-k-ge-PURPOSES : goal.returns-then-k-ge-PURPOSES
+returns-then-k-ge-PURPOSES c = let a = c.args in
+    node_full (λ d. d.purposes) purpose limit purpose_kind a.text.now a.purposes.now a.k a.line.now a.n (some (word_of a.line.now a.p)) ((a.n ≤ length a.line.now) × (a.p ≤ length a.line.now)) (omega arith)
+
+pub returns-in-At : goal.returns-in-At
+returns-in-At c = let a = c.args in
+    node_taken (λ d. d.purposes) purpose limit purpose_kind a.text.now a.purposes.now a.k a.line.now a.n (some (word_of a.line.now a.p)) ((a.n ≤ length a.line.now) × (a.p ≤ length a.line.now)) (omega arith) c.find_purpose.result c.find_purpose.ensures.0 c.in-At.field-0 c.in-At.is (λ q. q.0)
+
+pub returns-in-Nothing : goal.returns-in-Nothing
+returns-in-Nothing c = let a = c.args in
+    below_unknown (λ d. d.purposes) purpose limit purpose_kind a.text.now a.purposes.now a.k a.line.now a.n a.p ((a.n ≤ length a.line.now) × (a.p ≤ length a.line.now)) (omega arith) c.find_purpose.result c.find_purpose.ensures.0 c.in_default.is c.find_purpose-2.result c.find_purpose-2.ensures.0 c.in-Nothing.is (λ q. q.1)
+
+pub returns : goal.returns
+returns c = let a = c.args in
+    below_fine (λ d. d.purposes) purpose limit purpose_kind a.text.now a.purposes.now a.k a.line.now a.n a.p ((a.n ≤ length a.line.now) × (a.p ≤ length a.line.now)) (omega arith) c.find_purpose.result c.find_purpose.ensures.0 c.in_default.is c.find_purpose-2.result c.find_purpose-2.ensures.0 c.in_default-find_purpose.field-0 c.in_default-find_purpose.is

@@ -1,0 +1,7 @@
+-- `program::building::store_flag` meets its contract. Assumes nothing.
+use lib.Seq.{set_out}
+use mathlib.Core.Path.{sym}
+use Rattle.program.proofs.building.store_flag.Goals as goal
+
+pub returns : goal.returns
+returns c = sym (set_out c.args.a.now c.args.k c.args.v c.if-k-a.false)

@@ -1,0 +1,6 @@
+-- The writes that failed left the output's known bytes as they were.
+use Rattle.std.specs.Io.KnownBytes.{Keeps}
+use Rattle.programs.proofs.output.write_some.Given as goal
+
+abbrev pub invariant-loop : goal.invariant-loop
+invariant-loop g l = Keeps (g.W.Write.contents l.initial.out) (g.W.Write.contents l.out)

@@ -1,0 +1,10 @@
+-- `rows::faults::in_order` meets its contract: a range by its ends, and any other value is in order. Assumes nothing.
+use mathlib.Core.Path.{◌∙◌, sym}
+use Rattle.rows.proofs.RowTypes.{order_none, order_range}
+use Rattle.rows.proofs.faults.in_order.Goals as goal
+
+pub returns-in-At : goal.returns-in-At
+returns-in-At c = let entry = c.args in sym (order_range entry.line.now entry.at _ _ _ (sym c.read_range-k.ensures ∙ c.in-At.is))
+
+pub returns-in-Nothing : goal.returns-in-Nothing
+returns-in-Nothing c = let entry = c.args in sym (order_none entry.line.now entry.at (sym c.read_range-k.ensures ∙ c.in-Nothing.is))

@@ -1,0 +1,12 @@
+-- `workspace::found::find_name_to` meets its contract: positions behind the array's end are not looked at. Assumes nothing.
+use native.Mathlib.Omega.{arith}
+use Rattle.workspace.proofs.found.find_name_to.Goals as goal
+
+pub returns-then-ws-n : goal.returns-then-ws-n
+returns-then-ws-n c = (λ fits ended. absurd (omega (arith, fits)), tt)
+
+pub returns-then-ws-n-2 : goal.returns-then-ws-n-2
+returns-then-ws-n-2 c = (λ fits ended. absurd (omega (arith, fits)), tt)
+
+pub returns : goal.returns
+returns c = (λ fits ended. c.seek_name.ensures.0 ended, c.seek_name.ensures.1)
