@@ -14,7 +14,7 @@ fn main() {
     let folder = Path::new(&package).join(given);
     println!("cargo:rerun-if-changed={}", folder.join("libgate.a").display());
     if !folder.join("libgate.a").is_file() {
-        println!("cargo::error=no libgate.a: first run `rt staticlib gate`");
+        println!("cargo::error=no libgate.a: first run `tools/library`");
         return;
     }
     // For the binary alone: the library of mutants needs no gate.

@@ -1,5 +1,5 @@
 /* A host in C: it lends texts and a buffer to the gate, and prints what it gets back. From the root of the repository:
- *     rt staticlib gate
+ *     tools/library
  *     cc -std=c11 -I include -o host examples/host.c target/staticlib/libgate.a && ./host
  * examples/host.expected is what it prints. examples/host.rs is the same in Rust.
  */

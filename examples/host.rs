@@ -1,5 +1,5 @@
 //! A host in Rust: it lends texts and a buffer to the gate, and prints what it gets back. From the root of the repository:
-//!     rt staticlib gate
+//!     tools/library
 //!     rustc --edition 2021 -L target/staticlib -l static=gate -o host examples/host.rs && ./host
 //! examples/host.expected is what it prints. examples/host.c is the same in C.
 

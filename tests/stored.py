@@ -24,7 +24,7 @@ def main(name, kind, cases, about):
     options = argparse.ArgumentParser(description=about, formatter_class=argparse.RawDescriptionHelpFormatter)
     options.add_argument("names", metavar="NAME", nargs="*", help="run the cases of these names only, and show differences whole")
     options.add_argument("--list", action="store_true", help="print the names of the cases and run none")
-    options.add_argument("--program", type=pathlib.Path, default=root / "target" / "bin" / name, help=f"instead of target/bin/{name}")
+    options.add_argument("--program", type=pathlib.Path, default=root / "crates" / name / "out" / name, help=f"instead of crates/{name}/out/{name}")
     given = options.parse_args()
     if given.list:
         # `--list | head` ends quietly.
@@ -36,7 +36,7 @@ def main(name, kind, cases, about):
         print(f"{name}: no case is called {unknown[0]!r}; --list prints the names")
         return 1
     if not given.program.is_file():
-        print(f"{name}: no program {given.program.name}: first run `rt check {name}`")
+        print(f"{name}: no program {given.program.name}: first run `rt run </dev/null` in crates/{name}")
         return 1
     run = [case for case in cases if not given.names or case[0] in given.names]
     wrong = 0
