@@ -71,14 +71,12 @@ fn put_values(
 {
     let mut sizes = [0usize; COLUMNS];
     let mut to = at;
-    let mut i = 0;
-    while i < columns.len() {
+    for i in 0..columns.len() {
         let c = columns[i];
         let place = value_place(text, rows, r, width, c);
         let size = value_size(text, place, c, &mut sizes);
         let next = put_byte(out, to, b' ');
         to = put_sized(out, next, text, place, size);
-        i += 1;
     }
     to
 }
@@ -128,13 +126,11 @@ fn put_gapped(
     let own = under_row(rows, said, m, r);
     let mut sizes = [0usize; COLUMNS];
     let mut to = at;
-    let mut i = 0;
-    while i < columns.len() {
+    for i in 0..columns.len() {
         let c = columns[i];
         let shown = cell_open(rows, said, own, r, c);
         let next = put_byte(out, to, b' ');
         to = put_cell(out, next, text, rows, r, width, c, shown, &mut sizes);
-        i += 1;
     }
     to
 }
@@ -221,10 +217,8 @@ fn put_marked(
     ensures { (d : Doc) → Rows text.now rows.now count d.rows → Wrote out.old 0 (lines_marked (row_shown said.now m text.now rows.now gaps) columns.now marks.now count) out.new result }
 {
     let mut to = 0;
-    let mut r = 0;
-    while r < count {
+    for r in 0..count {
         to = put_line(out, to, text, rows, said, m, gaps, r, marks[r], columns);
-        r += 1;
     }
     to
 }

@@ -5,16 +5,16 @@
 #![tactic(auto)]
 
 use clock_line::read_clock;
-use gate::documents::{Checked, load};
+use gate::documents::load;
 use loaded::asks::ask_loaded;
 use loaded::cells::CELLS;
-use programs::input::Loaded;
 use programs::line_reader::{at_start, is_line, read_line};
 use programs::output::{within, write_first};
 use programs::policy;
 use programs::refusals::{part_len, write_refused};
 use query::clock::Clock;
-use stages::answered::Answered;
+use stages::answered::Figures;
+use text::refusals::Refusal;
 use workspace::layout::{
     ATTRIBUTE_CELLS, COND_ROLE_CELLS, GRANT_CELLS, LABELS, PURPOSE_CELLS, ROLE_CELLS, ROW_CELLS,
     SET_WORDS, TABLE_CELLS, USER_CELLS,
@@ -31,14 +31,14 @@ const BUFFER: usize = 4096;
 // Writes what a query gets, and says whether it was written whole.
 fn write_answered<R: Print + Eprint>(
     rt: &R,
-    a: Answered,
+    a: Result<Figures, Refusal>,
     out: &[u8],
     kept: usize,
     len: usize,
 ) -> bool {
     match a {
-        Answered::Given(x) => write_first(rt, x.len, out),
-        Answered::Refused(r) => {
+        Ok(x) => write_first(rt, x.len, out),
+        Err(r) => {
             let mut whole = r;
             whole.len = part_len(r.len, kept, len);
             write_refused(rt, whole)
@@ -128,7 +128,7 @@ fn ask_checked<R: Input + Print + Eprint>(rt: &R, policy: &[u8]) {
         &mut cells,
     );
     match c {
-        Checked::Accepted(_, _) => {
+        Ok((_, _)) => {
             ask_policy(
                 rt,
                 policy,
@@ -144,7 +144,7 @@ fn ask_checked<R: Input + Print + Eprint>(rt: &R, policy: &[u8]) {
                 &cells,
             );
         }
-        Checked::Refused(r) => {
+        Err(r) => {
             write_refused(rt, r);
         }
     }
@@ -152,7 +152,7 @@ fn ask_checked<R: Input + Print + Eprint>(rt: &R, policy: &[u8]) {
 
 fn main(rt: HostRuntime) {
     let mut text = [0u8; policy::ROOM];
-    let Loaded::Text(n) = policy::load(&rt, &mut text) else {
+    let Some(n) = policy::load(&rt, &mut text) else {
         return;
     };
     ask_checked(&rt, &text[..n]);

@@ -37,8 +37,8 @@ use Rattle.text.specs.Offending.{leftmost, missing, offending_if, unless}
 use Rattle.text.specs.Reader.{Left, from}
 use Rattle.text.specs.Walking.{next_word}
 use Rattle.text.specs.Words.{Word, is_called, word_of, written_at, written_of}
-use Rattle.condition.specs.declared.conditions.Read.{Read}
-use Rattle.condition.specs.declared.conditions.Read.TheVariants as read
+use Rattle.std.specs.Prelude as prelude
+use Rattle.std.specs.Prelude.{Some}
 
 -- ---- attributes by their words
 
@@ -121,7 +121,7 @@ all_taken f (x ∷ xs) (suc n) zero h a b = and_left (f x) _ h
 all_taken f (x ∷ xs) (suc n) (suc i) h a b = all_taken f xs n i (and_right (f x) _ h) (omega (arith, a)) (omega (arith, b))
 
 -- the answer of n comparisons and the places that were stored: how many there are, and what a condition that stands there has
-module _ (s : List ℕ) (at : ℕ) (r : Read) (ops : List ℕ) (p : Placed s at r ops) (e n : ℕ) (h : r ≡ read.At e n) where
+module _ (s : List ℕ) (at : ℕ) (r : prelude.Option (ℕ × ℕ)) (ops : List ℕ) (p : Placed s at r ops) (e n : ℕ) (h : r ≡ Some (e, n)) where
   count_is : (x : Cond Compared) (l : Left) → condition_in_form (from s at) ≡ some (x, l) → n ≡ size x
   count_is x l k = read_count e l.at n (size x) (sym h ∙ p.reads ∙ ap read_to k)
 
@@ -161,7 +161,7 @@ module _ (s : List ℕ) (at : ℕ) (r : Read) (ops : List ℕ) (p : Placed s at 
   stored_count o x l k = omega (arith, count_is x l k)
 
 -- a condition that was read is not none
-pub read_there : (s : List ℕ) (at e n : ℕ) (r : Read) → r ≡ read_to (condition_in_form (from s at)) → r ≡ read.At e n → {A : Type 0} → condition_in_form (from s at) ≡ none → A
+pub read_there : (s : List ℕ) (at e n : ℕ) (r : prelude.Option (ℕ × ℕ)) → r ≡ read_to (condition_in_form (from s at)) → r ≡ Some (e, n) → {A : Type 0} → condition_in_form (from s at) ≡ none → A
 read_there s at e n r h k {A} z = absurd (none-ne-some _ (sym z ∙ (condition_at_lem s at e n (sym h ∙ k)).is))
 
 -- what was read and what was not
@@ -245,7 +245,7 @@ module _ (d : Doc) (line : List ℕ) (c r : ℕ) (x : Cond Compared) where
   cond_placed = refl
 
 -- the same by the places that were stored
-module _ (d : Doc) (line : List ℕ) (c r : ℕ) (x : Cond Compared) (l : Left) (at : ℕ) (k : condition_in_form (from line at) ≡ some (x, l)) (rd : Read) (ops : List ℕ) (p : Placed line at rd ops) (e n : ℕ) (h : rd ≡ read.At e n) (few : n ≤ 64) where
+module _ (d : Doc) (line : List ℕ) (c r : ℕ) (x : Cond Compared) (l : Left) (at : ℕ) (k : condition_in_form (from line at) ≡ some (x, l)) (rd : prelude.Option (ℕ × ℕ)) (ops : List ℕ) (p : Placed line at rd ops) (e n : ℕ) (h : rd ≡ Some (e, n)) (few : n ≤ 64) where
   pub unknown_stored : (i : ℕ) → some i ≡ role_of d.policy (word_of line r) → unknown d.policy (cond_form_lem line c r x) ≡ missing (usable_for d.policy i) (map (λ p. word_of line (next_word line p)) (take n ops))
   unknown_stored i g = attribute_unknown d line c r x i (take n ops) g (stored_are line at rd ops p e n h few x l k)
 

@@ -21,18 +21,17 @@ use Rattle.text.specs.Reader.{Left, from}
 use Rattle.text.specs.Words.{word_of}
 use Rattle.stepping.specs.declared.fault.Fault.{Fault}
 use Rattle.stepping.specs.declared.fault.Fault.TheVariants.{Whole}
-use Rattle.stepping.specs.declared.fault.Verdict.{Verdict}
-use Rattle.stepping.specs.declared.fault.Verdict.TheVariants.{Faulty, Fine}
+use Rattle.std.specs.Prelude.{Err, Ok, Result}
 use Rattle.text.specs.declared.refusals.Reason.TheVariants.{WrongForm}
 
 -- the form that is told by the condition at t
 abbrev pub cond_form : List ℕ → ℕ → ℕ → ℕ → Form
 cond_form line n r t = cond_role (word_of line n) (word_of line r) (condition_read (condition_in_form (from line t)))
 
-module _ {Held : Doc → Type 0} {Inside : Type 0} {line : List ℕ} {n r t k : ℕ} {f : Verdict} (j : JudgesCond Held Inside line n r t k f) where
-  wrong_form : f ≡ Fine → f ≡ Faulty (Whole WrongForm) → ⊥
+module _ {Held : Doc → Type 0} {Inside : Type 0} {line : List ℕ} {n r t k : ℕ} {f : Result (Unit {0}) Fault} (j : JudgesCond Held Inside line n r t k f) where
+  wrong_form : f ≡ Ok tt → f ≡ Err (Whole WrongForm) → ⊥
   wrong_form h e =
-      let q : Fine ≡ Faulty (Whole WrongForm) = sym h ∙ e in
+      let q : (Ok tt) ≡ Err (Whole WrongForm) = sym h ∙ e in
       let z : ◌≡◌ {A = ℕ} 0 1 = cc in
       absurd (omega arith)
 
@@ -41,14 +40,14 @@ module _ {Held : Doc → Type 0} {Inside : Type 0} {line : List ℕ} {n r t k : 
   told x e = judges_as (ap (λ (o : Option (Cond Compared × Left)). cond_role (word_of line n) (word_of line r) (condition_read o)) (sym e)) (j.judges x.0 x.1 e)
 
   -- nothing is wrong: a condition was read
-  pub cond_read : f ≡ Fine → there (condition_in_form (from line t)) ≡ true
+  pub cond_read : f ≡ Ok tt → there (condition_in_form (from line t)) ≡ true
   cond_read h = go (condition_in_form (from line t)) refl
     where
       go : (o : Option (Cond Compared × Left)) → condition_in_form (from line t) ≡ o → there (condition_in_form (from line t)) ≡ true
       go none e = absurd (wrong_form h (j.refuses e))
       go (some x) e = unfold there in ap there e
 
-  pub cond_judges : f ≡ Fine → Judges Held Inside line (cond_form line n r t) k 64 f
+  pub cond_judges : f ≡ Ok tt → Judges Held Inside line (cond_form line n r t) k 64 f
   cond_judges h = go (condition_in_form (from line t)) refl
     where
       go : (o : Option (Cond Compared × Left)) → condition_in_form (from line t) ≡ o → Judges Held Inside line (cond_form line n r t) k 64 f
@@ -63,7 +62,7 @@ module _ {Held : Doc → Type 0} {Inside : Type 0} {line : List ℕ} {n r t k : 
         is ∙ ap (map (λ x. cond_role (word_of line n) (word_of line r) x.0)) e
         ∙ ap (λ (o : Option (Cond Compared × Left)). some (cond_role (word_of line n) (word_of line r) (condition_read o))) (sym e)
 
-    pub cond_line : f ≡ Fine → (d : Doc) → check_form d line (cond_form line n r t) ≡ check_line d line
+    pub cond_line : f ≡ Ok tt → (d : Doc) → check_form d line (cond_form line n r t) ≡ check_line d line
     cond_line h d = go (condition_in_form (from line t)) refl
       where
         go : (o : Option (Cond Compared × Left)) → condition_in_form (from line t) ≡ o → check_form d line (cond_form line n r t) ≡ check_line d line
@@ -71,12 +70,12 @@ module _ {Held : Doc → Type 0} {Inside : Type 0} {line : List ℕ} {n r t k : 
         go (some x) e = sym (line_form d line (cond_form line n r t) (cond_is x e))
 
     -- something is wrong, perhaps the condition
-    pub cond_refuses : {w : Fault} → f ≡ Faulty w → (d : Doc) → Held d → Inside → Refuses line (check_line d line) w
+    pub cond_refuses : {w : Fault} → f ≡ Err w → (d : Doc) → Held d → Inside → Refuses line (check_line d line) w
     cond_refuses {w} h d held p = go (condition_in_form (from line t)) refl
       where
-        none_read : Refuses line (check_line d line) (Whole WrongForm) → f ≡ Faulty (Whole WrongForm) → Refuses line (check_line d line) w
+        none_read : Refuses line (check_line d line) (Whole WrongForm) → f ≡ Err (Whole WrongForm) → Refuses line (check_line d line) w
         none_read x e =
-            let q : Faulty w ≡ Faulty (Whole WrongForm) = sym h ∙ e in
+            let q : Err w ≡ Err (Whole WrongForm) = sym h ∙ e in
             let s : w ≡ Whole WrongForm = cc in
             subst (Refuses line (check_line d line)) (sym s) x
 

@@ -9,11 +9,11 @@ use Rattle.form.specs.Form.{cond_role}
 use Rattle.text.specs.Reader.{Left, from}
 use Rattle.text.specs.Words.{word_of}
 use Rattle.stepping.specs.declared.fault.Fault.TheVariants.{Whole}
-use Rattle.stepping.specs.declared.fault.Verdict.{Verdict}
-use Rattle.stepping.specs.declared.fault.Verdict.TheVariants.{Faulty}
+use Rattle.std.specs.Prelude.{Err, Result}
 use Rattle.text.specs.declared.refusals.Reason.TheVariants.{WrongForm}
+use Rattle.stepping.specs.declared.fault.Fault.{Fault}
 
 -- the outcome of the check, for the condition that is read at t of the line; where none is, the line has the wrong form
-pub record JudgesCond (Held : Doc → Type 0) (Placed : Type 0) (line : List ℕ) (c r t k : ℕ) (f : Verdict) : Type 0 where
+pub record JudgesCond (Held : Doc → Type 0) (Placed : Type 0) (line : List ℕ) (c r t k : ℕ) (f : Result (Unit {0}) Fault) : Type 0 where
   pub judges : (x : Cond Compared) (l : Left) → condition_in_form (from line t) ≡ some (x, l) → Judges Held Placed line (cond_role (word_of line c) (word_of line r) x) k 64 f
-  pub refuses : condition_in_form (from line t) ≡ none → f ≡ Faulty (Whole WrongForm)
+  pub refuses : condition_in_form (from line t) ≡ none → f ≡ Err (Whole WrongForm)

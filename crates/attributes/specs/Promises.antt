@@ -27,12 +27,11 @@ use Rattle.text.specs.Walking.{next_word}
 use Rattle.text.specs.Words.{word_of}
 use Rattle.condition.specs.declared.kinds.Kind as kinds
 use Rattle.index.specs.declared.counts.Counts.{Counts}
-use Rattle.stepping.specs.declared.fault.Verdict.{Verdict}
-use Rattle.stepping.specs.declared.step.Step.{Step}
-use Rattle.text.specs.declared.offending.Offending.{Offending}
+use Rattle.std.specs.Prelude.{Option, Result}
+use Rattle.stepping.specs.declared.fault.Fault.{Fault}
 
 -- attr_faults::attr_fault: the attribute whose name stands at a of the line, at the role whose name stands at r, behind k attributes
-abbrev pub AttrFaultPromise : (text roles : List ℕ) (roles_count : ℕ) (attributes : List ℕ) (k users_count : ℕ) (line : List ℕ) (r a : ℕ) (kind : kinds.Kind) (f : Verdict) → Type 0
+abbrev pub AttrFaultPromise : (text roles : List ℕ) (roles_count : ℕ) (attributes : List ℕ) (k users_count : ℕ) (line : List ℕ) (r a : ℕ) (kind : kinds.Kind) (f : Result (Unit {0}) Fault) → Type 0
 AttrFaultPromise text roles roles_count attributes k users_count line r a kind f =
     Judges (λ d. Nodes 64 text roles roles_count d.policy.roles × Attributes text attributes k d.policy.attributes × (users_count ≡ length d.policy.users)) ((r ≤ length line) × (a ≤ length line)) line (attr (word_of line r) (word_of line a) (kind_of kind)) k 32 f
 
@@ -44,17 +43,17 @@ StoreAttrPromise text roles roles_count attributes attributes' k at line r a kin
     Attributes text attributes' (k + 1) (add d (attr (word_of line r) (word_of line a) (kind_of kind))).policy.attributes
 
 -- cond_faults::first_unusable: the first of the comparisons' attributes that is not usable
-abbrev pub FirstUnusablePromise : (text roles : List ℕ) (m : ℕ) (attributes : List ℕ) (n : ℕ) (line : List ℕ) (role : ℕ) (ops : List ℕ) (count : ℕ) (f : Offending) → Type 0
+abbrev pub FirstUnusablePromise : (text roles : List ℕ) (m : ℕ) (attributes : List ℕ) (n : ℕ) (line : List ℕ) (role : ℕ) (ops : List ℕ) (count : ℕ) (f : Option ℕ) → Type 0
 FirstUnusablePromise text roles m attributes n line role ops count f =
     ((d : Policy) → Nodes 64 text roles m d.roles → Attributes text attributes n d.attributes → offending_of line f ≡ missing (usable_for d role) (map (λ p. word_of line (next_word line p)) (take count ops))) × (((i : ℕ) → i < count → get_or ops i 0 ≤ length line) → Near line f)
 
 -- cond_faults::first_mistyped: the first operator or value of the comparisons that is of the wrong type
-abbrev pub FirstMistypedPromise : (text attributes : List ℕ) (n : ℕ) (line ops : List ℕ) (count : ℕ) (f : Offending) → Type 0
+abbrev pub FirstMistypedPromise : (text attributes : List ℕ) (n : ℕ) (line ops : List ℕ) (count : ℕ) (f : Option ℕ) → Type 0
 FirstMistypedPromise text attributes n line ops count f =
     ((d : Policy) → Attributes text attributes n d.attributes → offending_value line f ≡ leftmost (map (λ p. mistyped (attribute_kind d (word_of line (next_word line p))) (compared_at line p)) (take count ops))) × (((i : ℕ) → i < count → get_or ops i 0 ≤ length line) → Near line f)
 
 -- cond_faults::cond_role_fault: what is wrong with the line `(cond-role C ROLE cond)`
-abbrev pub CondRoleFaultPromise : (text roles : List ℕ) (m : ℕ) (attributes : List ℕ) (n : ℕ) (conds : List ℕ) (k : ℕ) (line : List ℕ) (c r t : ℕ) (f : Verdict) → Type 0
+abbrev pub CondRoleFaultPromise : (text roles : List ℕ) (m : ℕ) (attributes : List ℕ) (n : ℕ) (conds : List ℕ) (k : ℕ) (line : List ℕ) (c r t : ℕ) (f : Result (Unit {0}) Fault) → Type 0
 CondRoleFaultPromise text roles m attributes n conds k line c r t f =
     JudgesCond (λ (d : Doc). Nodes 64 text roles m d.policy.roles × Attributes text attributes n d.policy.attributes × CondRoles d.policy text conds k d.policy.cond_roles) ((c ≤ length line) × (r ≤ length line) × (t ≤ length line)) line c r t k f
 
@@ -67,14 +66,14 @@ StoreCondRolePromise text roles roles_count conds conds' k at line c r t =
     CondRoles (add d (cond_role (word_of line c) (word_of line r) (condition_read (condition_in_form (from line t))))).policy text conds' (k + 1) (add d (cond_role (word_of line c) (word_of line r) (condition_read (condition_in_form (from line t))))).policy.cond_roles
 
 -- steps::step_attr: an attribute, whose name stands at a, at the role whose name stands at r
-abbrev pub StepAttrPromise : (text : List ℕ) (at : ℕ) (line roles attributes attributes' : List ℕ) (c : Counts) (r a : ℕ) (kind : kinds.Kind) (s : Step) → Type 0
+abbrev pub StepAttrPromise : (text : List ℕ) (at : ℕ) (line roles attributes attributes' : List ℕ) (c : Counts) (r a : ℕ) (kind : kinds.Kind) (s : Result Counts Fault) → Type 0
 StepAttrPromise text at line roles attributes attributes' c r a kind s =
     (d : Doc) (ps' us' cs' gs' ls' ms' ts' ws' : List ℕ) → LineAt text at line → ((r ≤ length line) × (a ≤ length line)) →
     Indexed text ps' roles attributes us' cs' gs' ls' ms' ts' ws' c d →
     Follows (Indexed text ps' roles attributes' us' cs' gs' ls' ms' ts' ws') line (check_form d line (attr (word_of line r) (word_of line a) (kind_of kind))) s
 
 -- steps::step_cond: a conditional role, whose name stands at n, over the role at r, with the condition at t
-abbrev pub StepCondPromise : (text : List ℕ) (at : ℕ) (line roles attributes conds conds' : List ℕ) (c : Counts) (n r t : ℕ) (s : Step) → Type 0
+abbrev pub StepCondPromise : (text : List ℕ) (at : ℕ) (line roles attributes conds conds' : List ℕ) (c : Counts) (n r t : ℕ) (s : Result Counts Fault) → Type 0
 StepCondPromise text at line roles attributes conds conds' c n r t s =
     (d : Doc) (ps' us' gs' ls' ms' ts' ws' : List ℕ) →
     form_of line ≡ Option.map (λ x. cond_role (word_of line n) (word_of line r) x.0) (condition_in_form (from line t)) → LineAt text at line →

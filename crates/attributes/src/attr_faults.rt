@@ -4,9 +4,8 @@ ghost use Rattle.attributes.specs.Promises.{AttrFaultPromise};
 use condition::kinds::Kind;
 use principals::attributes::find_attribute;
 use principals::names::find_role;
-use stepping::fault::{Fault, Verdict};
+use stepping::fault::Fault;
 use text::refusals::Reason;
-use workspace::found::Found;
 use workspace::layout::{ATTRIBUTE_CELLS, ATTRIBUTES, ROLE_CELLS};
 
 // The attribute whose name stands at a of the line, at the role whose name stands at r, behind k attributes.
@@ -21,20 +20,20 @@ pub fn attr_fault(
     r: usize,
     a: usize,
     kind: Kind,
-) -> Verdict
+) -> Result<(), Fault>
     ensures { AttrFaultPromise text.now roles.now roles_count attributes.now k users_count line.now r a kind result }
 {
     if ATTRIBUTES <= k {
-        return Verdict::Faulty(Fault::Whole(Reason::OverBound));
+        return Err(Fault::Whole(Reason::OverBound));
     }
-    if let Found::At(_) = find_attribute(text, attributes, k, line, a) {
-        return Verdict::Faulty(Fault::Item(Reason::NameTaken, a));
+    if find_attribute(text, attributes, k, line, a).is_some() {
+        return Err(Fault::Item(Reason::NameTaken, a));
     }
-    if let Found::Nothing = find_role(text, roles, roles_count, line, r) {
-        return Verdict::Faulty(Fault::Item(Reason::NameUnknown, r));
+    if find_role(text, roles, roles_count, line, r).is_none() {
+        return Err(Fault::Item(Reason::NameUnknown, r));
     }
     if 0 < users_count {
-        return Verdict::Faulty(Fault::Whole(Reason::LateAttribute));
+        return Err(Fault::Whole(Reason::LateAttribute));
     }
-    Verdict::Fine
+    Ok(())
 }

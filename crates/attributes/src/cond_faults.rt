@@ -11,16 +11,14 @@ ghost use Rattle.text.specs.Words.{word_of};
 ghost use Rattle.attributes.specs.Promises.{CondRoleFaultPromise, FirstMistypedPromise, FirstUnusablePromise};
 
 use condition::comparisons::wrong_type;
-use condition::conditions::{Read, read_places};
+use condition::conditions::read_places;
 use condition::kinds::Kind;
 use principals::attributes::{attribute_kind, attribute_role, find_attribute};
 use principals::conds::find_cond_role;
 use principals::names::{find_role, role_below};
-use stepping::fault::{Fault, Verdict};
-use text::offending::Offending;
+use stepping::fault::Fault;
 use text::refusals::Reason;
 use text::walking::next_word;
-use workspace::found::Found;
 use workspace::layout::{ATTRIBUTE_CELLS, COND_ROLE_CELLS, COND_ROLES, ROLE_CELLS};
 
 // The most comparisons that a condition may have.
@@ -39,14 +37,12 @@ fn usable(
 ) -> bool
     ensures { (d : Policy) → Nodes 64 text.now roles.now m d.roles → Attributes text.now attributes.now n d.attributes → result ≡ usable_for d role (word_of line.now at) }
 {
-    let f = find_attribute(text, attributes, n, line, at);
-    let Found::At(a) = f else {
+    let Some(a) = find_attribute(text, attributes, n, line, at) else {
         return false;
     };
-    let o = attribute_role(attributes, n, a);
-    match o {
-        Found::At(q) => role_below(roles, m, role, q),
-        Found::Nothing => true,
+    match attribute_role(attributes, n, a) {
+        Some(q) => role_below(roles, m, role, q),
+        None => true,
     }
 }
 
@@ -61,19 +57,17 @@ fn first_unusable(
     role: usize,
     ops: &[usize; COMPARISONS],
     count: usize,
-) -> Offending
+) -> Option<usize>
     requires { (count ≤ 64) × (count ≤ length ops.now) }
     ensures { FirstUnusablePromise text.now roles.now m attributes.now n line.now role ops.now count result }
 {
-    let mut j = 0;
-    while j < count {
+    for j in 0..count {
         let at = next_word(line, ops[j]);
         if !usable(text, roles, m, attributes, n, line, role, at) {
-            return Offending::At(at);
+            return Some(at);
         }
-        j += 1;
     }
-    Offending::Nothing
+    None
 }
 
 // The type of the attribute of the name at a position.
@@ -86,8 +80,7 @@ fn kind_named(
 ) -> Kind
     ensures { (d : Policy) → Attributes text.now attributes.now n d.attributes → kind_of result ≡ attribute_kind d (word_of line.now at) }
 {
-    let f = find_attribute(text, attributes, n, line, at);
-    let Found::At(a) = f else {
+    let Some(a) = find_attribute(text, attributes, n, line, at) else {
         return Kind::Num;
     };
     attribute_kind(attributes, n, a)
@@ -101,21 +94,18 @@ fn first_mistyped(
     line: &[u8],
     ops: &[usize; COMPARISONS],
     count: usize,
-) -> Offending
+) -> Option<usize>
     requires { (count ≤ 64) × (count ≤ length ops.now) }
     ensures { FirstMistypedPromise text.now attributes.now n line.now ops.now count result }
 {
-    let mut j = 0;
-    while j < count {
+    for j in 0..count {
         let op = ops[j];
         let kind = kind_named(text, attributes, n, line, next_word(line, op));
-        let w = wrong_type(line, op, kind);
-        if let Offending::At(p) = w {
-            return Offending::At(p);
+        if let Some(p) = wrong_type(line, op, kind) {
+            return Some(p);
         }
-        j += 1;
     }
-    Offending::Nothing
+    None
 }
 
 // What is wrong with the line `(cond-role C ROLE cond)`: C stands at c, the role at r, and the condition's bracket at t. There
@@ -132,35 +122,30 @@ pub fn cond_role_fault(
     c: usize,
     r: usize,
     t: usize,
-) -> Verdict
+) -> Result<(), Fault>
     ensures { CondRoleFaultPromise text.now roles.now m attributes.now n conds.now k line.now c r t result }
 {
     let mut ops = [0usize; COMPARISONS];
-    let read = read_places(line, t, false, &mut ops);
-    let Read::At(_, count) = read else {
-        return Verdict::Faulty(Fault::Whole(Reason::WrongForm));
+    let Some((_, count)) = read_places(line, t, false, &mut ops) else {
+        return Err(Fault::Whole(Reason::WrongForm));
     };
     if COND_ROLES <= k {
-        return Verdict::Faulty(Fault::Whole(Reason::OverBound));
+        return Err(Fault::Whole(Reason::OverBound));
     }
     if COMPARISONS < count {
-        return Verdict::Faulty(Fault::Whole(Reason::OverBound));
+        return Err(Fault::Whole(Reason::OverBound));
     }
-    let before = find_cond_role(text, conds, k, line, c);
-    if let Found::At(_) = before {
-        return Verdict::Faulty(Fault::Item(Reason::NameTaken, c));
+    if find_cond_role(text, conds, k, line, c).is_some() {
+        return Err(Fault::Item(Reason::NameTaken, c));
     }
-    let found = find_role(text, roles, m, line, r);
-    let Found::At(role) = found else {
-        return Verdict::Faulty(Fault::Item(Reason::NameUnknown, r));
+    let Some(role) = find_role(text, roles, m, line, r) else {
+        return Err(Fault::Item(Reason::NameUnknown, r));
     };
-    let unusable = first_unusable(text, roles, m, attributes, n, line, role, &ops, count);
-    if let Offending::At(p) = unusable {
-        return Verdict::Faulty(Fault::Item(Reason::NameUnknown, p));
+    if let Some(p) = first_unusable(text, roles, m, attributes, n, line, role, &ops, count) {
+        return Err(Fault::Item(Reason::NameUnknown, p));
     }
-    let mistyped = first_mistyped(text, attributes, n, line, &ops, count);
-    if let Offending::At(p) = mistyped {
-        return Verdict::Faulty(Fault::Value(Reason::WrongType, p));
+    if let Some(p) = first_mistyped(text, attributes, n, line, &ops, count) {
+        return Err(Fault::Value(Reason::WrongType, p));
     }
-    Verdict::Fine
+    Ok(())
 }

@@ -7,8 +7,7 @@ use crate::cond_faults::cond_role_fault;
 use crate::cond_storing::store_cond_role;
 use condition::kinds::Kind;
 use index::counts::Counts;
-use stepping::fault::Verdict;
-use stepping::step::Step;
+use stepping::fault::Fault;
 use workspace::layout::{ATTRIBUTE_CELLS, COND_ROLE_CELLS, ROLE_CELLS};
 
 // An attribute, whose name stands at a, at the role whose name stands at r.
@@ -22,20 +21,17 @@ pub fn step_attr(
     r: usize,
     a: usize,
     kind: Kind,
-) -> Step
+) -> Result<Counts, Fault>
     ensures { StepAttrPromise text.now at line.now roles.now attributes.old attributes.new c r a kind result }
 {
     let k = c.attributes;
-    let f = attr_fault(
+    attr_fault(
         text, roles, c.roles, attributes, k, c.users, line, r, a, kind,
-    );
-    if let Verdict::Faulty(wrong) = f {
-        return Step::Fails(wrong);
-    }
+    )?;
     store_attr(text, roles, c.roles, attributes, k, at, line, r, a, kind);
     let mut next = c;
     next.attributes = k + 1;
-    Step::Goes(next)
+    Ok(next)
 }
 
 // A conditional role, whose name stands at n, over the role at r, with the condition at t.
@@ -50,11 +46,11 @@ pub fn step_cond(
     n: usize,
     r: usize,
     t: usize,
-) -> Step
+) -> Result<Counts, Fault>
     ensures { StepCondPromise text.now at line.now roles.now attributes.now conds.old conds.new c n r t result }
 {
     let k = c.conds;
-    let f = cond_role_fault(
+    cond_role_fault(
         text,
         roles,
         c.roles,
@@ -66,12 +62,9 @@ pub fn step_cond(
         n,
         r,
         t,
-    );
-    if let Verdict::Faulty(wrong) = f {
-        return Step::Fails(wrong);
-    }
+    )?;
     store_cond_role(text, roles, c.roles, conds, k, at, line, n, r, t);
     let mut next = c;
     next.conds = k + 1;
-    Step::Goes(next)
+    Ok(next)
 }

@@ -23,10 +23,10 @@ use Rattle.text.specs.Reader.{from}
 use Rattle.workspace.specs.Found.{found_as}
 use Rattle.purpose.specs.declared.Closure.{Closure}
 use Rattle.query.specs.declared.clock.Clock as host
-use Rattle.workspace.specs.declared.found.Found.{Found}
+use Rattle.std.specs.Prelude.{Option}
 
 -- grants::first_grant: the first of the grants whose purpose is above the one with this closure, and whose conditional role is over a role above `role` and has a condition that holds
-abbrev pub FirstGrantPromise : (closure : Closure) (roles : List ℕ) (rcount : ℕ) (conds : List ℕ) (ccount : ℕ) (grants : List ℕ) (gcount : ℕ) (held : List Bool) (role : ℕ) (x : Found) → Type 0
+abbrev pub FirstGrantPromise : (closure : Closure) (roles : List ℕ) (rcount : ℕ) (conds : List ℕ) (ccount : ℕ) (grants : List ℕ) (gcount : ℕ) (held : List Bool) (role : ℕ) (x : Option ℕ) → Type 0
 FirstGrantPromise closure roles rcount conds ccount grants gcount held role x =
     (d : Policy) (text : List ℕ) (c : authority.Clock) (u : User) (p : ℕ) → Nodes 64 text roles rcount d.roles →
     CondRoles d text conds ccount d.cond_roles → Grants grants gcount d.grants → ClosureOf (tree_of d.purposes) p closure →

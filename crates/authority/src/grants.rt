@@ -22,7 +22,6 @@ use principals::grants::{grant_cond_role, grant_purpose};
 use principals::users::{user_end, user_place, user_role, user_start};
 use purpose::{Closure, is_above};
 use query::clock::Clock;
-use workspace::found::Found;
 use workspace::layout::{
     ATTRIBUTE_CELLS, COND_ROLE_CELLS, COND_ROLES, GRANT_CELLS, ROLE_CELLS, ROLES, USER_CELLS,
 };
@@ -59,12 +58,11 @@ fn first_grant(
     gcount: usize,
     held: &[bool; COND_ROLES],
     role: usize,
-) -> Found
+) -> Option<usize>
     ensures { FirstGrantPromise closure roles.now rcount conds.now ccount grants.now gcount held.now role result }
 {
-    let mut found = Found::Nothing;
-    let mut i = 0;
-    'grants: while i < gcount {
+    let mut found = None;
+    'grants: for i in 0..gcount {
         if is_above(closure, grant_purpose(grants, i)) {
             let c = grant_cond_role(grants, i);
             if holds_at(held, ccount, c) {
@@ -72,7 +70,7 @@ fn first_grant(
                 let mut r = role;
                 'roles: loop {
                     if r == target {
-                        found = Found::At(i);
+                        found = Some(i);
                         break 'grants;
                     }
                     let above = role_parent(roles, rcount, r);
@@ -83,7 +81,6 @@ fn first_grant(
                 }
             }
         }
-        i += 1;
     }
     found
 }
@@ -100,7 +97,7 @@ pub fn authorising_grant(
     c: Counts,
     clock: Clock,
     user: usize,
-) -> Found
+) -> Option<usize>
     ensures { (d : Policy) (p : ℕ) → Authorities text.now roles.now attributes.now users.now conds.now grants.now c d → user < c.users → ClosureOf (tree_of d.purposes) p closure → in_tree (tree_of d.purposes) p ≡ true → authority.in_range (clock_of clock) ≡ true → found_as result ≡ authority.first_grant d (clock_of clock) user p }
 {
     let start = user_start(users, user);

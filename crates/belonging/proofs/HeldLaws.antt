@@ -22,7 +22,7 @@ use Rattle.condition.specs.Answers.{Placed, compared_at, comparisons_at, held_re
 use Rattle.condition.specs.Comparison.{meets, ranks_meet, values_meet}
 use Rattle.condition.specs.Cond.{Cond, comparisons, holds}
 use Rattle.condition.specs.CondForm.{Compared, condition_in_form}
-use Rattle.condition.specs.declared.conditions.Read.{Read}
+use Rattle.std.specs.Prelude.{Option}
 use Rattle.condition.specs.Kinds.{Kind, Op, numbers}
 use Rattle.document.specs.Lookup.{attribute_kind, attribute_named, attribute_of}
 use Rattle.document.specs.Meaning.{attribute_comparison}
@@ -199,7 +199,7 @@ module _ (d : Policy) (k : Clock) (u : User) (s : List ℕ) (at : ℕ) where
     unfolding condition_read
     read_few f = omega (arith, f, sized, ap (λ o. length (comparisons (condition_read o))) h)
 
-    module _ (r : Read) (placed : Placed s at r ops) (few : n ≤ 64) where
+    module _ (r : Option (ℕ × ℕ)) (placed : Placed s at r ops) (few : n ≤ 64) where
       taken : comparisons c ≡ map (compared_at s) (take n ops)
       taken = placed_is s at c l h r ops placed (omega (arith, few, sized)) ∙ ap (λ m. map (compared_at s) (take m ops)) sized
 

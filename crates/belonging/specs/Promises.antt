@@ -23,7 +23,6 @@ use Rattle.text.specs.Reader.{from}
 use Rattle.workspace.specs.Found.{found_as}
 use Rattle.purpose.specs.declared.Closure.{Closure}
 use Rattle.query.specs.declared.clock.Clock as host
-use Rattle.workspace.specs.declared.found.Found.{Found}
 
 -- held::fill_truths: stores of the first n comparisons, by the places of their operators, whether they hold
 abbrev pub FillTruthsPromise : (text attributes : List ℕ) (acount : ℕ) (clock : host.Clock) (user values line ops : List ℕ) (n : ℕ) (truths' : List Bool) → Type 0

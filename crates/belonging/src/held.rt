@@ -21,7 +21,7 @@ ghost use Rattle.belonging.specs.Promises.{ConditionHoldsPromise, FillTruthsProm
 use crate::line::line_of;
 use crate::values::{VALUES, attribute_number};
 use condition::comparisons::{known_rank, ranks_meet, values_meet};
-use condition::conditions::{Read, read_places};
+use condition::conditions::read_places;
 use condition::kinds::{Op, op_at};
 use principals::attributes::attribute_kind;
 use principals::conds::{cond_role_end, cond_role_place, cond_role_start};
@@ -137,11 +137,9 @@ fn fill_truths(
     requires { (n ≤ length ops.now) × (n ≤ length truths.old) }
     ensures { FillTruthsPromise text.now attributes.now acount clock user.now values.now line.now ops.now n truths.new }
 {
-    let mut i = 0;
-    while i < n {
+    for i in 0..n {
         let b = comparison_holds(text, attributes, acount, clock, user, values, line, ops[i]);
         truths[i] = b;
-        i += 1;
     }
 }
 
@@ -183,27 +181,25 @@ fn condition_holds(
     let mut ops = [0; 64];
     let mut truths = [false; 64];
     let c = read_places(line, place, false, &mut ops);
-    match c {
-        Read::At(_, n) => {
-            if 64 < n {
-                return false;
-            }
-            store_truths(
-                text,
-                attributes,
-                acount,
-                clock,
-                user,
-                values,
-                line,
-                &ops,
-                n,
-                &mut truths,
-            );
-            holds_condition(line, place, &truths)
-        }
-        Read::Refused => false,
+    let Some((_, n)) = c else {
+        return false;
+    };
+    if 64 < n {
+        return false;
     }
+    store_truths(
+        text,
+        attributes,
+        acount,
+        clock,
+        user,
+        values,
+        line,
+        &ops,
+        n,
+        &mut truths,
+    );
+    holds_condition(line, place, &truths)
 }
 
 // Whether the condition of conditional role i holds. Its line is cut to lie in the text.
@@ -241,11 +237,9 @@ fn fill_held(
     requires { n ≤ length held.old }
     ensures { (d : Policy) (u : User) (rs : List CondRole) → Told text.now attributes.now acount (clock_of clock) user.now values.now d u → CondRoles d text.now conds.now n rs → ((i : ℕ) (r : CondRole) → get_elem? rs i ≡ some r → length (comparisons r.condition) ≤ 64) → Held (clock_of clock) u rs held.new }
 {
-    let mut i = 0;
-    while i < n {
+    for i in 0..n {
         let b = role_holds(text, attributes, acount, conds, clock, user, values, i);
         held[i] = b;
-        i += 1;
     }
 }
 

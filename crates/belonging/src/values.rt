@@ -12,7 +12,6 @@ ghost use Rattle.text.specs.Words.{word_of};
 use form::walks::{first_in, pair_end, second_in};
 use principals::attributes::find_attribute;
 use text::bytes::byte_at;
-use workspace::found::Found;
 use workspace::layout::ATTRIBUTE_CELLS;
 
 // How many attributes there can be, the clock's three included.
@@ -28,21 +27,15 @@ pub(crate) fn attribute_number(
 ) -> usize
     ensures { (d : Policy) → Attributes text.now attributes.now k d.attributes → result ≡ or_zero (attribute_of d (word_of line.now at)) }
 {
-    let found = find_attribute(text, attributes, k, line, at);
-    match found {
-        Found::At(n) => n,
-        Found::Nothing => 0,
-    }
+    find_attribute(text, attributes, k, line, at).unwrap_or(0)
 }
 
 // Stores that there is no value for any attribute.
 fn clear_places(places: &mut [usize])
     ensures { places.new ≡ replicate (length places.old) 0 }
 {
-    let mut i = 0;
-    while i < places.len() {
+    for i in 0..places.len() {
         places[i] = 0;
-        i += 1;
     }
 }
 

@@ -11,17 +11,17 @@ use Rattle.lists.proofs.ListLaws.{map_inv}
 use Rattle.lists.proofs.Tests.{and_left, and_right}
 use Rattle.text.specs.Bytes.{within}
 use Rattle.calendar.specs.declared.dates.Date as held
-use Rattle.calendar.specs.declared.dates.DateFound.TheVariants as date_found
+use Rattle.std.specs.Prelude.{None, Some}
 
 -- the date that the code holds
 abbrev pub date_held : held.Date → Date
 date_held d = record { year = d.year; month = d.month; day = d.day }
 
-pub found_on : (o : Option Date) (h : held.Date) → found_date o ≡ date_found.On h → o ≡ some (date_held h)
+pub found_on : (o : Option Date) (h : held.Date) → found_date o ≡ Some h → o ≡ some (date_held h)
 found_on none h e = absurd (let z : ◌≡◌ {A = ℕ} 0 1 = cc in omega arith)
 found_on (some d) h e = ap (λ (x : held.Date). some (date_held x)) (cc)
 
-pub found_none : (o : Option Date) → found_date o ≡ date_found.NoDate → o ≡ none
+pub found_none : (o : Option Date) → found_date o ≡ None → o ≡ none
 found_none none e = refl
 found_none (some d) e = absurd (let z : ◌≡◌ {A = ℕ} 0 1 = cc in omega arith)
 

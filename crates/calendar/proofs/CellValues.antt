@@ -38,7 +38,7 @@ use Rattle.text.specs.Numbers.{Value, is_value, rank}
 use Rattle.text.specs.Reader.{Left, Reader, ◌>>=◌, ◌>>◌, and_then, byte, from, give, if_next}
 use Rattle.text.specs.Walking.{word_end_at, written_end_at}
 use Rattle.text.specs.Words.{Word, plain_word, read_number, value, word_of, written, written_at, written_of}
-use Rattle.text.specs.declared.words.End.TheVariants.{At, Nothing}
+use Rattle.std.specs.Prelude.{None, Some}
 
 -- a name or a number is one
 pub value_cell : (v : List ℕ) → is_value v ≡ true → is_cell_value v ≡ true
@@ -285,44 +285,44 @@ cell_value_fails l rest k at v h = cell_cases v h
 
 module _ (s : List ℕ) (at : ℕ) where
   -- a range stands there
-  pub enclosed_range_end : (e : ℕ) → word_end (range (from s at)) ≡ At e → At e ≡ word_end (enclosed_value (from s at))
+  pub enclosed_range_end : (e : ℕ) → word_end (range (from s at)) ≡ Some e → Some e ≡ word_end (enclosed_value (from s at))
   unfolding enclosed_value
   enclosed_range_end e h = go (range (from s at)) refl
     where
-      go : (o : Option (Range × Left)) → range (from s at) ≡ o → At e ≡ word_end (cond (there o) (written range) (written date_text) (from s at))
-      go none k = let z : Nothing ≡ At e = sym (ap word_end k) ∙ h in let y : ◌≡◌ {A = ℕ} 0 1 = cc in absurd (omega arith)
+      go : (o : Option (Range × Left)) → range (from s at) ≡ o → Some e ≡ word_end (cond (there o) (written range) (written date_text) (from s at))
+      go none k = let z : None ≡ Some e = sym (ap word_end k) ∙ h in let y : ◌≡◌ {A = ℕ} 0 1 = cc in absurd (omega arith)
       go (some r) k = unfold there in sym h ∙ written_ends range s at
 
   -- none does: a date may
-  pub enclosed_date_end : word_end (range (from s at)) ≡ Nothing → word_end (enclosed_value (from s at)) ≡ word_end (date_text (from s at))
+  pub enclosed_date_end : word_end (range (from s at)) ≡ None → word_end (enclosed_value (from s at)) ≡ word_end (date_text (from s at))
   unfolding enclosed_value there
   enclosed_date_end h = ap (λ (t : Bool). word_end (cond t (written range) (written date_text) (from s at))) (ap there (end_none range s at h)) ∙ sym (written_ends date_text s at)
 
   -- a value that is written there is read, and ends where it ends
-  pub written_cell : is_cell_value (written_at s at) ≡ true → word_end (cell_value (from s at)) ≡ At (written_end_at s at)
+  pub written_cell : is_cell_value (written_at s at) ≡ true → word_end (cell_value (from s at)) ≡ Some (written_end_at s at)
   unfolding cell_value is_cell_value word_end_at
   written_cell h = go (eqb (get_or s at 0) 40) refl
     where
-      opened : get_or s at 0 ≡ 40 → word_end (enclosed_value (from s at)) ≡ At (written_end_at s at) → word_end (if_next 40 enclosed_value value (from s at)) ≡ At (written_end_at s at)
+      opened : get_or s at 0 ≡ 40 → word_end (enclosed_value (from s at)) ≡ Some (written_end_at s at) → word_end (if_next 40 enclosed_value value (from s at)) ≡ Some (written_end_at s at)
       opened b e = ap word_end (if_here 40 enclosed_value value s at b) ∙ e
 
-      ranged : (o : Option (Range × Left)) → range (from s at) ≡ o → there o ≡ true → word_end (if_next 40 enclosed_value value (from s at)) ≡ At (written_end_at s at)
+      ranged : (o : Option (Range × Left)) → range (from s at) ≡ o → there o ≡ true → word_end (if_next 40 enclosed_value value (from s at)) ≡ Some (written_end_at s at)
       ranged none e k = unfold there in true_not_false k refl
       ranged (some r) e k = let x = enclosed_at RangeText range enclosed_range s at r.0 r.1 e in opened x.opened (sym (enclosed_range_end (written_end_at s at) (ap word_end x.read)))
 
-      dated : (o : Option (Date × Left)) → date_text (from s at) ≡ o → there o ≡ true → word_end (if_next 40 enclosed_value value (from s at)) ≡ At (written_end_at s at)
+      dated : (o : Option (Date × Left)) → date_text (from s at) ≡ o → there o ≡ true → word_end (if_next 40 enclosed_value value (from s at)) ≡ Some (written_end_at s at)
       dated none e k = unfold there in true_not_false k refl
       dated (some r) e k =
           let x = enclosed_at DateShape date_text enclosed_date s at r.0 r.1 e in
           let n : range (from s at) ≡ none = ap (λ (bs : List ℕ). range (left at bs)) x.stood ∙ date_no_range x.text (drop (written_end_at s at) s) at in
           opened x.opened (enclosed_date_end (ap word_end n) ∙ ap word_end x.read)
 
-      plainly : is_value (written_at s at) ≡ true → (t : Bool) → eqb (get_or s at 0) 40 ≡ t → word_end (if_next 40 enclosed_value value (from s at)) ≡ At (written_end_at s at)
+      plainly : is_value (written_at s at) ≡ true → (t : Bool) → eqb (get_or s at 0) 40 ≡ t → word_end (if_next 40 enclosed_value value (from s at)) ≡ Some (written_end_at s at)
       plainly e true k = true_not_false e (bracket_no_value s at (eqb-true _ _ k))
       plainly e false k =
           let n = eqb-false _ _ k in
-          ap word_end (if_not 40 enclosed_value value s at n ∙ word_read s at is_value (ap is_value (sym (written_word s at n)) ∙ e)) ∙ ap At (sym (written_end s at n))
+          ap word_end (if_not 40 enclosed_value value s at n ∙ word_read s at is_value (ap is_value (sym (written_word s at n)) ∙ e)) ∙ ap Some (sym (written_end s at n))
 
-      go : (t : Bool) → eqb (get_or s at 0) 40 ≡ t → word_end (if_next 40 enclosed_value value (from s at)) ≡ At (written_end_at s at)
+      go : (t : Bool) → eqb (get_or s at 0) 40 ≡ t → word_end (if_next 40 enclosed_value value (from s at)) ≡ Some (written_end_at s at)
       go t k = or_cases (is_value (written_at s at)) (is_range (written_at s at) || is_date (written_at s at)) h (λ e. plainly e t k) (λ e.
           or_cases (is_range (written_at s at)) (is_date (written_at s at)) e (λ f. ranged (range (from s at)) refl (sym (is_range_lem s at) ∙ f)) (λ f. dated (date_text (from s at)) refl (sym (is_date_lem s at) ∙ f)))

@@ -11,8 +11,7 @@ use Rattle.calendar.proofs.MonthLaws.{date_from_at, days_in_year, full_year, mon
 use Rattle.calendar.specs.Calendar.{Date, date_from, date_of_day, date_rank, day_number, day_of_date, days_in, exists, leap, month_days, months, pair_rank, total, year_held}
 use Rattle.calendar.specs.Found.{found_date}
 use Rattle.text.specs.CodeEnds.{amount_of}
-use Rattle.calendar.specs.declared.dates.DateFound.TheVariants as date_found
-use Rattle.text.specs.declared.numbers.Amount.TheVariants as amount
+use Rattle.std.specs.Prelude.{None, Some}
 
 -- the date of these numbers
 abbrev pub on : ℕ → ℕ → ℕ → Date
@@ -36,50 +35,50 @@ spans y m l b a e f g h k =
     ∙ ap (λ (n : ℕ). n + month_days y m) (sym (f ∙ ap (λ (x : Bool). total (take (m - 1) (months x))) e))
 
 module _ (y m d : ℕ) where
-  pub no_year : year_held y ≡ false → amount.Nothing ≡ amount_of (day_of_date (on y m d))
+  pub no_year : year_held y ≡ false → None ≡ amount_of (day_of_date (on y m d))
   unfolding day_of_date exists
   no_year h = rw h
 
   module _ (held : year_held y ≡ true) where
-    pub month_low : m < 1 → amount.Nothing ≡ amount_of (day_of_date (on y m d))
+    pub month_low : m < 1 → None ≡ amount_of (day_of_date (on y m d))
     unfolding day_of_date exists
     month_low a = rw (held, lt-leb 1 m a)
 
     module _ (low : 1 ≤ m) where
-      pub month_high : 12 < m → amount.Nothing ≡ amount_of (day_of_date (on y m d))
+      pub month_high : 12 < m → None ≡ amount_of (day_of_date (on y m d))
       unfolding day_of_date exists
       month_high a = rw (held, le-leb 1 m low, lt-leb m 12 a)
 
       module _ (high : m ≤ 12) where
-        pub day_low : d < 1 → amount.Nothing ≡ amount_of (day_of_date (on y m d))
+        pub day_low : d < 1 → None ≡ amount_of (day_of_date (on y m d))
         unfolding day_of_date exists
         day_low a = rw (held, le-leb 1 m low, le-leb m 12 high, lt-leb 1 d a)
 
         module _ (first : 1 ≤ d) where
-          pub day_high : month_days y m < d → amount.Nothing ≡ amount_of (day_of_date (on y m d))
+          pub day_high : month_days y m < d → None ≡ amount_of (day_of_date (on y m d))
           unfolding day_of_date exists
           day_high a = rw (held, le-leb 1 m low, le-leb m 12 high, le-leb 1 d first, lt-leb d (month_days y m) a)
 
           pub is_date_lem :
               d ≤ month_days y m → (l : Bool) → l ≡ leap y → (b : ℕ) → b ≡ total (take (m - 1) (months l))
-              → amount.Is (b + d) ≡ amount_of (day_of_date (on y m d))
+              → Some (b + d) ≡ amount_of (day_of_date (on y m d))
           unfolding day_of_date exists day_number
           is_date_lem a l e b f =
               rw (held, le-leb 1 m low, le-leb m 12 high, le-leb 1 d first, le-leb d (month_days y m) a)
-              (ap (λ (k : ℕ). amount.Is (k + d)) (f ∙ ap (λ (x : Bool). total (take (m - 1) (months x))) e))
+              (ap (λ (k : ℕ). Some (k + d)) (f ∙ ap (λ (x : Bool). total (take (m - 1) (months x))) e))
 
 module _ (y n : ℕ) where
-  pub no_such_year : year_held y ≡ false → date_found.NoDate ≡ found_date (date_of_day y n)
+  pub no_such_year : year_held y ≡ false → None ≡ found_date (date_of_day y n)
   unfolding date_of_day
   no_such_year h = rw h
 
   module _ (held : year_held y ≡ true) where
-    pub number_low : n < 1 → date_found.NoDate ≡ found_date (date_of_day y n)
+    pub number_low : n < 1 → None ≡ found_date (date_of_day y n)
     unfolding date_of_day
     number_low a = rw (held, lt-leb 1 n a)
 
     module _ (low : 1 ≤ n) where
-      pub number_high : (l : Bool) → l ≡ leap y → total (months l) < n → date_found.NoDate ≡ found_date (date_of_day y n)
+      pub number_high : (l : Bool) → l ≡ leap y → total (months l) < n → None ≡ found_date (date_of_day y n)
       unfolding date_of_day
       number_high l e a =
           let here : total (months (leap y)) < n = subst (λ (x : Bool). total (months x) < n) e a in
@@ -105,10 +104,10 @@ module _ (y n : ℕ) where
 
       pub is_found :
           (m : ℕ) → 1 ≤ m → m ≤ 12 → (l : Bool) → l ≡ leap y → (s : ℕ) → s ≡ total (take (m - 1) (months l)) → s < n → n ≤ total (take m (months l))
-          → date_found.On (record { year = y; month = m; day = n - s }) ≡ found_date (date_of_day y n)
+          → Some (record { year = y; month = m; day = n - s }) ≡ found_date (date_of_day y n)
       is_found m a b l e s f before after =
           let here : s ≡ total (take (m - 1) (months (leap y))) = f ∙ ap (λ (x : Bool). total (take (m - 1) (months x))) e in
-          subst (λ (x : ℕ). date_found.On (record { year = y; month = m; day = n - x }) ≡ found_date (date_of_day y n)) (sym here)
+          subst (λ (x : ℕ). Some (record { year = y; month = m; day = n - x }) ≡ found_date (date_of_day y n)) (sym here)
           (sym (ap found_date
           (landed m a b (subst (λ (x : ℕ). x < n) here before) (subst (λ (x : Bool). n ≤ total (take m (months x))) e after))))
 
@@ -121,10 +120,10 @@ not_last l m n behind inside = go (ltb m 12) refl
     go false e = absurd (omega (arith, full_year l m (ltb-false m 12 e)))
 
 module _ (d : Date) where
-  pub is_rank : (n : ℕ) → day_of_date d ≡ some n → amount.Is (d.year * 367 + n) ≡ amount_of (date_rank d)
+  pub is_rank : (n : ℕ) → day_of_date d ≡ some n → Some (d.year * 367 + n) ≡ amount_of (date_rank d)
   unfolding date_rank pair_rank
   is_rank n h = rw h
 
-  pub no_rank : day_of_date d ≡ none → amount.Nothing ≡ amount_of (date_rank d)
+  pub no_rank : day_of_date d ≡ none → None ≡ amount_of (date_rank d)
   unfolding date_rank
   no_rank h = rw h

@@ -7,21 +7,20 @@ ghost use Rattle.text.specs.Reader.{from};
 use crate::reading::date_end;
 use text::amounts::range_end;
 use text::bytes::byte_at;
-use text::words::{End, value_end};
+use text::words::value_end;
 
 // The end of the range or the date at a position.
-fn enclosed_end(s: &[u8], at: usize) -> End
+fn enclosed_end(s: &[u8], at: usize) -> Option<usize>
     ensures { result ≡ word_end (enclosed_value (from s.now at)) }
 {
-    let k = range_end(s, at);
-    match k {
-        End::At(e) => End::At(e),
-        End::Nothing => date_end(s, at),
+    if let Some(e) = range_end(s, at) {
+        return Some(e);
     }
+    date_end(s, at)
 }
 
 // The end of the value of a cell: a name, a number, a range or a date.
-pub fn cell_value_end(s: &[u8], at: usize) -> End
+pub fn cell_value_end(s: &[u8], at: usize) -> Option<usize>
     ensures { result ≡ word_end (cell_value (from s.now at)) }
 {
     if byte_at(s, at) == b'(' {

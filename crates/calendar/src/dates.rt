@@ -4,8 +4,6 @@ ghost use Rattle.text.specs.CodeEnds.{amount_of};
 ghost use Rattle.calendar.specs.Calendar.{leap, days_in, year_held, months, total, day_of_date, date_of_day, date_rank, date_of_rank};
 ghost use Rattle.calendar.specs.Found.{found_date};
 
-use text::numbers::Amount;
-
 // The days before each month, in a common year and in a leap year.
 const DAYS_BEFORE: [[u16; 12]; 2] = [
     [0, 31, 59, 90, 120, 151, 181, 212, 243, 273, 304, 334],
@@ -17,13 +15,6 @@ pub struct Date {
     pub year: u64,
     pub month: u64,
     pub day: u64,
-}
-
-// A date, where there is one.
-#[derive(Clone, Copy)]
-pub enum DateFound {
-    On(Date),
-    NoDate,
 }
 
 // Whether a year is a Gregorian leap year.
@@ -86,49 +77,49 @@ fn first_days(leap_year: bool, count: u64) -> u64
 }
 
 // The day number of a date in its year.
-pub fn day_of_date(year: u64, month: u64, day: u64) -> Amount
+pub fn day_of_date(year: u64, month: u64, day: u64) -> Option<u64>
     ensures { result ≡ amount_of (day_of_date (record { year = year; month = month; day = day })) }
 {
     if !year_held(year) {
-        return Amount::Nothing;
+        return None;
     }
     if month < 1 {
-        return Amount::Nothing;
+        return None;
     }
     if month > 12 {
-        return Amount::Nothing;
+        return None;
     }
     if day < 1 {
-        return Amount::Nothing;
+        return None;
     }
     let leap_year = is_leap(year);
     let before = first_days(leap_year, month - 1);
     let after = first_days(leap_year, month);
     if day > after - before {
-        return Amount::Nothing;
+        return None;
     }
-    Amount::Is(before + day)
+    Some(before + day)
 }
 
 // The date of a day number in a year.
-pub fn date_of_day(year: u64, day: u64) -> DateFound
+pub fn date_of_day(year: u64, day: u64) -> Option<Date>
     ensures { result ≡ found_date (date_of_day year day) }
 {
     if !year_held(year) {
-        return DateFound::NoDate;
+        return None;
     }
     if day < 1 {
-        return DateFound::NoDate;
+        return None;
     }
     let leap_year = is_leap(year);
     if day > year_days(leap_year) {
-        return DateFound::NoDate;
+        return None;
     }
     let mut month = 1;
     while first_days(leap_year, month) < day {
         month += 1;
     }
-    DateFound::On(Date {
+    Some(Date {
         year,
         month,
         day: day - first_days(leap_year, month - 1),
@@ -136,18 +127,15 @@ pub fn date_of_day(year: u64, day: u64) -> DateFound
 }
 
 // The rank of a date: dates stand in the order of their ranks.
-pub fn date_rank(year: u64, month: u64, day: u64) -> Amount
+pub fn date_rank(year: u64, month: u64, day: u64) -> Option<u64>
     ensures { result ≡ amount_of (date_rank (record { year = year; month = month; day = day })) }
 {
-    let found = day_of_date(year, month, day);
-    match found {
-        Amount::Is(n) => Amount::Is(year * 367 + n),
-        Amount::Nothing => Amount::Nothing,
-    }
+    let n = day_of_date(year, month, day)?;
+    Some(year * 367 + n)
 }
 
 // The date of a rank.
-pub fn date_of_rank(rank: u64) -> DateFound
+pub fn date_of_rank(rank: u64) -> Option<Date>
     ensures { result ≡ found_date (date_of_rank rank) }
 {
     date_of_day(rank / 367, rank % 367)

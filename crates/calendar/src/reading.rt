@@ -9,102 +9,67 @@ ghost use Rattle.calendar.specs.Found.{date_read_of};
 
 use crate::dates::date_rank;
 use text::bytes::byte_at;
-use text::numbers::{Amount, Number, read_number};
-use text::words::End;
-
-// A date in a text: where it ends, and its rank; where it ends, if there is no such date; or that no date's text stands there.
-#[derive(Clone, Copy)]
-pub enum DateRead {
-    At(usize, u64),
-    NoSuchDate(usize),
-    Nothing,
-}
+use text::numbers::read_number;
 
 // The end of the number at a position, and the number; 0 for a negative one.
-fn read_natural(s: &[u8], at: usize) -> Number
+fn read_natural(s: &[u8], at: usize) -> Option<(usize, u64)>
     ensures { result ≡ end_of_number (natural (from s.now at)) }
 {
-    let k = read_number(s, at);
-    let Number::At(e, rank) = k else {
-        return Number::Nothing;
-    };
+    let (e, rank) = read_number(s, at)?;
     if rank < 9223372036854775808 {
-        return Number::At(e, 0);
+        return Some((e, 0));
     }
-    Number::At(e, rank - 9223372036854775808)
+    Some((e, rank - 9223372036854775808))
 }
 
 // The same behind a space.
-fn next_natural(s: &[u8], at: usize) -> Number
+fn next_natural(s: &[u8], at: usize) -> Option<(usize, u64)>
     ensures { result ≡ end_of_number (next natural (from s.now at)) }
 {
     if byte_at(s, at) == b' ' {
         read_natural(s, at + 1)
     } else {
-        Number::Nothing
+        None
     }
 }
 
-// The date at a position.
-pub fn read_date(s: &[u8], at: usize) -> DateRead
+// The date at a position: where it ends, and its rank, or none if there is no such date.
+pub fn read_date(s: &[u8], at: usize) -> Option<(usize, Option<u64>)>
     ensures { result ≡ date_read_of (date_text (from s.now at)) }
 {
     if byte_at(s, at) != b'(' {
-        return DateRead::Nothing;
+        return None;
     }
-    let first = read_natural(s, at + 1);
-    let Number::At(a, year) = first else {
-        return DateRead::Nothing;
-    };
-    let second = next_natural(s, a);
-    let Number::At(b, month) = second else {
-        return DateRead::Nothing;
-    };
-    let third = next_natural(s, b);
-    let Number::At(e, day) = third else {
-        return DateRead::Nothing;
-    };
+    let (a, year) = read_natural(s, at + 1)?;
+    let (b, month) = next_natural(s, a)?;
+    let (e, day) = next_natural(s, b)?;
     if byte_at(s, e) != b')' {
-        return DateRead::Nothing;
+        return None;
     }
-    let ranked = date_rank(year, month, day);
-    match ranked {
-        Amount::Is(r) => DateRead::At(e + 1, r),
-        Amount::Nothing => DateRead::NoSuchDate(e + 1),
-    }
+    Some((e + 1, date_rank(year, month, day)))
 }
 
 // The end of the date at a position, whether there is such a date or not.
-pub fn date_end(s: &[u8], at: usize) -> End
+pub fn date_end(s: &[u8], at: usize) -> Option<usize>
     ensures { result ≡ word_end (date_text (from s.now at)) }
 {
-    let d = read_date(s, at);
-    match d {
-        DateRead::At(e, _) => End::At(e),
-        DateRead::NoSuchDate(e) => End::At(e),
-        DateRead::Nothing => End::Nothing,
-    }
+    let (e, _) = read_date(s, at)?;
+    Some(e)
 }
 
 // Whether a date is written at a position, whether there is such a date or not.
 pub fn is_date(s: &[u8], at: usize) -> bool
     ensures { result ≡ is_date (written_at s.now at) }
 {
-    let d = date_end(s, at);
-    match d {
-        End::At(_) => true,
-        End::Nothing => false,
-    }
+    date_end(s, at).is_some()
 }
 
 // The rank of the date that is written at a position; 0, which is the rank of none, where there is none.
 pub fn known_date(s: &[u8], at: usize) -> u64
     ensures { result ≡ day_rank_of (written_at s.now at) }
 {
-    let d = read_date(s, at);
-    match d {
-        DateRead::At(_, r) => r,
-        DateRead::NoSuchDate(_) => 0,
-        DateRead::Nothing => 0,
-    }
+    let Some((_, rank)) = read_date(s, at) else {
+        return 0;
+    };
+    rank.unwrap_or(0)
 }

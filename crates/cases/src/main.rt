@@ -3,9 +3,8 @@
 #![tactic(auto)]
 
 use gate::asking::ask;
-use gate::documents::{Checked, check};
+use gate::documents::check;
 use query::clock::Clock;
-use stages::answered::Answered;
 use std::io;
 use text::refusals::{Refusal, number};
 
@@ -25,12 +24,12 @@ fn write_refused<R: Print>(rt: &R, r: Refusal) -> io::Result<()> {
 fn show_check<R: Print>(rt: &R, name: &str, doc: &[u8]) -> io::Result<()> {
     print!(rt; "{name}")?;
     match check(doc) {
-        Checked::Accepted(lines, _) => {
+        Ok((lines, _)) => {
             print!(rt; ": accepted")?;
             write_number(rt, lines)?;
             println!(rt; "")
         }
-        Checked::Refused(r) => write_refused(rt, r),
+        Err(r) => write_refused(rt, r),
     }
 }
 
@@ -49,7 +48,7 @@ fn show_ask<R: Print>(
         hour: 10,
     };
     match ask(doc, query, clock, out) {
-        Answered::Given(x) => {
+        Ok(x) => {
             print!(rt; ": answered")?;
             write_number(rt, x.len)?;
             write_number(rt, x.grant)?;
@@ -58,7 +57,7 @@ fn show_ask<R: Print>(
             write_number(rt, x.unmatched)?;
             println!(rt; "")
         }
-        Answered::Refused(r) => write_refused(rt, r),
+        Err(r) => write_refused(rt, r),
     }
 }
 

@@ -27,7 +27,7 @@ use Rattle.text.specs.Lines.{LineEnd, cut}
 use Rattle.text.specs.Reasons.{refusal_of}
 use Rattle.text.specs.Refusal.{Refusal, ◌>>=◌, ◌>>◌, accepted, document, moved, moved_by, pointing_all, pointing_nowhere, refuse_if, refused}
 use Rattle.index.specs.declared.counts.Counts.{Counts}
-use Rattle.checker.specs.declared.loading.Loaded.TheVariants as loaded
+use Rattle.std.specs.Prelude.{Err, Ok}
 use Rattle.text.specs.declared.refusals.Refusal as code
 
 -- the workspace holds the document of the n lines before the position, and the check of the text is the check from there on
@@ -135,18 +135,18 @@ open_moved text at e l h =
     sym (whole_moved at 2 (line_in text at e) ∙ ap {B = Refusal} (λ k. record { number = 2; source = document; start = at; len = k }) (line_length_lem text at e l h))
 
 module _ {text ps rs bs us cs gs ls ms ts ws : List ℕ} where
-  pub loads_refused : {x : Refusal} (r : code.Refusal) → check text ≡ refused x → refusal_of r ≡ x → Loads text ps rs bs us cs gs ls ms ts ws (loaded.Refused r)
+  pub loads_refused : {x : Refusal} (r : code.Refusal) → check text ≡ refused x → refusal_of r ≡ x → Loads text ps rs bs us cs gs ls ms ts ws (Err r)
   loads_refused r p q = record {
     refuses = λ y e. p ∙ ap refused (sym q ∙ ap refusal_of (let s : r ≡ y = cc in s));
     accepts = λ c n e. absurd (let z : ◌≡◌ {A = ℕ} 0 1 = cc in omega arith);
   }
 
-  pub loads_accepted : {c : Counts} {n : ℕ} → HoldsDocument text ps rs bs us cs gs ls ms ts ws c n → Loads text ps rs bs us cs gs ls ms ts ws (loaded.Accepted c n)
+  pub loads_accepted : {c : Counts} {n : ℕ} → HoldsDocument text ps rs bs us cs gs ls ms ts ws c n → Loads text ps rs bs us cs gs ls ms ts ws (Ok (c, n))
   loads_accepted {c} {n} h = record {
     refuses = λ y e. absurd (let z : ◌≡◌ {A = ℕ} 0 1 = cc in omega arith);
     accepts = λ k m e.
-        subst (λ (a : Counts). HoldsDocument text ps rs bs us cs gs ls ms ts ws a m) (let q : c ≡ k = cc in q)
-        (subst (HoldsDocument text ps rs bs us cs gs ls ms ts ws c) (let q : n ≡ m = cc in q) h);
+        let q : ◌≡◌ {A = Counts × ℕ} (c, n) (k, m) = cc in
+        subst (λ (a : Counts × ℕ). HoldsDocument text ps rs bs us cs gs ls ms ts ws a.0 a.1) q h;
   }
 
 -- ---- the text

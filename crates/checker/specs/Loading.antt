@@ -6,8 +6,7 @@ use Rattle.document.specs.Policy.{Doc}
 use Rattle.text.specs.Reasons.{refusal_of}
 use Rattle.text.specs.Refusal.{accepted, refused}
 use Rattle.index.specs.declared.counts.Counts.{Counts}
-use Rattle.checker.specs.declared.loading.Loaded.{Loaded}
-use Rattle.checker.specs.declared.loading.Loaded.TheVariants as loaded
+use Rattle.std.specs.Prelude.{Err, Ok, Result}
 use Rattle.text.specs.declared.refusals.Refusal as code
 
 -- the text is an accepted document of n lines, and the arrays hold it, as many of each kind as c says
@@ -18,6 +17,6 @@ pub record HoldsDocument (doc ps rs bs us cs gs ls ms ts ws : List ℕ) (c : Cou
   pub small : length doc ≤ 60000
 
 -- THE CHECK INTO ARRAYS: the answer r stands for the outcome of the check of the document, and the arrays hold what was accepted
-pub record Loads (doc ps rs bs us cs gs ls ms ts ws : List ℕ) (r : Loaded) : Type 0 where
-  pub refuses : (x : code.Refusal) → r ≡ loaded.Refused x → check doc ≡ refused (refusal_of x)
-  pub accepts : (c : Counts) (n : ℕ) → r ≡ loaded.Accepted c n → HoldsDocument doc ps rs bs us cs gs ls ms ts ws c n
+pub record Loads (doc ps rs bs us cs gs ls ms ts ws : List ℕ) (r : Result (Counts × ℕ) code.Refusal) : Type 0 where
+  pub refuses : (x : code.Refusal) → r ≡ Err x → check doc ≡ refused (refusal_of x)
+  pub accepts : (c : Counts) (n : ℕ) → r ≡ Ok (c, n) → HoldsDocument doc ps rs bs us cs gs ls ms ts ws c n

@@ -8,7 +8,6 @@ ghost use Rattle.text.specs.Refusal.{moved};
 use crate::steps::step_line;
 use index::counts::Counts;
 use stepping::fault::Fault;
-use stepping::step::Step;
 use text::lines::line_end;
 use text::refusals::{Reason, Refusal, Source};
 use text::words::{word_end, written_end};
@@ -19,13 +18,6 @@ use workspace::layout::{
 
 // The most bytes of a document.
 const TEXT_BYTES: usize = 60000;
-
-// What the check of a document into arrays says: how many of each kind they hold and the number of lines, or a refusal.
-#[derive(Clone, Copy)]
-pub enum Loaded {
-    Accepted(Counts, usize),
-    Refused(Refusal),
-}
 
 // The refusal of a line that stands at a position of the text.
 fn refusal_of(line: &[u8], at: usize, f: Fault) -> Refusal
@@ -73,7 +65,7 @@ fn load_lines(
     sets: &mut [u64; SET_WORDS],
     tables: &mut [usize; TABLE_CELLS],
     rows: &mut [usize; ROW_CELLS],
-) -> Loaded
+) -> Result<(Counts, usize), Refusal>
     ensures { length text.now ≤ 60000 → Loads text.now purposes.new roles.new attributes.new users.new conds.new grants.new labels.new sets.new tables.new rows.new result }
 {
     let mut c = Counts {
@@ -92,7 +84,7 @@ fn load_lines(
     while at < text.len() {
         let e = line_end(text, at);
         if e == text.len() {
-            return Loaded::Refused(Refusal {
+            return Err(Refusal {
                 reason: Reason::WrongForm,
                 source: Source::Document,
                 start: at,
@@ -100,22 +92,17 @@ fn load_lines(
             });
         }
         let line = &text[at..e];
-        let s = step_line(
+        match step_line(
             text, at, line, purposes, roles, attributes, users, conds, grants, labels, sets,
             tables, rows, c,
-        );
-        match s {
-            Step::Fails(f) => {
-                return Loaded::Refused(refusal_of(line, at, f));
-            }
-            Step::Goes(next) => {
-                c = next;
-                at = e + 1;
-                n += 1;
-            }
+        ) {
+            Ok(next) => c = next,
+            Err(f) => return Err(refusal_of(line, at, f)),
         }
+        at = e + 1;
+        n += 1;
     }
-    Loaded::Accepted(c, n)
+    Ok((c, n))
 }
 
 // The check of a document. What the arrays held before does not matter.
@@ -131,11 +118,11 @@ pub fn load(
     sets: &mut [u64; SET_WORDS],
     tables: &mut [usize; TABLE_CELLS],
     rows: &mut [usize; ROW_CELLS],
-) -> Loaded
+) -> Result<(Counts, usize), Refusal>
     ensures { Loads doc.now purposes.new roles.new attributes.new users.new conds.new grants.new labels.new sets.new tables.new rows.new result }
 {
     if TEXT_BYTES < doc.len() {
-        return Loaded::Refused(Refusal {
+        return Err(Refusal {
             reason: Reason::TooLong,
             source: Source::Document,
             start: 0,

@@ -9,7 +9,6 @@ use nodes::steps::{step_purpose_below, step_purpose_root, step_role_below, step_
 use notes::steps::{step_label_note, step_public};
 use rows::steps::step_row;
 use stepping::fault::Fault;
-use stepping::step::Step;
 use tables::steps::{step_label, step_table};
 use text::refusals::Reason;
 use walks::lines::take_row;
@@ -35,12 +34,13 @@ fn step_form(
     tables: &mut [usize; TABLE_CELLS],
     rows: &mut [usize; ROW_CELLS],
     c: Counts,
-) -> Step
+) -> Result<Counts, Fault>
     ensures { StepFormPromise text.now at line.now purposes.old purposes.new roles.old roles.new attributes.old attributes.new users.old users.new conds.old conds.new grants.old grants.new labels.old labels.new sets.old sets.new tables.old tables.new rows.old rows.new c result }
 {
-    let form = read_line(line);
+    let Some(form) = read_line(line) else {
+        return Err(Fault::Whole(Reason::WrongForm));
+    };
     match form {
-        Line::Wrong => Step::Fails(Fault::Whole(Reason::WrongForm)),
         Line::Purpose(n) => step_purpose_root(text, at, line, purposes, c, n),
         Line::PurposeBelow(n, p) => step_purpose_below(text, at, line, purposes, c, n, p),
         Line::Role(n) => step_role_root(text, at, line, roles, c, n),
@@ -76,14 +76,14 @@ fn step_other(
     tables: &mut [usize; TABLE_CELLS],
     rows: &mut [usize; ROW_CELLS],
     c: Counts,
-) -> Step
+) -> Result<Counts, Fault>
     ensures { StepOtherPromise text.now at line.now purposes.old purposes.new roles.old roles.new attributes.old attributes.new users.old users.new conds.old conds.new grants.old grants.new labels.old labels.new sets.old sets.new tables.old tables.new rows.old rows.new c result }
 {
     let k = c.purposes;
     if take_purpose(text, at, line, purposes, k) {
         let mut next = c;
         next.purposes = k + 1;
-        return Step::Goes(next);
+        return Ok(next);
     }
     step_form(
         text, at, line, purposes, roles, attributes, users, conds, grants, labels, sets, tables,
@@ -107,14 +107,14 @@ pub(crate) fn step_line(
     tables: &mut [usize; TABLE_CELLS],
     rows: &mut [usize; ROW_CELLS],
     c: Counts,
-) -> Step
+) -> Result<Counts, Fault>
     ensures { StepLinePromise text.now at line.now purposes.old purposes.new roles.old roles.new attributes.old attributes.new users.old users.new conds.old conds.new grants.old grants.new labels.old labels.new sets.old sets.new tables.old tables.new rows.old rows.new c result }
 {
     let k = c.rows;
     if take_row(text, at, line, labels, c.labels, tables, c.tables, rows, k) {
         let mut next = c;
         next.rows = k + 1;
-        return Step::Goes(next);
+        return Ok(next);
     }
     step_other(
         text, at, line, purposes, roles, attributes, users, conds, grants, labels, sets, tables,

@@ -2,13 +2,13 @@
 // or `(refused NUMBER document START LENGTH)`. Where the file can't be read, or nothing can be written, standard error says why.
 #![tactic(auto)]
 
-use gate::documents::{Checked, check};
-use programs::input::Loaded;
+use gate::documents::check;
 use programs::lines::accepted_line;
 use programs::output::write_out;
 use programs::policy::load;
 use programs::refusals::write_refused;
 use programs::{lines, policy};
+use text::refusals::Refusal;
 
 fn write_accepted<R: Print + Eprint>(rt: &R, lines: usize, reserve: usize) {
     let mut line = [0u8; lines::ROOM];
@@ -16,12 +16,12 @@ fn write_accepted<R: Print + Eprint>(rt: &R, lines: usize, reserve: usize) {
     write_out(rt, &line[..n]);
 }
 
-fn write_checked<R: Print + Eprint>(rt: &R, c: Checked) {
+fn write_checked<R: Print + Eprint>(rt: &R, c: Result<(usize, usize), Refusal>) {
     match c {
-        Checked::Accepted(lines, reserve) => {
+        Ok((lines, reserve)) => {
             write_accepted(rt, lines, reserve);
         }
-        Checked::Refused(r) => {
+        Err(r) => {
             write_refused(rt, r);
         }
     }
@@ -29,7 +29,7 @@ fn write_checked<R: Print + Eprint>(rt: &R, c: Checked) {
 
 fn main(rt: HostRuntime) {
     let mut text = [0u8; policy::ROOM];
-    let Loaded::Text(n) = load(&rt, &mut text) else {
+    let Some(n) = load(&rt, &mut text) else {
         return;
     };
     write_checked(&rt, check(&text[..n]));

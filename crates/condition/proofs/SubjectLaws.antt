@@ -27,8 +27,7 @@ use Rattle.text.specs.Names.{is_name, same_name}
 use Rattle.text.specs.Reader.{Left, Reader, ◌>>=◌, byte, from, give, refuse}
 use Rattle.text.specs.Walking.{next_word, past, word_end_at}
 use Rattle.text.specs.Words.{Word, is_called, name, word_at, word_of, written}
-use Rattle.text.specs.declared.words.End.{End}
-use Rattle.text.specs.declared.words.End.TheVariants.{At, Nothing}
+use Rattle.std.specs.Prelude.{None, Option, Some}
 
 -- ---- how far it is read
 
@@ -119,12 +118,12 @@ column_is s at w l h =
 
 module _ (s : List ℕ) (at : ℕ) where
   -- `T COL` behind `of`: the first name is wrong
-  pub body_off : {r : End} → r ≡ word_end (next name (from s at)) → r ≡ Nothing → Nothing ≡ word_end (ref_body (from s at))
+  pub body_off : {r : Option ℕ} → r ≡ word_end (next name (from s at)) → r ≡ None → None ≡ word_end (ref_body (from s at))
   unfolding ref_body
   body_off h k = pair_off (next name) (next name) (λ t c. record { table = t; column = c }) s at h k
 
   -- or the second tells
-  pub body_on : {r x : End} {e : ℕ} → r ≡ word_end (next name (from s at)) → r ≡ At e → x ≡ word_end (next name (from s e)) → x ≡ word_end (ref_body (from s at))
+  pub body_on : {r x : Option ℕ} {e : ℕ} → r ≡ word_end (next name (from s at)) → r ≡ Some e → x ≡ word_end (next name (from s e)) → x ≡ word_end (ref_body (from s at))
   unfolding ref_body
   body_on h k q = pair_on (next name) (next name) (λ t c. record { table = t; column = c }) s at h (forward_next name (forward_word_that is_name)) k q refl
 
@@ -137,52 +136,52 @@ module _ (s : List ℕ) (at : ℕ) where
   unfolding keyword among is_called
   of_not h = rw (word_always s at, h)
 
-module _ (s : List ℕ) (at : ℕ) {o : End} (opening : o ≡ word_end (byte 40 (from s at))) where
+module _ (s : List ℕ) (at : ℕ) {o : Option ℕ} (opening : o ≡ word_end (byte 40 (from s at))) where
   -- no bracket
-  pub ref_shut : o ≡ Nothing → Nothing ≡ word_end (of_ref (from s at))
+  pub ref_shut : o ≡ None → None ≡ word_end (of_ref (from s at))
   unfolding of_ref
   ref_shut k = bracket_none (keyword ((ascii "of", ref_body) ∷ [])) s at opening k
 
-  module _ {a : ℕ} (opened : o ≡ At a) where
+  module _ {a : ℕ} (opened : o ≡ Some a) where
     -- another word than `of`
-    pub ref_other : same_name (word_at s a) (ascii "of") ≡ false → Nothing ≡ word_end (of_ref (from s at))
+    pub ref_other : same_name (word_at s a) (ascii "of") ≡ false → None ≡ word_end (of_ref (from s at))
     unfolding of_ref
     ref_other h = bracket_wrong (keyword ((ascii "of", ref_body) ∷ [])) s at opening opened (sym (ap word_end (of_not s a h)))
 
-    module _ (h : same_name (word_at s a) (ascii "of") ≡ true) {f : ℕ} (behind : f ≡ a + length (word_at s a)) {r : End} (call : r ≡ word_end (ref_body (from s f))) where
+    module _ (h : same_name (word_at s a) (ascii "of") ≡ true) {f : ℕ} (behind : f ≡ a + length (word_at s a)) {r : Option ℕ} (call : r ≡ word_end (ref_body (from s f))) where
       body_is : r ≡ word_end (keyword ((ascii "of", ref_body) ∷ []) (from s a))
       body_is = call ∙ ap (λ k. word_end (ref_body (from s k))) behind ∙ sym (ap word_end (of_here s a h))
 
       -- what stands behind it is wrong
-      pub ref_wrong : r ≡ Nothing → Nothing ≡ word_end (of_ref (from s at))
+      pub ref_wrong : r ≡ None → None ≡ word_end (of_ref (from s at))
       unfolding of_ref
       ref_wrong k = bracket_wrong (keyword ((ascii "of", ref_body) ∷ [])) s at opening opened (sym k ∙ body_is)
 
       -- the bracket closes behind it, or it does not
-      pub ref_end : {e : ℕ} {x : End} → r ≡ At e → x ≡ word_end (byte 41 (from s e)) → x ≡ word_end (of_ref (from s at))
+      pub ref_end : {e : ℕ} {x : Option ℕ} → r ≡ Some e → x ≡ word_end (byte 41 (from s e)) → x ≡ word_end (of_ref (from s at))
       unfolding of_ref
       ref_end k q = bracket_end (keyword ((ascii "of", ref_body) ∷ [])) s at opening forward_of opened (sym k ∙ body_is) q
 
 -- the same by the bytes that stand there
 module _ (s : List ℕ) (at : ℕ) where
-  pub ref_unopened : (get_or s at 0 ≡ 40 → ⊥) → Nothing ≡ word_end (of_ref (from s at))
+  pub ref_unopened : (get_or s at 0 ≡ 40 → ⊥) → None ≡ word_end (of_ref (from s at))
   ref_unopened h = ref_shut s at (sym (ap word_end (byte_at_refused s at 40 h))) refl
 
   module _ (b : get_or s at 0 ≡ 40) where
-    opening : At (at + 1) ≡ word_end (byte 40 (from s at))
+    opening : Some (at + 1) ≡ word_end (byte 40 (from s at))
     opening = sym (ap word_end (byte_at_read s at 40 b))
 
-    pub ref_unkeyed : same_name (word_at s (at + 1)) (ascii "of") ≡ false → Nothing ≡ word_end (of_ref (from s at))
+    pub ref_unkeyed : same_name (word_at s (at + 1)) (ascii "of") ≡ false → None ≡ word_end (of_ref (from s at))
     ref_unkeyed h = ref_other s at opening refl h
 
-    module _ (h : same_name (word_at s (at + 1)) (ascii "of") ≡ true) {f : ℕ} (behind : f ≡ at + 1 + length (word_at s (at + 1))) {r : End} (call : r ≡ word_end (ref_body (from s f))) where
-      pub ref_unnamed : r ≡ Nothing → Nothing ≡ word_end (of_ref (from s at))
+    module _ (h : same_name (word_at s (at + 1)) (ascii "of") ≡ true) {f : ℕ} (behind : f ≡ at + 1 + length (word_at s (at + 1))) {r : Option ℕ} (call : r ≡ word_end (ref_body (from s f))) where
+      pub ref_unnamed : r ≡ None → None ≡ word_end (of_ref (from s at))
       ref_unnamed k = ref_wrong s at opening refl h behind call k
 
-      pub ref_unclosed : {e : ℕ} → r ≡ At e → (get_or s e 0 ≡ 41 → ⊥) → Nothing ≡ word_end (of_ref (from s at))
+      pub ref_unclosed : {e : ℕ} → r ≡ Some e → (get_or s e 0 ≡ 41 → ⊥) → None ≡ word_end (of_ref (from s at))
       ref_unclosed {e} k z = ref_end s at opening refl h behind call k (sym (ap word_end (byte_at_refused s e 41 z)))
 
-      pub ref_closed : {e : ℕ} → r ≡ At e → get_or s e 0 ≡ 41 → At (e + 1) ≡ word_end (of_ref (from s at))
+      pub ref_closed : {e : ℕ} → r ≡ Some e → get_or s e 0 ≡ 41 → Some (e + 1) ≡ word_end (of_ref (from s at))
       ref_closed {e} k z = ref_end s at opening refl h behind call k (sym (ap word_end (byte_at_read s e 41 z)))
 
 -- what is compared, by the flag
@@ -192,7 +191,7 @@ module _ (s : List ℕ) (at : ℕ) where
   subject_name false n h = refl
   subject_name true n h = true_not_false h refl
 
-  pub subject_flat : (j : Bool) (n : ℕ) → not j ≡ false → n ≡ 0 → Nothing ≡ word_end (subject (naming_by j) n (from s at))
+  pub subject_flat : (j : Bool) (n : ℕ) → not j ≡ false → n ≡ 0 → None ≡ word_end (subject (naming_by j) n (from s at))
   unfolding subject
   subject_flat true n h e = rw e
   subject_flat false n h e = true_not_false refl h

@@ -14,15 +14,13 @@ use Rattle.text.specs.Names.{same_name}
 use Rattle.text.specs.Reader.{Left, Reader, from}
 use Rattle.text.specs.Walking.{next_word, past}
 use Rattle.text.specs.Words.{word_at, word_of, written_of}
-use Rattle.condition.specs.declared.conditions.Read.{Read}
-use Rattle.condition.specs.declared.conditions.Read.TheVariants as read
+use Rattle.std.specs.Prelude as prelude
+use Rattle.std.specs.Prelude.{None, Some}
 use Rattle.condition.specs.declared.kinds.Kind as kinds
 use Rattle.condition.specs.declared.kinds.Kind.TheVariants as kind
 use Rattle.condition.specs.declared.kinds.Op as ops
 use Rattle.condition.specs.declared.kinds.Op.TheVariants as op
 use Rattle.condition.specs.declared.ranges.Ends.{Ends}
-use Rattle.condition.specs.declared.walk.Walk.{Walk}
-use Rattle.condition.specs.declared.walk.Walk.TheVariants as walk
 
 -- the type that the code's answer names
 abbrev pub kind_of : kinds.Kind → Kind
@@ -101,8 +99,8 @@ condition_by plainly = condition_in_form
 condition_by tabled = condition_in_join
 
 -- where a condition ends, and how many comparisons it has
-abbrev pub read_to : Option (Cond Compared × Left) → Read
-read_to o = answer read.At read.Refused (λ c. length (comparisons c)) o
+abbrev pub read_to : Option (Cond Compared × Left) → prelude.Option (ℕ × ℕ)
+read_to o = answer (λ e n. Some (e, n)) None (λ c. length (comparisons c)) o
 
 -- the comparisons of the condition that was read, from left to right
 abbrev pub compared_in : Option (Cond Compared × Left) → List Compared
@@ -120,12 +118,12 @@ held_read f (some r) = holds f r.0
 
 -- what the code's answer r and the positions that it stored say of the condition at a position of the text s: where it ends
 -- and how many comparisons it has, and the first 64 comparisons by the positions of their operators
-pub record PlacedBy (way : Naming) (s : List ℕ) (at : ℕ) (r : Read) (ops : List ℕ) : Type 0 where
+pub record PlacedBy (way : Naming) (s : List ℕ) (at : ℕ) (r : prelude.Option (ℕ × ℕ)) (ops : List ℕ) : Type 0 where
   pub reads : r ≡ read_to (condition_by way (from s at))
   pub places : map (compared_by way s) (take (length (compared_in (condition_by way (from s at)))) ops) ≡ take 64 (compared_in (condition_by way (from s at)))
 
 -- the same of the condition of a form
-abbrev pub Placed : List ℕ → ℕ → Read → List ℕ → Type 0
+abbrev pub Placed : List ℕ → ℕ → prelude.Option (ℕ × ℕ) → List ℕ → Type 0
 Placed s at r ops = PlacedBy plainly s at r ops
 
 -- ---- for the functions that are not called from outside
@@ -148,8 +146,8 @@ unfoldable mutual
   numbered_all k (more c cs) = more (numbered k c) (numbered_all (k + length (comparisons c)) cs)
 
 -- where a condition ends, and the number of the comparison behind it, where its first one has the number k
-abbrev pub walked : ℕ → Option (Cond Compared × Left) → Walk
-walked k o = answer walk.At walk.Refused (λ c. k + length (comparisons c)) o
+abbrev pub walked : ℕ → Option (Cond Compared × Left) → prelude.Option (ℕ × ℕ)
+walked k o = answer (λ e n. Some (e, n)) None (λ c. k + length (comparisons c)) o
 
 -- a comparison's bracket opens at a position
 unfoldable pub opens_comparison : List ℕ → ℕ → Bool

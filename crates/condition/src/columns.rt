@@ -9,38 +9,32 @@ ghost use Rattle.condition.specs.RefPlaces.{ref_end_at, ref_table};
 use text::brackets::spaced_name_end;
 use text::bytes::byte_at;
 use text::walking::{next_word, skip_byte};
-use text::words::{End, is_word, word_end};
+use text::words::{is_word, word_end};
 
 // The end of `T COL`, each behind a space.
-fn ref_body_end(s: &[u8], at: usize) -> End
+fn ref_body_end(s: &[u8], at: usize) -> Option<usize>
     ensures { result ≡ word_end (ref_body (from s.now at)) }
 {
-    let t = spaced_name_end(s, at);
-    let End::At(e) = t else {
-        return End::Nothing;
-    };
+    let e = spaced_name_end(s, at)?;
     spaced_name_end(s, e)
 }
 
 // The end of `(of T COL)`.
-pub fn ref_end(s: &[u8], at: usize) -> End
+pub fn ref_end(s: &[u8], at: usize) -> Option<usize>
     ensures { result ≡ word_end (of_ref (from s.now at)) }
 {
     if byte_at(s, at) != b'(' {
-        return End::Nothing;
+        return None;
     }
     let k = at + 1;
     if !is_word(s, k, b"of") {
-        return End::Nothing;
+        return None;
     }
-    let b = ref_body_end(s, word_end(s, k));
-    let End::At(e) = b else {
-        return End::Nothing;
-    };
+    let e = ref_body_end(s, word_end(s, k))?;
     if byte_at(s, e) != b')' {
-        return End::Nothing;
+        return None;
     }
-    End::At(e + 1)
+    Some(e + 1)
 }
 
 // Where T stands in the `(of T COL)` at a position, which was read before; COL is the next word.

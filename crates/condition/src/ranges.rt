@@ -7,7 +7,7 @@ ghost use Rattle.condition.specs.Ranges.{ends_of, possible, range_meets, sure};
 
 use crate::comparisons::known_rank;
 use crate::kinds::Op;
-use text::amounts::{Span, read_range};
+use text::amounts::read_range;
 use text::bytes::byte_at;
 
 // The ends of a range, by their ranks; those of a plain number are equal.
@@ -21,10 +21,9 @@ pub struct Ends {
 fn range_ends(s: &[u8], at: usize) -> Ends
     ensures { get_or s.now at 0 ≡ 40 → range_by result ≡ ends_of (written_at s.now at) }
 {
-    let k = read_range(s, at);
-    match k {
-        Span::At(_, low, high) => Ends { low, high },
-        Span::Nothing => Ends { low: 0, high: 0 },
+    match read_range(s, at) {
+        Some((_, low, high)) => Ends { low, high },
+        None => Ends { low: 0, high: 0 },
     }
 }
 
@@ -43,11 +42,7 @@ pub fn ends_at(s: &[u8], at: usize) -> Ends
 pub fn is_range(s: &[u8], at: usize) -> bool
     ensures { result ≡ is_range (written_at s.now at) }
 {
-    let k = read_range(s, at);
-    match k {
-        Span::At(_, _, _) => true,
-        Span::Nothing => false,
-    }
+    read_range(s, at).is_some()
 }
 
 // Whether both ends are n.

@@ -9,7 +9,7 @@ use mathlib.Core.Option.{Option, some-injective, none, some}
 use mathlib.Core.Path.{◌∙◌, ◌≡◌, ap, refl, subst, sym}
 use mathlib.Core.Logic.{◌⊎◌, inl, inr}
 use native.Mathlib.Omega.{arith}
-use Rattle.csv_text.specs.declared.fields.FieldRead.TheVariants as field_read
+use Rattle.std.specs.Prelude.{None, Some}
 use Rattle.text.specs.CodeEnds.{word_end}
 use Rattle.csv_text.specs.Scanned.{field_of, field_size, field_unfit, quoted_end}
 use Rattle.csv_text.specs.Fields.{Field, bare, field, in_quotes, is_plain, plain_bytes, quoted, with_left, wrap}
@@ -26,7 +26,6 @@ use Rattle.text.specs.Numbers.{is_value}
 use Rattle.text.specs.Reader.{Left, byte, from, if_next, skip}
 use Rattle.text.specs.Walking.{past}
 use Rattle.text.specs.Words.{name_bytes, word_at}
-use Rattle.text.specs.declared.words.End.TheVariants.{At, Nothing}
 
 -- ---- plain bytes, as a loop goes through them
 
@@ -48,7 +47,7 @@ module _ (s : List ℕ) (at : ℕ) where
 end_wrap : (bs : List ℕ) (at : ℕ) (o : Option (Field × ℕ)) → quoted_end at (wrap bs o) ≡ quoted_end (at + 1) o
 unfolding wrap
 end_wrap bs at none = refl
-end_wrap bs at (some q) = ap At (omega arith)
+end_wrap bs at (some q) = ap Some (omega arith)
 
 pub quote_here : (s : List ℕ) (at : ℕ) → get_or s at 0 ≡ 34 → at < length s
 quote_here s at e = before_end s at (λ z. absurd (omega (arith, e, z)))
@@ -60,7 +59,7 @@ module _ (s : List ℕ) (at : ℕ) where
   quoted_byte h n = rw (drop_here s at h, ne_eqb _ _ n) (end_wrap _ at (quoted false (drop (at + 1) s)))
 
   -- the end of the file
-  pub quoted_open : length s ≤ at → quoted_end at (quoted false (drop at s)) ≡ Nothing
+  pub quoted_open : length s ≤ at → quoted_end at (quoted false (drop at s)) ≡ None
   unfolding quoted
   quoted_open h = rw (drop_of_length-le s h)
 
@@ -79,12 +78,12 @@ module _ (s : List ℕ) (at : ℕ) where
         go = unfold quoted in rw (drop_here s (at + 1) (quote_here s (at + 1) e), eq-eqb _ _ e) (end_wrap _ (at + 1) (quoted false (drop (at + 1 + 1) s)))
 
     -- one quote
-    pub quoted_closed : (get_or s (at + 1) 0 ≡ 34 → ⊥) → quoted_end at (quoted false (drop at s)) ≡ At (at + 1)
+    pub quoted_closed : (get_or s (at + 1) 0 ≡ 34 → ⊥) → quoted_end at (quoted false (drop at s)) ≡ Some (at + 1)
     quoted_closed n = quoted_quote ∙ go (drop (at + 1) s) (λ e. n (sym (first_drop s (at + 1)) ∙ e))
       where
-        go : (bs : List ℕ) → (Rattle.text.specs.Bytes.first_byte bs ≡ 34 → ⊥) → quoted_end (at + 1) (quoted true bs) ≡ At (at + 1)
-        go [] k = unfold quoted in ap At (omega arith)
-        go (b ∷ bs) k = unfold quoted in rw (ne_eqb _ _ k) (ap At (omega arith))
+        go : (bs : List ℕ) → (Rattle.text.specs.Bytes.first_byte bs ≡ 34 → ⊥) → quoted_end (at + 1) (quoted true bs) ≡ Some (at + 1)
+        go [] k = unfold quoted in ap Some (omega arith)
+        go (b ∷ bs) k = unfold quoted in rw (ne_eqb _ _ k) (ap Some (omega arith))
 
 -- ---- a field's bytes: a word, and what follows it
 
@@ -404,7 +403,7 @@ module _ (s : List ℕ) (at : ℕ) where
   ends_quoted : get_or s at 0 ≡ 34 → quoted_end (at + 1) (quoted false (drop (at + 1) s)) ≡ word_end (field (from s at))
   ends_quoted e = taken_end s (at + 1) (quoted false (drop (at + 1) s)) ∙ sym (ap word_end (field_quoted s at e))
 
-  ends_bare : (get_or s at 0 ≡ 34 → ⊥) → At (at + length (plain_bytes (drop at s))) ≡ word_end (field (from s at))
+  ends_bare : (get_or s at 0 ≡ 34 → ⊥) → Some (at + length (plain_bytes (drop at s))) ≡ word_end (field (from s at))
   ends_bare n = sym (ap word_end (field_bare s at n))
 
   -- the same from k name bytes on
@@ -414,10 +413,10 @@ module _ (s : List ℕ) (at : ℕ) where
         let p : past 34 s at ≡ at + 1 = past_here 34 s at (λ z. absurd (omega arith)) q in
         ap (λ (n : ℕ). quoted_end n (quoted false (drop n s))) e ∙ sym (quoted_skip s k (past 34 s at) h) ∙ ap (λ (n : ℕ). quoted_end n (quoted false (drop n s))) p ∙ ends_quoted q
 
-    pub ends_bare_from : (get_or s at 0 ≡ 34 → ⊥) → At (i + length (plain_bytes (drop i s))) ≡ word_end (field (from s at))
+    pub ends_bare_from : (get_or s at 0 ≡ 34 → ⊥) → Some (i + length (plain_bytes (drop i s))) ≡ word_end (field (from s at))
     ends_bare_from n =
         let p : past 34 s at ≡ at = past_other 34 s at n in
-        ap (λ (m : ℕ). At (m + length (plain_bytes (drop m s)))) e ∙ ap At (sym (plain_skip s k (past 34 s at) h)) ∙ ap (λ (m : ℕ). At (m + length (plain_bytes (drop m s)))) p ∙ ends_bare n
+        ap (λ (m : ℕ). Some (m + length (plain_bytes (drop m s)))) e ∙ ap Some (sym (plain_skip s k (past 34 s at) h)) ∙ ap (λ (m : ℕ). Some (m + length (plain_bytes (drop m s)))) p ∙ ends_bare n
 
   -- where a field ends that is a run of n bytes: not far behind the file
   pub run_room : (n : ℕ) → n ≤ length (drop (past 34 s at) s) → (past 34 s at + n + (past 34 s at - at) ≤ length s + 1) ⊎ (past 34 s at + n + (past 34 s at - at) ≡ at)
@@ -452,10 +451,10 @@ pub record FieldEnded (s : List ℕ) (at e : ℕ) : Type 0 where
   pub read : field (from s at) ≡ some (v, from s e)
   pub is : FieldIs s at v e
 
-pub field_ended : (s : List ℕ) (at e : ℕ) → word_end (field (from s at)) ≡ At e → FieldEnded s at e
+pub field_ended : (s : List ℕ) (at e : ℕ) → word_end (field (from s at)) ≡ Some e → FieldEnded s at e
 field_ended s at e h = go (field (from s at)) refl h
   where
-    go : (o : Option (Field × Left)) → field (from s at) ≡ o → word_end o ≡ At e → FieldEnded s at e
+    go : (o : Option (Field × Left)) → field (from s at) ≡ o → word_end o ≡ Some e → FieldEnded s at e
     go none f k = let x : ◌≡◌ {A = ℕ} 0 1 = cc in absurd (omega arith)
     go (some r) f k =
         let a : r.1.at ≡ e = cc in
@@ -465,18 +464,18 @@ field_ended s at e h = go (field (from s at)) refl h
           is = subst (λ (n : ℕ). FieldIs s at r.0 n) a (field_is s at r.0 r.1 f);
         }
 
-pub field_unended : (s : List ℕ) (at : ℕ) → word_end (field (from s at)) ≡ Nothing → field_read.Broken ≡ field_of (field (from s at))
+pub field_unended : (s : List ℕ) (at : ℕ) → word_end (field (from s at)) ≡ None → None ≡ field_of (field (from s at))
 field_unended s at h = go (field (from s at)) h
   where
-    go : (o : Option (Field × Left)) → word_end o ≡ Nothing → field_read.Broken ≡ field_of o
+    go : (o : Option (Field × Left)) → word_end o ≡ None → None ≡ field_of o
     go none k = refl
     go (some r) k = let x : ◌≡◌ {A = ℕ} 0 1 = cc in absurd (omega arith)
 
 module _ (s : List ℕ) (at : ℕ) {e : ℕ} (f : FieldEnded s at e) where
-  pub read_unfit : is_value f.v ≡ false → field_read.At e 0 1 ≡ field_of (field (from s at))
+  pub read_unfit : is_value f.v ≡ false → Some (e, 0, 1) ≡ field_of (field (from s at))
   unfolding field_size field_unfit
   read_unfit n = rw (f.read, n)
 
-  pub read_fit : is_value f.v ≡ true → {z : ℕ} → z ≡ suc (length f.v) → field_read.At e z 0 ≡ field_of (field (from s at))
+  pub read_fit : is_value f.v ≡ true → {z : ℕ} → z ≡ suc (length f.v) → Some (e, z, 0) ≡ field_of (field (from s at))
   unfolding field_size field_unfit
   read_fit h k = rw (f.read, h, k)

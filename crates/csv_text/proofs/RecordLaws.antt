@@ -14,9 +14,9 @@ use Rattle.csv_text.proofs.FieldLaws.{eats_field}
 use Rattle.csv_text.specs.Scanned.{field_of, field_size, field_unfit, record_read_of, size_of, unfit_in}
 use Rattle.csv_text.specs.Fields.{Field, field}
 use Rattle.csv_text.specs.Records.{fields, fields_up_to, line_ending, record_end}
-use Rattle.csv_text.specs.declared.fields.FieldRead.TheVariants as field_read
-use Rattle.csv_text.specs.declared.records.RecordRead.TheVariants as record_read
-use Rattle.csv_text.specs.declared.records.RecordRead.{RecordRead}
+use Rattle.std.specs.Prelude as prelude
+use Rattle.std.specs.Prelude.{None, Some}
+use Rattle.lists.proofs.PairLaws.{triple_same}
 use Rattle.lists.specs.Lists.{is_empty}
 use Rattle.text.proofs.Lefts.{before_end, drop_here, first_drop}
 use Rattle.text.proofs.ReaderLaws.{Eats, byte_at_read, byte_at_refused, eats_bind, eats_byte, eats_cond, eats_give, eats_if_next, eats_less, eats_refuse, eats_then, got, left_from, left_past, not_read, then_some}
@@ -25,7 +25,6 @@ use Rattle.text.specs.CodeEnds.{word_end}
 use Rattle.text.specs.Numbers.{is_value}
 use Rattle.text.specs.Reader.{Left, ◌>>◌, and_then, byte, from, give, if_next}
 use Rattle.text.specs.Walking.{past}
-use Rattle.text.specs.declared.words.End.TheVariants.{At, Nothing}
 
 -- ---- the end of a record
 
@@ -178,6 +177,12 @@ fields_up_to_past (suc n) s at vs l k h = go (field (from s at)) refl
 
 -- ---- what the code's answers say
 
+-- four parts that were found are the same, each
+four_same : {a b c d a' b' c' d' : ℕ} → ◌≡◌ {A = prelude.Option (ℕ × ℕ × ℕ × ℕ)} (Some (a, b, c, d)) (Some (a', b', c', d')) → (a ≡ a') × (b ≡ b') × (c ≡ c') × (d ≡ d')
+four_same {a} {b} {c} {d} {a'} {b'} {c'} {d'} h =
+    let q : ◌≡◌ {A = ℕ × ℕ × ℕ × ℕ} (a, b, c, d) (a', b', c', d') = cc in
+    (ap (λ z. z.0) q, ap (λ z. z.1) q, ap (λ z. z.2) q, ap (λ z. z.3) q)
+
 -- a field that was read
 pub record FieldGot (s : List ℕ) (at e z u : ℕ) : Type 0 where
   pub v : Field
@@ -189,16 +194,14 @@ pub record FieldGot (s : List ℕ) (at e z u : ℕ) : Type 0 where
   pub short : z ≤ length s + 1
   pub one : u ≤ 1
 
-pub field_got : (s : List ℕ) (at e z u : ℕ) → field_of (field (from s at)) ≡ field_read.At e z u → FieldGot s at e z u
+pub field_got : (s : List ℕ) (at e z u : ℕ) → field_of (field (from s at)) ≡ Some (e, z, u) → FieldGot s at e z u
 field_got s at e z u h = go (field (from s at)) refl h
   where
-    go : (o : Option (Field × Left)) → field (from s at) ≡ o → field_of o ≡ field_read.At e z u → FieldGot s at e z u
+    go : (o : Option (Field × Left)) → field (from s at) ≡ o → field_of o ≡ Some (e, z, u) → FieldGot s at e z u
     go none f k = let x : ◌≡◌ {A = ℕ} 0 1 = cc in absurd (omega arith)
     go (some r) f k =
         let p = eats_field (from s at) r.0 r.1 f in
-        let a : r.1.at ≡ e = cc in
-        let b : field_size r.0 ≡ z = cc in
-        let d : field_unfit r.0 ≡ u = cc in
+        let (a, b, d) = triple_same k in
         record {
           v = r.0;
           read = f ∙ ap (λ (m : Left). some (r.0, m)) (left_from s at p ∙ ap (from s) a);
@@ -210,10 +213,10 @@ field_got s at e z u h = go (field (from s at)) refl h
           one = omega (arith, d, unfit_one r.0);
         }
 
-pub field_lost : (s : List ℕ) (at : ℕ) → field_of (field (from s at)) ≡ field_read.Broken → field (from s at) ≡ none
+pub field_lost : (s : List ℕ) (at : ℕ) → field_of (field (from s at)) ≡ None → field (from s at) ≡ none
 field_lost s at h = go (field (from s at)) h
   where
-    go : (o : Option (Field × Left)) → field_of o ≡ field_read.Broken → o ≡ none
+    go : (o : Option (Field × Left)) → field_of o ≡ None → o ≡ none
     go none k = refl
     go (some r) k = let x : ◌≡◌ {A = ℕ} 0 1 = cc in absurd (omega arith)
 
@@ -228,18 +231,15 @@ pub record RecordGot (s : List ℕ) (at e n z u : ℕ) : Type 0 where
   pub inside : at ≤ length s → e ≤ length s
   pub small : z ≤ e - at + 1
 
-pub record_got : (s : List ℕ) (at e n z u : ℕ) → record_read_of (fields (from s at)) ≡ record_read.At e n z u → RecordGot s at e n z u
+pub record_got : (s : List ℕ) (at e n z u : ℕ) → record_read_of (fields (from s at)) ≡ Some (e, n, z, u) → RecordGot s at e n z u
 unfolding fields
 record_got s at e n z u h = go (fields (from s at)) refl h
   where
-    go : (o : Option (List Field × Left)) → fields (from s at) ≡ o → record_read_of o ≡ record_read.At e n z u → RecordGot s at e n z u
+    go : (o : Option (List Field × Left)) → fields (from s at) ≡ o → record_read_of o ≡ Some (e, n, z, u) → RecordGot s at e n z u
     go none f k = let x : ◌≡◌ {A = ℕ} 0 1 = cc in absurd (omega arith)
     go (some r) f k =
         let p = eats_fields (from s at) r.0 r.1 f in
-        let a : r.1.at ≡ e = cc in
-        let b : length r.0 ≡ n = cc in
-        let d : size_of r.0 ≡ z = cc in
-        let g : unfit_in r.0 ≡ u = cc in
+        let (a, b, d, g) = four_same k in
         record {
           vs = r.0;
           read = f ∙ ap (λ (m : Left). some (r.0, m)) (left_from s at p ∙ ap (from s) a);
@@ -251,19 +251,19 @@ record_got s at e n z u h = go (fields (from s at)) refl h
           small = omega (arith, a, d, left_past s at p);
         }
 
-pub record_lost : (s : List ℕ) (at : ℕ) → record_read_of (fields (from s at)) ≡ record_read.Malformed → fields (from s at) ≡ none
+pub record_lost : (s : List ℕ) (at : ℕ) → record_read_of (fields (from s at)) ≡ None → fields (from s at) ≡ none
 record_lost s at h = go (fields (from s at)) h
   where
-    go : (o : Option (List Field × Left)) → record_read_of o ≡ record_read.Malformed → o ≡ none
+    go : (o : Option (List Field × Left)) → record_read_of o ≡ None → o ≡ none
     go none k = refl
     go (some r) k = let x : ◌≡◌ {A = ℕ} 0 1 = cc in absurd (omega arith)
 
 -- ---- a loop that gathers what the fields come to
 
 -- what was gathered before, and what comes from the fields that are left
-abbrev pub gathered : ℕ → ℕ → ℕ → Option (List Field × Left) → RecordRead
-gathered n z u none = record_read.Malformed
-gathered n z u (some r) = record_read.At r.1.at (n + length r.0) (z + size_of r.0) (u + unfit_in r.0)
+abbrev pub gathered : ℕ → ℕ → ℕ → Option (List Field × Left) → prelude.Option (ℕ × ℕ × ℕ × ℕ)
+gathered n z u none = None
+gathered n z u (some r) = Some (r.1.at, n + length r.0, z + size_of r.0, u + unfit_in r.0)
 
 gather_none : (o : Option (List Field × Left)) → gathered 0 0 0 o ≡ record_read_of o
 gather_none none = refl
@@ -314,7 +314,7 @@ module _ (s : List ℕ) (at : ℕ) {i n z u : ℕ} (g : Gathering s at i n z u) 
   now_at : gathered n z u (fields_up_to (suc fueled.0) (from s i)) ≡ record_read_of (fields (from s at))
   now_at = ap (λ (k : ℕ). gathered n z u (fields_up_to k (from s i))) (sym fueled.1) ∙ g.same
 
-  pub gather_broken : field (from s i) ≡ none → record_read.Malformed ≡ record_read_of (fields (from s at))
+  pub gather_broken : field (from s i) ≡ none → None ≡ record_read_of (fields (from s at))
   gather_broken f = sym (ap (gathered n z u) (fields_broken s i fueled.0 f)) ∙ now_at
 
   module _ {e x y : ℕ} (f : FieldGot s i e x y) where
@@ -339,22 +339,22 @@ module _ (s : List ℕ) (at : ℕ) {i n z u : ℕ} (g : Gathering s at i n z u) 
     last_at : (get_or s e 0 ≡ 44 → ⊥) → gathered n z u (and_then (record_end (from s e)) (λ w. give (f.v ∷ []))) ≡ record_read_of (fields (from s at))
     last_at c = sym (ap (gathered n z u) (fields_last s i f.v e f.read fueled.0 c)) ∙ now_at
 
-    pub gather_wrong : (get_or s e 0 ≡ 44 → ⊥) → word_end (record_end (from s e)) ≡ Nothing → record_read.Malformed ≡ record_read_of (fields (from s at))
+    pub gather_wrong : (get_or s e 0 ≡ 44 → ⊥) → word_end (record_end (from s e)) ≡ None → None ≡ record_read_of (fields (from s at))
     gather_wrong c h = go (record_end (from s e)) h (last_at c)
       where
-        go : (o : Option (Unit {0} × Left)) → word_end o ≡ Nothing → gathered n z u (and_then o (λ w. give (f.v ∷ []))) ≡ record_read_of (fields (from s at)) → record_read.Malformed ≡ record_read_of (fields (from s at))
+        go : (o : Option (Unit {0} × Left)) → word_end o ≡ None → gathered n z u (and_then o (λ w. give (f.v ∷ []))) ≡ record_read_of (fields (from s at)) → None ≡ record_read_of (fields (from s at))
         go none k q = q
         go (some r) k q = let x : ◌≡◌ {A = ℕ} 0 1 = cc in absurd (omega arith)
 
-    pub gather_last : (get_or s e 0 ≡ 44 → ⊥) → {p : ℕ} → word_end (record_end (from s e)) ≡ At p → record_read.At p (n + 1) (z + x) (u + y) ≡ record_read_of (fields (from s at))
+    pub gather_last : (get_or s e 0 ≡ 44 → ⊥) → {p : ℕ} → word_end (record_end (from s e)) ≡ Some p → Some (p, n + 1, z + x, u + y) ≡ record_read_of (fields (from s at))
     gather_last c {p} h = go (record_end (from s e)) h (last_at c)
       where
-        go : (o : Option (Unit {0} × Left)) → word_end o ≡ At p → gathered n z u (and_then o (λ w. give (f.v ∷ []))) ≡ record_read_of (fields (from s at))
-            → record_read.At p (n + 1) (z + x) (u + y) ≡ record_read_of (fields (from s at))
+        go : (o : Option (Unit {0} × Left)) → word_end o ≡ Some p → gathered n z u (and_then o (λ w. give (f.v ∷ []))) ≡ record_read_of (fields (from s at))
+            → Some (p, n + 1, z + x, u + y) ≡ record_read_of (fields (from s at))
         go none k q = let x : ◌≡◌ {A = ℕ} 0 1 = cc in absurd (omega arith)
         go (some r) k q =
             let a : p ≡ r.1.at = cc in
             rw (a, f.size, f.unfit) (sym (gather_one n z u f.v (some ([], r.1)) ∙ sum) ∙ q)
           where
-            sum : gathered (n + 1) (z + field_size f.v) (u + field_unfit f.v) (some ([], r.1)) ≡ record_read.At r.1.at (n + 1) (z + field_size f.v) (u + field_unfit f.v)
+            sum : gathered (n + 1) (z + field_size f.v) (u + field_unfit f.v) (some ([], r.1)) ≡ Some (r.1.at, n + 1, z + field_size f.v, u + field_unfit f.v)
             sum = unfold size_of unfit_in in rw (add-zero (n + 1), add-zero (z + field_size f.v), add-zero (u + field_unfit f.v))

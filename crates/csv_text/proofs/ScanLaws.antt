@@ -13,13 +13,12 @@ use Rattle.csv_text.proofs.RecordLaws.{RecordGot, left_here}
 use Rattle.csv_text.specs.Scanned.{field_unfit, first_of, place_of, scan_of, size_of, total_size, unfit_in, width_after}
 use Rattle.csv_text.specs.Fields.{Field}
 use Rattle.csv_text.specs.Records.{Entry, Split, count_read, entry_before, fields, first_unfit, go_on, malformed, record_of, records, records_up_to, split, width}
-use Rattle.csv_text.specs.declared.records.Scan.TheVariants as scan
-use Rattle.csv_text.specs.declared.records.Scan.{Scan}
+use Rattle.std.specs.Prelude as prelude
+use Rattle.std.specs.Prelude.{None, Some, Err, Ok, Result, is_some}
+use Rattle.lists.proofs.Tests.{true_not_false}
 use Rattle.lists.specs.Lists.{all_of}
 use Rattle.text.specs.Numbers.{is_value}
 use Rattle.text.specs.Reader.{Left, from}
-use Rattle.text.specs.declared.words.End.TheVariants.{At, Nothing}
-use Rattle.text.specs.declared.words.End.{End}
 
 -- ---- one record and those behind it
 
@@ -58,29 +57,38 @@ unfit_none (v ∷ vs) = go (is_value v) (unfit_none vs)
     go true e = rw (zero-add (unfit_in vs)) e
     go false e = ne_eqb (1 + unfit_in vs) 0 (λ z. absurd (omega (arith, z)))
 
+-- a place that was found before is the first, and there may be none
+pub first_found : (o : prelude.Option ℕ) (u at : ℕ) → is_some o ≡ true → o ≡ first_of o u at
+first_found (Some p) u at h = refl
+first_found None u at h = true_not_false h refl
+
+pub found_none : (o : prelude.Option ℕ) → is_some o ≡ false → o ≡ None
+found_none (Some p) h = true_not_false refl h
+found_none None h = refl
+
 -- the first of two places
-abbrev pub or_place : End → Option ℕ → End
-or_place (At p) o = At p
-or_place Nothing o = place_of o
+abbrev pub or_place : prelude.Option ℕ → Option ℕ → prelude.Option ℕ
+or_place (Some p) o = Some p
+or_place None o = place_of o
 
 -- what was counted before, and what comes from the records that are left
-abbrev pub scanned : ℕ → ℕ → End → Split → Scan
-scanned n z f (malformed p) = scan.Malformed p
-scanned n z f (split es) = scan.Counted (n + length es) (z + total_size es) (or_place f (first_unfit es))
+abbrev pub scanned : ℕ → ℕ → prelude.Option ℕ → Split → Result (ℕ × ℕ × (prelude.Option ℕ)) ℕ
+scanned n z f (malformed p) = Err p
+scanned n z f (split es) = Ok (n + length es, z + total_size es, or_place f (first_unfit es))
 
-scan_none : (p : Split) → scanned 0 0 Nothing p ≡ scan_of p
+scan_none : (p : Split) → scanned 0 0 None p ≡ scan_of p
 scan_none (malformed p) = refl
 scan_none (split es) = rw (zero-add (length es), zero-add (total_size es))
 
-place_one : (f : End) (vs : List Field) (at : ℕ) (o : Option ℕ) → or_place f (cond (all_of is_value vs) o (some at)) ≡ or_place (first_of f (unfit_in vs) at) o
-place_one (At p) vs at o = refl
-place_one Nothing vs at o = rw (unfit_none vs) (go (all_of is_value vs))
+place_one : (f : prelude.Option ℕ) (vs : List Field) (at : ℕ) (o : Option ℕ) → or_place f (cond (all_of is_value vs) o (some at)) ≡ or_place (first_of f (unfit_in vs) at) o
+place_one (Some p) vs at o = refl
+place_one None vs at o = rw (unfit_none vs) (go (all_of is_value vs))
   where
-    go : (t : Bool) → place_of (cond t o (some at)) ≡ or_place (cond t Nothing (At at)) o
+    go : (t : Bool) → place_of (cond t o (some at)) ≡ or_place (cond t None (Some at)) o
     go true = refl
     go false = refl
 
-scan_one : (n z : ℕ) (f : End) (e : Entry) (p : Split) → scanned n z f (entry_before e p) ≡ scanned (n + 1) (z + size_of e.fields) (first_of f (unfit_in e.fields) e.at) p
+scan_one : (n z : ℕ) (f : prelude.Option ℕ) (e : Entry) (p : Split) → scanned n z f (entry_before e p) ≡ scanned (n + 1) (z + size_of e.fields) (first_of f (unfit_in e.fields) e.at) p
 unfolding entry_before total_size first_unfit
 scan_one n z f e (malformed p) = refl
 scan_one n z f e (split es) =
@@ -89,7 +97,7 @@ scan_one n z f e (split es) =
     rw (a, b, place_one f e.fields e.at (first_unfit es))
 
 -- at the loop's place i: n records are counted, of this size, and f is the place of the first unfit one
-pub record Scanning (s : List ℕ) (w i n z : ℕ) (f : End) : Type 0 where
+pub record Scanning (s : List ℕ) (w i n z : ℕ) (f : prelude.Option ℕ) : Type 0 where
   pub fuel : ℕ
   pub enough : length s - i ≤ fuel
   pub same : scanned n z f (records_up_to fuel w (from s i)) ≡ scan_of (records s)
@@ -97,26 +105,26 @@ pub record Scanning (s : List ℕ) (w i n z : ℕ) (f : End) : Type 0 where
   pub small : z ≤ 2 * i
   pub inside : i ≤ length s
 
-pub scan_start : (s : List ℕ) {w : ℕ} → w ≡ width s → Scanning s w 0 0 0 Nothing
+pub scan_start : (s : List ℕ) {w : ℕ} → w ≡ width s → Scanning s w 0 0 0 None
 unfolding records
 scan_start s {w} e = record {
   fuel = length s;
   enough = omega arith;
-  same = ap (λ (k : ℕ). scanned 0 0 Nothing (records_up_to (length s) k (from s 0))) e ∙ scan_none (records_up_to (length s) (width s) (from s 0));
+  same = ap (λ (k : ℕ). scanned 0 0 None (records_up_to (length s) k (from s 0))) e ∙ scan_none (records_up_to (length s) (width s) (from s 0));
   few = omega arith;
   small = omega arith;
   inside = omega arith;
 }
 
-module _ (s : List ℕ) (w : ℕ) {i n z : ℕ} {f : End} (g : Scanning s w i n z f) where
+module _ (s : List ℕ) (w : ℕ) {i n z : ℕ} {f : prelude.Option ℕ} (g : Scanning s w i n z f) where
   -- nothing is left
-  pub scan_done : length s ≤ i → scan.Counted n z f ≡ scan_of (records s)
+  pub scan_done : length s ≤ i → Ok (n, z, f) ≡ scan_of (records s)
   unfolding total_size first_unfit
   scan_done h = sym (counted f) ∙ sym (ap (scanned n z f) (records_end s w i g.fuel h)) ∙ g.same
     where
-      counted : (e : End) → scanned n z e (split []) ≡ scan.Counted n z e
-      counted (At p) = unfold total_size first_unfit in rw (add-zero n, add-zero z)
-      counted Nothing = unfold total_size first_unfit in rw (add-zero n, add-zero z)
+      counted : (e : prelude.Option ℕ) → scanned n z e (split []) ≡ Ok (n, z, e)
+      counted (Some p) = unfold total_size first_unfit in rw (add-zero n, add-zero z)
+      counted None = unfold total_size first_unfit in rw (add-zero n, add-zero z)
 
   module _ (here : i < length s) where
     fueled : (m : ℕ) × (g.fuel ≡ suc m) × (length s - i ≤ suc m)
@@ -129,21 +137,21 @@ module _ (s : List ℕ) (w : ℕ) {i n z : ℕ} {f : End} (g : Scanning s w i n 
     now_at : scanned n z f (go_on i (records_up_to fueled.0 w) (record_of w (from s i))) ≡ scan_of (records s)
     now_at = sym (ap (scanned n z f) (ap (λ (k : ℕ). records_up_to k w (from s i)) fueled.1 ∙ records_step s w i fueled.0 here)) ∙ g.same
 
-    wrong_at : record_of w (from s i) ≡ none → scan.Malformed i ≡ scan_of (records s)
+    wrong_at : record_of w (from s i) ≡ none → Err i ≡ scan_of (records s)
     unfolding go_on
     wrong_at r = sym (ap (λ (o : Option (List Field × Left)). scanned n z f (go_on i (records_up_to fueled.0 w) o)) r) ∙ now_at
 
     -- the record there is none
-    pub scan_broken : fields (from s i) ≡ none → scan.Malformed i ≡ scan_of (records s)
+    pub scan_broken : fields (from s i) ≡ none → Err i ≡ scan_of (records s)
     scan_broken r = wrong_at (record_none s w i r)
 
     module _ {e c x y : ℕ} (r : RecordGot s i e c x y) where
       -- it has another number of fields
-      pub scan_other : (c ≡ w → ⊥) → scan.Malformed i ≡ scan_of (records s)
+      pub scan_other : (c ≡ w → ⊥) → Err i ≡ scan_of (records s)
       scan_other k = wrong_at (record_other s w i r.vs (from s e) r.read (λ q. k (r.count ∙ q)))
 
       -- it has that number
-      pub scan_more : c ≡ w → {f' : End} → f' ≡ first_of f y i → Scanning s w e (n + 1) (z + x) f'
+      pub scan_more : c ≡ w → {f' : prelude.Option ℕ} → f' ≡ first_of f y i → Scanning s w e (n + 1) (z + x) f'
       unfolding go_on
       scan_more k {f'} p = record {
         fuel = fueled.0;
@@ -158,15 +166,15 @@ module _ (s : List ℕ) (w : ℕ) {i n z : ℕ} {f : End} (g : Scanning s w i n 
 -- ---- the width
 
 -- the same, where w is the first record's width as soon as a record is counted
-pub record Widely (s : List ℕ) (w i n z : ℕ) (f : End) : Type 0 where
+pub record Widely (s : List ℕ) (w i n z : ℕ) (f : prelude.Option ℕ) : Type 0 where
   pub scanning : Scanning s (width s) i n z f
   pub first : n ≡ 0 → i ≡ 0
   pub wide : (n ≡ 0 → ⊥) → w ≡ width s
 
-pub widely_start : (s : List ℕ) → Widely s 0 0 0 0 Nothing
+pub widely_start : (s : List ℕ) → Widely s 0 0 0 0 None
 widely_start s = record { scanning = scan_start s refl; first = λ e. refl; wide = λ k. absurd (k refl) }
 
-module _ (s : List ℕ) (w : ℕ) {i n z : ℕ} {f : End} (g : Widely s w i n z f) {e c x y : ℕ} (r : RecordGot s i e c x y) where
+module _ (s : List ℕ) (w : ℕ) {i n z : ℕ} {f : prelude.Option ℕ} (g : Widely s w i n z f) {e c x y : ℕ} (r : RecordGot s i e c x y) where
   -- the width that is expected is that of the first record
   pub width_now : width_after n w c ≡ width s
   width_now = go (eqb n 0) refl
@@ -178,5 +186,5 @@ module _ (s : List ℕ) (w : ℕ) {i n z : ℕ} {f : End} (g : Widely s w i n z 
       go true k = unfold width_after in rw k (own (g.first (eqb-true n 0 k)))
       go false k = unfold width_after in rw k (g.wide (eqb-false n 0 k))
 
-  pub widely_more : i < length s → c ≡ width s → {f' : End} → f' ≡ first_of f y i → {w' : ℕ} → w' ≡ width s → Widely s w' e (n + 1) (z + x) f'
+  pub widely_more : i < length s → c ≡ width s → {f' : prelude.Option ℕ} → f' ≡ first_of f y i → {w' : ℕ} → w' ≡ width s → Widely s w' e (n + 1) (z + x) f'
   widely_more here k p q = record { scanning = scan_more s (width s) g.scanning here r k p; first = λ o. absurd (omega (arith, o)); wide = λ o. q }

@@ -21,7 +21,7 @@ use Rattle.text.specs.CodeEnds.{word_end}
 use Rattle.text.specs.Numbers.{digits_from, is_value, magnitude, no_leading_zero, rank, rank_of, rank_up}
 use Rattle.text.specs.Reader.{from}
 use Rattle.text.specs.Words.{name_bytes, value, word_at}
-use Rattle.text.specs.declared.words.End.TheVariants.{At}
+use Rattle.std.specs.Prelude.{Some}
 
 -- ---- bytes of a word, and digits, as a loop goes through them
 
@@ -134,14 +134,14 @@ module _ (s : List ℕ) (at : ℕ) where
   pub letter_here : is_letter (get_or s at 0) ≡ true → at < length s
   letter_here h = name_byte_here s at (letter_name_byte (get_or s at 0) h)
 
-  pub name_ended : {e : ℕ} → is_letter (get_or s at 0) ≡ true → e ≡ at + 1 + length (word_at s (at + 1)) → e - at ≤ 24 → At e ≡ word_end (value (from s at))
+  pub name_ended : {e : ℕ} → is_letter (get_or s at 0) ≡ true → e ≡ at + 1 + length (word_at s (at + 1)) → e - at ≤ 24 → Some e ≡ word_end (value (from s at))
   name_ended {e} h q l =
       let k : e ≡ at + length (word_at s at) = omega (arith, q, ap length (word_more s at (letter_name_byte (get_or s at 0) h))) in
-      rw (word_read s at is_value (name_value (word_at s at) (is_name_lem s at h (omega (arith, k, l))))) (ap At k)
+      rw (word_read s at is_value (name_value (word_at s at) (is_name_lem s at h (omega (arith, k, l))))) (ap Some k)
 
   module _ {end : ℕ} (ends : end ≡ at + length (digit_bytes (drop at s))) (some_there : at < end) (stop : is_name_byte (get_or s end 0) ≡ false) where
-    number_ended : (k a : ℕ) → end - at ≤ suc k → get_or s at 0 - 48 < a → grow k a ≤ 2 ^ 63 → (get_or s at 0 ≡ 48 → end - at ≡ 1) → word_end (value (from s at)) ≡ At end
-    number_ended k a l h g z = rw (word_read s at is_value (ap is_value whole ∙ fit (digit_bytes (drop at s)) refl (digits_all (drop at s)))) (ap At (omega (arith, ends, ap length whole)))
+    number_ended : (k a : ℕ) → end - at ≤ suc k → get_or s at 0 - 48 < a → grow k a ≤ 2 ^ 63 → (get_or s at 0 ≡ 48 → end - at ≡ 1) → word_end (value (from s at)) ≡ Some end
+    number_ended k a l h g z = rw (word_read s at is_value (ap is_value whole ∙ fit (digit_bytes (drop at s)) refl (digits_all (drop at s)))) (ap Some (omega (arith, ends, ap length whole)))
       where
         whole : word_at s at ≡ digit_bytes (drop at s)
         whole = digits_word (drop at s) (ap is_name_byte (ap first_byte (drop-drop (length (digit_bytes (drop at s))) at s) ∙ first_drop s (at + length (digit_bytes (drop at s))) ∙ ap (λ (p : ℕ). get_or s p 0) (sym ends)) ∙ stop)
@@ -161,17 +161,17 @@ module _ (s : List ℕ) (at : ℕ) where
             led f false q = unfold no_leading_zero in or_left (not (eqb d 48)) (is_empty ds) (ap not q)
 
     -- 0 alone
-    pub zero_ended : get_or s at 0 ≡ 48 → end - at ≡ 1 → word_end (value (from s at)) ≡ At end
+    pub zero_ended : get_or s at 0 ≡ 48 → end - at ≡ 1 → word_end (value (from s at)) ≡ Some end
     unfolding grow
     zero_ended f l = number_ended 0 1 (omega (arith, l)) (omega (arith, f)) (omega arith) (λ z. l)
 
     -- at most 18 digits
-    pub few_ended : (get_or s at 0 ≡ 48 → ⊥) → get_or s at 0 ≤ 57 → end - at < 19 → word_end (value (from s at)) ≡ At end
+    pub few_ended : (get_or s at 0 ≡ 48 → ⊥) → get_or s at 0 ≤ 57 → end - at < 19 → word_end (value (from s at)) ≡ Some end
     unfolding grow
     few_ended n m l = number_ended 17 10 (omega (arith, l)) (omega (arith, m)) (omega arith) (λ z. absurd (n z))
 
     -- at most 19 digits, the first no 9
-    pub nineteen_ended : (get_or s at 0 ≡ 48 → ⊥) → (get_or s at 0 ≡ 57 → ⊥) → get_or s at 0 ≤ 57 → end - at < 20 → word_end (value (from s at)) ≡ At end
+    pub nineteen_ended : (get_or s at 0 ≡ 48 → ⊥) → (get_or s at 0 ≡ 57 → ⊥) → get_or s at 0 ≤ 57 → end - at < 20 → word_end (value (from s at)) ≡ Some end
     unfolding grow
     nineteen_ended n j m l = number_ended 18 9 (omega (arith, l)) (less (eqb (get_or s at 0) 57) refl) (omega arith) (λ z. absurd (n z))
       where

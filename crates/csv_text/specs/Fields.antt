@@ -1,7 +1,7 @@
 -- Meaning: fields of a comma-separated file (02, Q-1; RFC 4180). Readers are those of bracket texts.
 use Rattle.std.specs.Prelude.{suc, ℕ, eqb, length, Bool, ◌||◌, cond, false, not, true, List, [], ◌++◌, ◌∷◌}
 use Rattle.std.proofs.Math.Option.{Option, none, some}
-use Rattle.text.specs.Reader.{Left, Reader, ◌>>=◌, ◌>>◌, byte, if_next, skip}
+use Rattle.text.specs.Reader.{Left, Reader, ◌>>◌, byte, if_next, skip}
 
 -- what a field says, as its bytes: without its quotes, and with doubled quotes made one
 abbrev pub Field : Type 0

@@ -7,23 +7,18 @@ ghost use Rattle.text.specs.Bytes.{within};
 ghost use Rattle.calendar.specs.Calendar.{Date, days_in, year_held, exists};
 ghost use Rattle.calendar.specs.Order.{earlier};
 
-use calendar::dates::{DateFound, date_of_day, date_rank, day_of_date};
-use text::numbers::Amount;
+use calendar::dates::{date_of_day, date_rank, day_of_date};
 
 // Whether a day of a year has a date whose day it is: so do all the days of the year.
 fn goes_round(year: u64, day: u64) -> bool
     ensures { result ≡ (year_held year && within 1 (days_in year) day) }
 {
-    let found = date_of_day(year, day);
-    match found {
-        DateFound::On(d) => {
-            let again = day_of_date(d.year, d.month, d.day);
-            match again {
-                Amount::Is(n) => n == day,
-                Amount::Nothing => false,
-            }
-        }
-        DateFound::NoDate => false,
+    let Some(d) = date_of_day(year, day) else {
+        return false;
+    };
+    match day_of_date(d.year, d.month, d.day) {
+        Some(n) => n == day,
+        None => false,
     }
 }
 
@@ -34,11 +29,11 @@ fn is_earlier(y1: u64, m1: u64, d1: u64, y2: u64, m2: u64, d2: u64) -> bool
     let first = date_rank(y1, m1, d1);
     let second = date_rank(y2, m2, d2);
     match first {
-        Amount::Is(r) => match second {
-            Amount::Is(s) => r < s,
-            Amount::Nothing => false,
+        Some(r) => match second {
+            Some(s) => r < s,
+            None => false,
         },
-        Amount::Nothing => false,
+        None => false,
     }
 }
 
@@ -51,8 +46,8 @@ fn added(sum: u64, n: u64) -> u64 {
 fn with_day(sum: u64, year: u64, day: u64) -> u64 {
     let found = date_of_day(year, day);
     match found {
-        DateFound::On(d) => added(added(sum, d.month), d.day),
-        DateFound::NoDate => added(added(sum, 0), 0),
+        Some(d) => added(added(sum, d.month), d.day),
+        None => added(added(sum, 0), 0),
     }
 }
 
@@ -61,18 +56,16 @@ fn with_date(sum: u64, year: u64, month: u64, day: u64) -> u64 {
     let early = is_earlier(year, month, day, 5000, 7, 1) as u64;
     let found = day_of_date(year, month, day);
     match found {
-        Amount::Is(n) => added(added(sum, n), early),
-        Amount::Nothing => added(added(sum, 0), early),
+        Some(n) => added(added(sum, n), early),
+        None => added(added(sum, 0), early),
     }
 }
 
 // A checksum with the days 0 to 367 of a year in it.
 fn with_days(sum: u64, year: u64) -> u64 {
     let mut s = sum;
-    let mut day = 0;
-    while day < 368 {
+    for day in 0..368 {
         s = with_day(s, year, day);
-        day += 1;
     }
     s
 }
@@ -80,10 +73,8 @@ fn with_days(sum: u64, year: u64) -> u64 {
 // A checksum with the days 0 to 32 of a month in it.
 fn with_month(sum: u64, year: u64, month: u64) -> u64 {
     let mut s = sum;
-    let mut day = 0;
-    while day < 33 {
+    for day in 0..33 {
         s = with_date(s, year, month, day);
-        day += 1;
     }
     s
 }
@@ -91,10 +82,8 @@ fn with_month(sum: u64, year: u64, month: u64) -> u64 {
 // A checksum with the months 0 to 13 of a year in it.
 fn with_months(sum: u64, year: u64) -> u64 {
     let mut s = sum;
-    let mut month = 0;
-    while month < 14 {
+    for month in 0..14 {
         s = with_month(s, year, month);
-        month += 1;
     }
     s
 }
@@ -104,12 +93,10 @@ fn count_days(year: u64) -> u64
     ensures { result ≤ 368 }
 {
     let mut n = 0;
-    let mut day = 0;
-    while day < 368 {
+    for day in 0..368 {
         if goes_round(year, day) {
             n += 1;
         }
-        day += 1;
     }
     n
 }
@@ -122,13 +109,11 @@ fn print_line<R: Print>(rt: &R, year: u64, dates: u64, sum: u64) {
 fn main(rt: HostRuntime) {
     let mut dates: u64 = 0;
     let mut sum: u64 = 0;
-    let mut year: u64 = 0;
-    while year <= 10000 {
+    for year in 0..=10000 {
         dates += count_days(year);
         sum = with_months(with_days(sum, year), year);
         if year % 100 == 0 {
             print_line(&rt, year, dates, sum);
         }
-        year += 1;
     }
 }

@@ -3,8 +3,9 @@ ghost use Rattle.explaining.specs.Kept.{ExplainKeptPromise};
 
 use index::counts::Counts;
 use programs::refusals::part_len;
-use reasons::explained::Explained;
+use reasons::explained::Cause;
 use reasons::lines::explain_line;
+use text::refusals::Refusal;
 use workspace::layout::{LABELS, PURPOSE_CELLS, ROW_CELLS, SET_WORDS, TABLE_CELLS};
 
 // One byte more than a right line may have, which tells a longer one: `(why`, three names of at most 24 bytes and a number of at most 20,
@@ -23,16 +24,16 @@ pub(crate) fn explain_kept(
     c: Counts,
     kept: &[u8],
     len: usize,
-) -> Explained
+) -> Result<Cause, Refusal>
     ensures { ExplainKeptPromise text.now purposes.now labels.now sets.now tables.now rows.now c kept.now len result }
 {
     let e = explain_line(text, purposes, labels, sets, tables, rows, c, kept);
     match e {
-        Explained::Given(x) => Explained::Given(x),
-        Explained::Refused(r) => {
+        Ok(x) => Ok(x),
+        Err(r) => {
             let mut whole = r;
             whole.len = part_len(r.len, kept.len(), len);
-            Explained::Refused(whole)
+            Err(whole)
         }
     }
 }

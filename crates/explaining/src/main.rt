@@ -4,7 +4,7 @@
 // line gets another's reason. With arguments it says how it is called, and reads nothing.
 #![tactic(auto)]
 
-use checker::loading::{Loaded, load};
+use checker::loading::load;
 use index::counts::Counts;
 use kept_line::{LINE_BYTES, explain_kept};
 use programs::arguments::is_given;
@@ -14,7 +14,8 @@ use programs::refusals::write_refused;
 use programs::{input, policy};
 use std::rt::Files;
 use telling::texts;
-use telling::texts::{Told, tell};
+use telling::texts::tell;
+use text::refusals::Refusal;
 use workspace::layout::{
     ATTRIBUTE_CELLS, COND_ROLE_CELLS, GRANT_CELLS, LABELS, PURPOSE_CELLS, ROLE_CELLS, ROW_CELLS,
     SET_WORDS, TABLE_CELLS, USER_CELLS,
@@ -26,10 +27,14 @@ mod kept_line;
 const BUFFER: usize = 4096;
 
 // Writes what a line gets, and says whether it was written whole.
-fn write_told<R: Print + Eprint>(rt: &R, t: Told, out: &[u8; texts::LINE_BYTES]) -> bool {
+fn write_told<R: Print + Eprint>(
+    rt: &R,
+    t: Result<usize, Refusal>,
+    out: &[u8; texts::LINE_BYTES],
+) -> bool {
     match t {
-        Told::Line(len) => write_first(rt, len, out),
-        Told::Refused(r) => write_refused(rt, r),
+        Ok(len) => write_first(rt, len, out),
+        Err(r) => write_refused(rt, r),
     }
 }
 
@@ -102,10 +107,10 @@ fn explain_checked<R: Input + Print + Eprint>(rt: &R, policy: &[u8]) {
         &mut rows,
     );
     match l {
-        Loaded::Accepted(c, _) => {
+        Ok((c, _)) => {
             explain_input(rt, policy, &purposes, &labels, &sets, &tables, &rows, c);
         }
-        Loaded::Refused(r) => {
+        Err(r) => {
             write_refused(rt, r);
         }
     }
@@ -113,7 +118,7 @@ fn explain_checked<R: Input + Print + Eprint>(rt: &R, policy: &[u8]) {
 
 fn explain_policy<R: Files + Input + Print + Eprint>(rt: &R) {
     let mut text = [0u8; policy::ROOM];
-    let input::Loaded::Text(n) = policy::load(rt, &mut text) else {
+    let Some(n) = policy::load(rt, &mut text) else {
         return;
     };
     explain_checked(rt, &text[..n]);

@@ -26,12 +26,10 @@ use Rattle.text.specs.Brackets.{keyword, many, next}
 use Rattle.text.specs.CodeEnds.{word_end}
 use Rattle.text.specs.Reader.{Left, Reader, ◌>>=◌, and_then, from, give, if_next}
 use Rattle.text.specs.Words.{Word}
-use Rattle.form.specs.declared.lines.Columns.{Columns}
-use Rattle.form.specs.declared.lines.Columns.TheVariants as columns
+use Rattle.std.specs.Prelude as prelude
+use Rattle.std.specs.Prelude.{None, Some}
 use Rattle.form.specs.declared.lines.Scheme as coded
 use Rattle.form.specs.declared.lines.Scheme.TheVariants as scheme
-use Rattle.text.specs.declared.words.End.{End}
-use Rattle.text.specs.declared.words.End.TheVariants.{At, Nothing}
 
 -- ---- one item or more
 
@@ -62,7 +60,7 @@ module _ {A B : Type 0} (R : Reader A) (f : List A → B) (s : List ℕ) (at : �
 module _ (s : List ℕ) (at e : ℕ) (k : coded.Scheme) (l : ℕ) {A : Type 0} (R : Reader A) (p : Forward R) (make : Word → List A → Form) where
   -- the code's answer for a table of columns that R reads: the keyword is followed by one column or more, and what is made of
   -- the columns that stand there is the table
-  columns_read : (r : End) {q : Columns} → q ≡ under_scheme s k l e r → r ≡ word_end (many R (from s e))
+  columns_read : (r : prelude.Option ℕ) {q : prelude.Option (coded.Scheme × ℕ × ℕ × ℕ)} → q ≡ under_scheme s k l e r → r ≡ word_end (many R (from s e))
       → ((t : Word) (xs : List A) (g : ℕ) → many R (from s e) ≡ some (xs, from s g) → make t xs ≡ table t (scheme_words s k l e) (column_words s k e))
       → l ≤ length s
       → ((t : Word) → keyword (schemes t) (from s at) ≡ one_or_more R (make t) s e)
@@ -70,22 +68,22 @@ module _ (s : List ℕ) (at e : ℕ) (k : coded.Scheme) (l : ℕ) {A : Type 0} (
   unfolding under_scheme columns_to table_to ColumnsWithin
   columns_read r {q} h c made w called = go (eqb (get_or s e 0) 32) refl r refl
     where
-      go : (b : Bool) → eqb (get_or s e 0) 32 ≡ b → (x : End) → r ≡ x → ReadsColumns s at q
-      go true z (At g) y =
+      go : (b : Bool) → eqb (get_or s e 0) 32 ≡ b → (x : prelude.Option ℕ) → r ≡ x → ReadsColumns s at q
+      go true z (Some g) y =
           let b : get_or s e 0 ≡ 32 = eqb-true _ _ z in
           let x = end_read (many R) s e (forward_many R p) g (sym c ∙ y) in
-          let answered : q ≡ columns.At k l e g = h ∙ rw (z, y) in
+          let answered : q ≡ Some (k, l, e, g) = h ∙ rw (z, y) in
           rw answered (record { is = λ t. called t ∙ one_or_more_lem R (make t) s e p b ∙ rw (x.1, made t x.0 g x.1); within = (w, omega (arith, space_before s e b)) })
-      go true z Nothing y =
-          let wrong : q ≡ columns.Refused = h ∙ rw (z, y) in
+      go true z None y =
+          let wrong : q ≡ None = h ∙ rw (z, y) in
           rw wrong (record { is = λ t. called t ∙ one_or_more_lem R (make t) s e p (eqb-true _ _ z) ∙ rw (end_none (many R) s e (sym c ∙ y)); within = tt })
       go false z x y =
-          let wrong : q ≡ columns.Refused = h ∙ rw z in
+          let wrong : q ≡ None = h ∙ rw z in
           rw wrong (record { is = λ t. called t ∙ one_not R (make t) s e (eqb-false _ _ z); within = tt })
 
 module _ (s : List ℕ) (at e : ℕ) where
   -- plain columns, for every scheme but by column
-  pub plain_table : (k : coded.Scheme) (l : ℕ) (r : End) {q : Columns} → q ≡ under_scheme s k l e r → r ≡ word_end (many column (from s e))
+  pub plain_table : (k : coded.Scheme) (l : ℕ) (r : prelude.Option ℕ) {q : prelude.Option (coded.Scheme × ℕ × ℕ × ℕ)} → q ≡ under_scheme s k l e r → r ≡ word_end (many column (from s e))
       → column_words s k e ≡ column_forms_at s e → l ≤ length s
       → ((t : Word) → keyword (schemes t) (from s at) ≡ plain_columns t (scheme_words s k l e) (from s e))
       → ReadsColumns s at q
@@ -95,7 +93,7 @@ module _ (s : List ℕ) (at e : ℕ) where
       (λ t xs g is. ap (λ (ys : List ColumnForm). table t (scheme_words s k l e) ys) (columns_walk s e xs (from s g) is ∙ sym cs)) w called
 
   -- columns with a label at each
-  pub labelled_table : (r : End) {q : Columns} → q ≡ under_scheme s scheme.ByColumn 0 e r → r ≡ word_end (many labelled_column (from s e))
+  pub labelled_table : (r : prelude.Option ℕ) {q : prelude.Option (coded.Scheme × ℕ × ℕ × ℕ)} → q ≡ under_scheme s scheme.ByColumn 0 e r → r ≡ word_end (many labelled_column (from s e))
       → ((t : Word) → keyword (schemes t) (from s at) ≡ labelled_columns t (from s e))
       → ReadsColumns s at q
   unfolding labelled_columns scheme_words column_words

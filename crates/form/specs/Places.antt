@@ -10,12 +10,13 @@ use Rattle.form.specs.TableWords.{table_line}
 use Rattle.form.specs.Walks.{deny_place, givens_at, items_at, names_at}
 use Rattle.text.specs.Reader.{from}
 use Rattle.text.specs.Words.{word_of}
+use Rattle.std.specs.Prelude as prelude
+use Rattle.std.specs.Prelude.{None, Some}
 use Rattle.form.specs.declared.lines.Line.{Line}
 use Rattle.form.specs.declared.lines.Line.TheVariants as line
 
--- the form that the code's answer stands for
+-- the form that a line of the code stands for
 unfoldable pub line_at : List ℕ → Line → Option Form
-line_at s line.Wrong = none
 line_at s (line.Purpose n) = some (purpose (word_of s n) none)
 line_at s (line.PurposeBelow n p) = some (purpose (word_of s n) (some (word_of s p)))
 line_at s (line.Role n) = some (role (word_of s n) none)
@@ -33,7 +34,6 @@ line_at s (line.Strong t l) = some (note (word_of s t) (strong (word_of s l)))
 
 -- the places of the answer lie in the line, and the purposes that a label denies stand where they are found from its name on
 unfoldable pub Within : List ℕ → Line → Type 0
-Within s line.Wrong = Unit {0}
 Within s (line.Purpose n) = n ≤ length s
 Within s (line.PurposeBelow n p) = (n ≤ length s) × (p ≤ length s)
 Within s (line.Role n) = n ≤ length s
@@ -49,7 +49,17 @@ Within s (line.Public t) = t ≤ length s
 Within s (line.Weak t l) = (t ≤ length s) × (l ≤ length s)
 Within s (line.Strong t l) = (t ≤ length s) × (l ≤ length s)
 
+-- the form that the code's answer stands for, where it found one
+unfoldable pub line_found : List ℕ → prelude.Option Line → Option Form
+line_found s None = none
+line_found s (Some l) = line_at s l
+
+-- the places of the line that it found lie in the line
+unfoldable pub FoundWithin : List ℕ → prelude.Option Line → Type 0
+FoundWithin s None = Unit {0}
+FoundWithin s (Some l) = Within s l
+
 -- THE LINE: the code's answer r stands for the form that the line is, and its places lie in the line
-pub record Reads (s : List ℕ) (r : Line) : Type 0 where
-  pub is : form_of s ≡ line_at s r
-  pub within : Within s r
+pub record Reads (s : List ℕ) (r : prelude.Option Line) : Type 0 where
+  pub is : form_of s ≡ line_found s r
+  pub within : FoundWithin s r

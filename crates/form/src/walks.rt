@@ -6,7 +6,7 @@ ghost use Rattle.text.specs.Walking.{word_end_at};
 use calendar::cell_values::cell_value_end;
 use text::bytes::byte_at;
 use text::walking::{next_word, skip_byte};
-use text::words::{End, word_end, written_end};
+use text::words::{word_end, written_end};
 
 // Where the first word or value stands in a bracket that opens at a place; where none opens, the place itself.
 pub fn first_in(line: &[u8], at: usize) -> usize
@@ -64,14 +64,7 @@ pub fn cell_end(line: &[u8], at: usize) -> usize
 pub fn is_labelled(line: &[u8], at: usize) -> bool
     ensures { result ≡ is_labelled_at line.now at }
 {
-    if byte_at(line, at) != b'(' {
-        return false;
-    }
-    let v = cell_value_end(line, at);
-    match v {
-        End::At(_) => false,
-        End::Nothing => true,
-    }
+    byte_at(line, at) == b'(' && cell_value_end(line, at).is_none()
 }
 
 // Where the value of the item at a place stands: behind the bracket of `(v L)`, and else at the item.

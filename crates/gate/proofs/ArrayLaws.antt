@@ -14,8 +14,9 @@ use Rattle.loaded.specs.Holds.{Holds}
 use Rattle.loaded.specs.Outside.{Asks, Measures, measured_as}
 use Rattle.query.specs.Authority.{Clock}
 use Rattle.stages.specs.Figures.{answered_as}
-use Rattle.loaded.specs.declared.measures.Measured.{Measured}
-use Rattle.stages.specs.declared.answered.Answered.{Answered}
+use Rattle.std.specs.Prelude.{Result}
+use Rattle.text.specs.declared.refusals.Refusal.{Refusal}
+use Rattle.stages.specs.declared.answered.Figures.{Figures}
 
 pub same_version : (cells : List ℕ) {b : Bool} → b ≡ eqb (get_or cells 0 0) version → b ≡ true → get_or cells 0 0 ≡ version
 same_version cells test e = eqb-true (get_or cells 0 0) version (sym test ∙ e)
@@ -31,7 +32,7 @@ module _ {doc ps rs bs us cs gs ms ts ws cells : List ℕ} {b : Bool} (test : b 
   pub measure_other : {text figures : List ℕ} {c : Clock} {n : ℕ} → b ≡ false → NotLoaded figures n → ExportsMeasureArrays doc ps rs bs us cs gs ms ts ws cells text c figures n
   measure_other e s = record { loaded = λ h. absurd (other_holds e h); other = λ _. s }
 
-  pub ask_held : {text before after' figures : List ℕ} {c k : Clock} {n : ℕ} {x : Answered} → b ≡ true → k ≡ c → (Holds doc ps rs bs us cs gs ms ts ws cells → Asks doc text k before after' x)
+  pub ask_held : {text before after' figures : List ℕ} {c k : Clock} {n : ℕ} {x : Result Figures Refusal} → b ≡ true → k ≡ c → (Holds doc ps rs bs us cs gs ms ts ws cells → Asks doc text k before after' x)
       → StoresAnswer (answered_as x) figures n → ExportsAskArrays doc ps rs bs us cs gs ms ts ws cells text c before after' figures n
   ask_held {text} {before} {after'} {figures} {k} {n} {x} e q f s = record {
     loaded = λ h. subst (λ o. ExportsAsk doc text o before after' figures n) q (exports_ask doc text k before after' figures n x (f h) s);
@@ -39,7 +40,7 @@ module _ {doc ps rs bs us cs gs ms ts ws cells : List ℕ} {b : Bool} (test : b 
     kept = λ z. absurd (z (same_version cells test e));
   }
 
-  pub measure_held : {text figures : List ℕ} {c k : Clock} {n : ℕ} {x : Measured} → b ≡ true → k ≡ c → (Holds doc ps rs bs us cs gs ms ts ws cells → Measures doc text k x)
+  pub measure_held : {text figures : List ℕ} {c k : Clock} {n : ℕ} {x : Result ℕ Refusal} → b ≡ true → k ≡ c → (Holds doc ps rs bs us cs gs ms ts ws cells → Measures doc text k x)
       → StoresLength (measured_as x) figures n → ExportsMeasureArrays doc ps rs bs us cs gs ms ts ws cells text c figures n
   measure_held {text} {figures} {k} {n} {x} e q f s = record {
     loaded = λ h. subst (λ o. ExportsMeasure doc text o figures n) q (exports_measure doc text k figures n x (f h) s);

@@ -9,10 +9,11 @@ use Rattle.document.specs.Check.{Accepted, check}
 use Rattle.gate.specs.Exports.{code_of}
 use Rattle.gate.specs.Outcome.{Checks, checked_as}
 use Rattle.gate.specs.Reserved.{ChecksDocument, HasReserve}
-use Rattle.gate.specs.declared.documents.Checked.{Checked}
-use Rattle.gate.specs.declared.documents.Checked.TheVariants as checked
+use Rattle.std.specs.Prelude.{Err, Ok}
 use Rattle.text.proofs.RefusalLaws.{accepted_same, bind_accepted, not_refused}
 use Rattle.text.specs.Refusal.{Refusal, Result, ◌>>=◌, accepted, refused}
+use Rattle.std.specs.Prelude as prelude
+use Rattle.text.specs.declared.refusals.Refusal as refusals
 
 -- what an accepted document hands back
 abbrev taken_of : Accepted → Taken
@@ -60,12 +61,12 @@ code_checked doc = go (check doc)
 
 -- ---- what is handed back does as a reserve
 
-has_reserve : (doc : List ℕ) (r : Checked) → checked_as r ≡ reserve.checked doc → HasReserve doc r
+has_reserve : (doc : List ℕ) (r : prelude.Result (ℕ × ℕ) refusals.Refusal) → checked_as r ≡ reserve.checked doc → HasReserve doc r
 unfolding checked_as HasReserve
-has_reserve doc (checked.Accepted n m) e =
+has_reserve doc (Ok (n, m)) e =
     let b = accepted_checked doc (record { lines = n; reserve = m }) e in
     subst (IsReserve doc) (ap (λ (t : Taken). t.reserve) b.2) (reserve_covers doc b.0 b.1)
-has_reserve doc (checked.Refused x) e = tt
+has_reserve doc (Err x) e = tt
 
-pub checks_document : (doc : List ℕ) (r : Checked) → Checks doc r → ChecksDocument doc r
+pub checks_document : (doc : List ℕ) (r : prelude.Result (ℕ × ℕ) refusals.Refusal) → Checks doc r → ChecksDocument doc r
 checks_document doc r h = record { is = h; reserve = has_reserve doc r h.is }

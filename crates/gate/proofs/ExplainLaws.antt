@@ -14,17 +14,18 @@ use Rattle.gate.specs.Exports.{StoresLength}
 use Rattle.loaded.specs.Cells.{version}
 use Rattle.telling.specs.Holds.{HoldsLabels}
 use Rattle.telling.specs.Telling.{Tells, told_as}
-use Rattle.telling.specs.declared.texts.Told.{Told}
+use Rattle.std.specs.Prelude.{Result}
+use Rattle.text.specs.declared.refusals.Refusal.{Refusal}
 
 -- the export of a told line
-pub exports_why : {doc line before after figures : List ℕ} {n : ℕ} {x : Told} → Tells (why doc line) before after x → StoresLength (told_as x) figures n → ExportsWhy doc line before after figures n
+pub exports_why : {doc line before after figures : List ℕ} {n : ℕ} {x : Result ℕ Refusal} → Tells (why doc line) before after x → StoresLength (told_as x) figures n → ExportsWhy doc line before after figures n
 exports_why {figures} {n} t s = record { stores = subst (λ o. StoresLength o figures n) t.gives s; buffer = t.buffer }
 
 module _ {doc ps ls ms ts ws cells line : List ℕ} {b : Bool} (test : b ≡ eqb (get_or cells 0 0) version) where
   pub why_other : {buffer figures : List ℕ} {n : ℕ} → b ≡ false → NotLoaded figures n → ExportsWhyArrays doc ps ls ms ts ws cells line buffer buffer figures n
   why_other e s = record { loaded = λ h. absurd (eqb-false (get_or cells 0 0) version (sym test ∙ e) h.filled); other = λ _. s; kept = λ _. refl }
 
-  pub why_held : {before after figures : List ℕ} {n : ℕ} {x : Told} → b ≡ true → (HoldsLabels doc ps ls ms ts ws cells → Tells (why doc line) before after x) → StoresLength (told_as x) figures n
+  pub why_held : {before after figures : List ℕ} {n : ℕ} {x : Result ℕ Refusal} → b ≡ true → (HoldsLabels doc ps ls ms ts ws cells → Tells (why doc line) before after x) → StoresLength (told_as x) figures n
       → ExportsWhyArrays doc ps ls ms ts ws cells line before after figures n
   why_held e f s = record {
     loaded = λ h. exports_why (f h) s;

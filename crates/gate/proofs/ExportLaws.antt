@@ -8,17 +8,12 @@ use Rattle.gate.proofs.DocumentLaws.{accepted_checked, code_checked}
 use Rattle.gate.specs.Exports.{ExportsAsk, ExportsCheck, ExportsImport, ExportsMeasure, ExportsMeasureImport, ExportsRefusal, StoresAnswer, StoresLength, ask_figures, check_figures, code_of, measure_figures}
 use Rattle.gate.specs.Outcome.{checked_as}
 use Rattle.gate.specs.Reserved.{ChecksDocument, HasReserve}
-use Rattle.gate.specs.declared.documents.Checked.TheVariants as checked
-use Rattle.gate.specs.declared.documents.Checked.{Checked}
+use Rattle.std.specs.Prelude.{Err, Ok}
 use Rattle.import.specs.Importing.{measure_import}
 use Rattle.import.specs.Outside.{Imports, imported_as}
-use Rattle.import.specs.declared.importing.Imported.{Imported}
 use Rattle.loaded.specs.Outside.{Asks, Measures, measured_as}
-use Rattle.loaded.specs.declared.measures.Measured.{Measured}
 use Rattle.query.specs.Authority.{Clock}
 use Rattle.stages.specs.Figures.{Figures, answered_as, figures_of, in_figures}
-use Rattle.stages.specs.declared.answered.Answered.TheVariants as answered
-use Rattle.stages.specs.declared.answered.Answered.{Answered}
 use Rattle.stages.specs.declared.answered.Figures as code
 use Rattle.text.proofs.RefusalLaws.{not_refused}
 use Rattle.text.specs.Names.{Name}
@@ -31,6 +26,7 @@ use lib.ListN.{get_or, length}
 use mathlib.Core.List.{List, [], ◌∷◌}
 use mathlib.Core.Path.{◌∙◌, ◌≡◌, ap, refl, subst, sym}
 use native.Mathlib.Omega.{arith}
+use Rattle.std.specs.Prelude as prelude
 
 -- no refusal has the code 0
 numbered : (r : Reason) → reason_number r ≡ 0 → ⊥
@@ -76,7 +72,7 @@ figures_accepted (refused r) x e = not_refused e
 figures_accepted (accepted a) x e = (a, refl)
 
 -- a document that is refused
-pub refused_check : (doc figures : List ℕ) (n : ℕ) (x : Checked) (r : Refusal) → ChecksDocument doc x → x ≡ checked.Refused r → ExportsRefusal (refusal_of r) figures n → ExportsCheck doc figures n
+pub refused_check : (doc figures : List ℕ) (n : ℕ) (x : prelude.Result (ℕ × ℕ) Refusal) (r : Refusal) → ChecksDocument doc x → x ≡ Err r → ExportsRefusal (refusal_of r) figures n → ExportsCheck doc figures n
 unfolding checked_as code_of check_figures
 refused_check doc figures n x r h told f =
     let e : refused (refusal_of r) ≡ reserve.checked doc = sym (ap checked_as told) ∙ h.is.is in
@@ -88,7 +84,7 @@ refused_check doc figures n x r h told f =
     }
 
 -- a document that is accepted
-pub accepted_check : (doc figures : List ℕ) (x : Checked) (n m : ℕ) → ChecksDocument doc x → x ≡ checked.Accepted n m → figures ≡ n ∷ m ∷ 0 ∷ 0 ∷ 0 ∷ [] → ExportsCheck doc figures 0
+pub accepted_check : (doc figures : List ℕ) (x : prelude.Result (ℕ × ℕ) Refusal) (n m : ℕ) → ChecksDocument doc x → x ≡ Ok (n, m) → figures ≡ n ∷ m ∷ 0 ∷ 0 ∷ 0 ∷ [] → ExportsCheck doc figures 0
 unfolding checked_as code_of check_figures HasReserve
 accepted_check doc figures x n m h told f =
     let t : Taken = record { lines = n; reserve = m } in
@@ -101,23 +97,23 @@ accepted_check doc figures x n m h told f =
       reserve = λ z. subst (λ l. IsReserve doc (get_or l 1 0)) (sym f) (subst (HasReserve doc) told h.reserve);
     }
 
-module _ (figures : List ℕ) (x : Answered) where
+module _ (figures : List ℕ) (x : prelude.Result code.Figures Refusal) where
   -- a query that is refused
-  pub refused_answer : (n : ℕ) (r : Refusal) → x ≡ answered.Refused r → ExportsRefusal (refusal_of r) figures n → StoresAnswer (answered_as x) figures n
+  pub refused_answer : (n : ℕ) (r : Refusal) → x ≡ Err r → ExportsRefusal (refusal_of r) figures n → StoresAnswer (answered_as x) figures n
   unfolding answered_as code_of ask_figures
   refused_answer n r told f =
       let e : refused (refusal_of r) ≡ answered_as x = sym (ap answered_as told) in
       record { code = f.code ∙ ap code_of e; filled = f.filled ∙ ap ask_figures e; accepts = λ z. absurd (numbered r.reason (sym f.code ∙ z)) }
 
   -- a query that is answered
-  pub given_answer : (g : code.Figures) → x ≡ answered.Given g → figures ≡ g.len ∷ g.grant ∷ g.passed ∷ g.withheld ∷ g.unmatched ∷ [] → StoresAnswer (answered_as x) figures 0
+  pub given_answer : (g : code.Figures) → x ≡ Ok g → figures ≡ g.len ∷ g.grant ∷ g.passed ∷ g.withheld ∷ g.unmatched ∷ [] → StoresAnswer (answered_as x) figures 0
   unfolding answered_as code_of ask_figures figures_of
   given_answer g told f =
       let e : accepted (figures_of g) ≡ answered_as x = sym (ap answered_as told) in
       record { code = ap code_of e; filled = f ∙ ap ask_figures e; accepts = λ z. (figures_of g, sym e) }
 
 -- the export of an answer
-pub exports_ask : (doc text : List ℕ) (c : Clock) (before after' figures : List ℕ) (n : ℕ) (x : Answered) → Asks doc text c before after' x → StoresAnswer (answered_as x) figures n → ExportsAsk doc text c before after' figures n
+pub exports_ask : (doc text : List ℕ) (c : Clock) (before after' figures : List ℕ) (n : ℕ) (x : prelude.Result code.Figures Refusal) → Asks doc text c before after' x → StoresAnswer (answered_as x) figures n → ExportsAsk doc text c before after' figures n
 exports_ask doc text c before after' figures n x h s = record {
   code = s.code ∙ ap code_of h.is ∙ code_figures (ask doc text c (length before));
   filled = s.filled ∙ ap ask_figures h.is;
@@ -137,7 +133,7 @@ module _ (figures : List ℕ) (o : Result ℕ) where
   stored_length n told f = record { code = ap code_of (sym told); filled = f ∙ ap measure_figures (sym told); accepts = λ z. told ∙ sym (ap (λ l. accepted (get_or l 0 0)) f) }
 
 -- the export of a measured answer
-pub exports_measure : (doc text : List ℕ) (c : Clock) (figures : List ℕ) (n : ℕ) (x : Measured) → Measures doc text c x → StoresLength (measured_as x) figures n → ExportsMeasure doc text c figures n
+pub exports_measure : (doc text : List ℕ) (c : Clock) (figures : List ℕ) (n : ℕ) (x : prelude.Result ℕ Refusal) → Measures doc text c x → StoresLength (measured_as x) figures n → ExportsMeasure doc text c figures n
 exports_measure doc text c figures n x h s = record {
   code = s.code ∙ ap code_of h.is;
   filled = s.filled ∙ ap measure_figures h.is;
@@ -145,9 +141,9 @@ exports_measure doc text c figures n x h s = record {
 }
 
 -- the export of an import
-pub exports_import : (bytes : List ℕ) (t l : Name) (before after' figures : List ℕ) (n : ℕ) (x : Imported) → Imports bytes t l before after' x → StoresLength (imported_as x) figures n → ExportsImport bytes t l before after' figures n
+pub exports_import : (bytes : List ℕ) (t l : Name) (before after' figures : List ℕ) (n : ℕ) (x : prelude.Result ℕ Refusal) → Imports bytes t l before after' x → StoresLength (imported_as x) figures n → ExportsImport bytes t l before after' figures n
 exports_import bytes t l before after' figures n x i s = record { stores = subst (λ o. StoresLength o figures n) i.is s; buffer = i.buffer }
 
 -- that of measuring one
-pub exports_measure_import : (bytes : List ℕ) (t l : Name) (figures : List ℕ) (n : ℕ) (x : Imported) → imported_as x ≡ measure_import bytes t l → StoresLength (imported_as x) figures n → ExportsMeasureImport bytes t l figures n
+pub exports_measure_import : (bytes : List ℕ) (t l : Name) (figures : List ℕ) (n : ℕ) (x : prelude.Result ℕ Refusal) → imported_as x ≡ measure_import bytes t l → StoresLength (imported_as x) figures n → ExportsMeasureImport bytes t l figures n
 exports_measure_import bytes t l figures n x e s = subst (λ o. StoresLength o figures n) e s

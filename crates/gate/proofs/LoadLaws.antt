@@ -32,17 +32,12 @@ use Rattle.answer.specs.Reserve.{reserve_of}
 use Rattle.text.proofs.RefusalLaws.{not_refused}
 use Rattle.text.specs.Reasons.{refusal_of}
 use Rattle.text.specs.Refusal.{accepted, refused}
-use Rattle.gate.specs.declared.documents.Checked.{Checked}
-use Rattle.gate.specs.declared.documents.Checked.TheVariants as checked
-use Rattle.checker.specs.declared.loading.Loaded.{Loaded}
-use Rattle.checker.specs.declared.loading.Loaded.TheVariants as loaded
+use Rattle.std.specs.Prelude.{Err, Ok, Result}
 use Rattle.index.specs.declared.counts.Counts.{Counts}
-use Rattle.loaded.specs.declared.measures.Measured.TheVariants as measured
-use Rattle.stages.specs.declared.answered.Answered.TheVariants as answered
 use Rattle.text.specs.declared.refusals.Refusal.{Refusal}
 
 -- no answer accepts and refuses
-apart : (n m : ℕ) (x : Refusal) → checked.Accepted n m ≡ checked.Refused x → ⊥
+apart : (n m : ℕ) (x : Refusal) → ◌≡◌ {A = Result (ℕ × ℕ) Refusal} (Ok (n, m)) (Err x) → ⊥
 apart n m x z = let y : ◌≡◌ {A = ℕ} 0 1 = cc in omega arith
 
 module _ {doc ps rs bs us cs gs ls ms ts ws : List ℕ} where
@@ -68,25 +63,25 @@ module _ {doc ps rs bs us cs gs ls ms ts ws : List ℕ} where
     rows = h.held.rows;
   }
 
-  pub held_accepted : {cells : List ℕ} {c : Counts} {n : ℕ} → HoldsDocument doc ps rs bs us cs gs ls ms ts ws c n → cells ≡ cells_of c → HoldsArrays doc ps rs bs us cs gs ls ms ts ws cells (loaded.Accepted c n)
+  pub held_accepted : {cells : List ℕ} {c : Counts} {n : ℕ} → HoldsDocument doc ps rs bs us cs gs ls ms ts ws c n → cells ≡ cells_of c → HoldsArrays doc ps rs bs us cs gs ls ms ts ws cells (Ok (c, n))
   unfolding HeldOrNone
   held_accepted h e = record { is = record { what = h.what; is = h.is; rows = holds_rows h; holds = holds h e; labelled = holds_labels h e } }
 
 module _ {doc ps rs bs us cs gs ls ms ts ws cells : List ℕ} where
-  pub held_refused : {x : Refusal} → check doc ≡ refused (refusal_of x) → cells ≡ no_cells → HoldsArrays doc ps rs bs us cs gs ls ms ts ws cells (loaded.Refused x)
+  pub held_refused : {x : Refusal} → check doc ≡ refused (refusal_of x) → cells ≡ no_cells → HoldsArrays doc ps rs bs us cs gs ls ms ts ws cells (Err x)
   unfolding HeldOrNone
   held_refused h e = record { is = (h, ap (λ l. get_or l 0 0) e ∙ none_stored) }
 
   -- what the arrays are said to hold, by the answer
-  pub told_accepted : {r : Loaded} {c : Counts} {n : ℕ} → HoldsArrays doc ps rs bs us cs gs ls ms ts ws cells r → r ≡ loaded.Accepted c n → Held doc ps rs bs us cs gs ls ms ts ws cells c n
+  pub told_accepted : {r : Result (Counts × ℕ) Refusal} {c : Counts} {n : ℕ} → HoldsArrays doc ps rs bs us cs gs ls ms ts ws cells r → r ≡ Ok (c, n) → Held doc ps rs bs us cs gs ls ms ts ws cells c n
   unfolding HeldOrNone
   told_accepted h told = subst (HeldOrNone doc ps rs bs us cs gs ls ms ts ws cells) told h.is
 
-  pub told_refused : {r : Loaded} {x : Refusal} → HoldsArrays doc ps rs bs us cs gs ls ms ts ws cells r → r ≡ loaded.Refused x → (check doc ≡ refused (refusal_of x)) × (get_or cells 0 0 ≡ 0)
+  pub told_refused : {r : Result (Counts × ℕ) Refusal} {x : Refusal} → HoldsArrays doc ps rs bs us cs gs ls ms ts ws cells r → r ≡ Err x → (check doc ≡ refused (refusal_of x)) × (get_or cells 0 0 ≡ 0)
   unfolding HeldOrNone
   told_refused h told = subst (HeldOrNone doc ps rs bs us cs gs ls ms ts ws cells) told h.is
 
-  pub loads_accepted : {c : Counts} {n m : ℕ} (h : Held doc ps rs bs us cs gs ls ms ts ws cells c n) → m ≡ reserve_of h.what → LoadsDocument doc ps rs bs us cs gs ls ms ts ws cells (checked.Accepted n m)
+  pub loads_accepted : {c : Counts} {n m : ℕ} (h : Held doc ps rs bs us cs gs ls ms ts ws cells c n) → m ≡ reserve_of h.what → LoadsDocument doc ps rs bs us cs gs ls ms ts ws cells (Ok (n, m))
   unfolding checked_as
   loads_accepted {n} {m} h e = record {
     checks = checks_document _ _ (record { is = ap (λ k. accepted (record { lines = n; reserve = k })) e ∙ checked_accepted doc (record { lines = n; doc = h.what }) h.is });
@@ -95,7 +90,7 @@ module _ {doc ps rs bs us cs gs ls ms ts ws cells : List ℕ} where
     refuses = λ x z. absurd (apart n m x z);
   }
 
-  pub loads_refused : {x : Refusal} → (check doc ≡ refused (refusal_of x)) × (get_or cells 0 0 ≡ 0) → LoadsDocument doc ps rs bs us cs gs ls ms ts ws cells (checked.Refused x)
+  pub loads_refused : {x : Refusal} → (check doc ≡ refused (refusal_of x)) × (get_or cells 0 0 ≡ 0) → LoadsDocument doc ps rs bs us cs gs ls ms ts ws cells (Err x)
   unfolding checked_as
   loads_refused {x} h = record {
     checks = checks_document _ _ (record { is = checked_refused doc (refusal_of x) h.0 });
@@ -106,33 +101,33 @@ module _ {doc ps rs bs us cs gs ls ms ts ws cells : List ℕ} where
 
 -- ---- a refused document
 
-check_refused : {doc : List ℕ} {r : Checked} (x : Refusal) → ChecksDocument doc r → r ≡ checked.Refused x → check doc ≡ refused (refusal_of x)
+check_refused : {doc : List ℕ} {r : Result (ℕ × ℕ) Refusal} (x : Refusal) → ChecksDocument doc r → r ≡ Err x → check doc ≡ refused (refusal_of x)
 unfolding checked_as
 check_refused {doc} x h e = refused_checked doc (refusal_of x) (sym (ap checked_as e) ∙ h.is.is)
 
 module _ (doc text : List ℕ) (c : Clock) (x : Refusal) (h : check doc ≡ refused (refusal_of x)) where
-  gives : (buffer : List ℕ) → Gives (ask_unbounded doc text c) buffer buffer (answered.Refused x)
+  gives : (buffer : List ℕ) → Gives (ask_unbounded doc text c) buffer buffer (Err x)
   unfolding answered_as
   gives buffer = gives_refused (ask_refused doc text c h) refl
 
-  pub asks_refused : (buffer : List ℕ) → Asks doc text c buffer buffer (answered.Refused x)
+  pub asks_refused : (buffer : List ℕ) → Asks doc text c buffer buffer (Err x)
   asks_refused buffer = gives_asks (gives buffer) (room_refused (length buffer) refl)
 
-  pub measured_refused : Measures doc text c (measured.Refused x)
+  pub measured_refused : Measures doc text c (Err x)
   measured_refused = measures_refused doc text c (gives []) refl
 
 -- ---- the export
 
 module _ {doc ps rs bs us cs gs ls ms ts ws cells figures : List ℕ} {n : ℕ} where
-  pub exports_load : (x : Checked) → LoadsDocument doc ps rs bs us cs gs ls ms ts ws cells x → ExportsCheck doc figures n → ExportsLoad doc ps rs bs us cs gs ls ms ts ws cells figures n
+  pub exports_load : (x : Result (ℕ × ℕ) Refusal) → LoadsDocument doc ps rs bs us cs gs ls ms ts ws cells x → ExportsCheck doc figures n → ExportsLoad doc ps rs bs us cs gs ls ms ts ws cells figures n
   unfolding checked_as code_of
-  exports_load (checked.Accepted k m) h e = record {
+  exports_load (Ok (k, m)) h e = record {
     checks = e;
     accepts = λ _. h.accepts k m refl;
     explains = λ _. h.explains k m refl;
     refuses = λ z. absurd (z (e.code ∙ sym (code_checked doc) ∙ sym (ap code_of h.checks.is.is)));
   }
-  exports_load (checked.Refused x) h e = record {
+  exports_load (Err x) h e = record {
     checks = e;
     accepts = λ z. not_refused (sym (check_refused x h.checks refl) ∙ (e.accepts z).1);
     explains = λ z. not_refused (sym (check_refused x h.checks refl) ∙ (e.accepts z).1);

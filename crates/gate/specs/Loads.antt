@@ -4,10 +4,7 @@ use Rattle.document.specs.Check.{check}
 use Rattle.document.specs.Policy.{Doc}
 use Rattle.gate.specs.Reserved.{ChecksDocument}
 use Rattle.loaded.specs.Holds.{Holds}
-use Rattle.gate.specs.declared.documents.Checked.{Checked}
-use Rattle.gate.specs.declared.documents.Checked.TheVariants as checked
-use Rattle.checker.specs.declared.loading.Loaded.{Loaded}
-use Rattle.checker.specs.declared.loading.Loaded.TheVariants as loaded
+use Rattle.std.specs.Prelude.{Err, Ok, Result}
 use Rattle.index.specs.declared.counts.Counts.{Counts}
 use Rattle.reserve.specs.Sums.{HoldsRows}
 use Rattle.telling.specs.Holds.{HoldsLabels}
@@ -24,17 +21,17 @@ pub record Held (doc ps rs bs us cs gs ls ms ts ws cells : List ℕ) (c : Counts
   pub labelled : HoldsLabels doc ps ls ms ts ws cells
 
 -- the arrays hold the accepted document; or the answer is its refusal, and they are of no version
-unfoldable pub HeldOrNone : (doc ps rs bs us cs gs ls ms ts ws cells : List ℕ) → Loaded → Type 0
-HeldOrNone doc ps rs bs us cs gs ls ms ts ws cells (loaded.Accepted c n) = Held doc ps rs bs us cs gs ls ms ts ws cells c n
-HeldOrNone doc ps rs bs us cs gs ls ms ts ws cells (loaded.Refused x) = (check doc ≡ refused (refusal_of x)) × (get_or cells 0 0 ≡ 0)
+unfoldable pub HeldOrNone : (doc ps rs bs us cs gs ls ms ts ws cells : List ℕ) → Result (Counts × ℕ) code.Refusal → Type 0
+HeldOrNone doc ps rs bs us cs gs ls ms ts ws cells (Ok (c, n)) = Held doc ps rs bs us cs gs ls ms ts ws cells c n
+HeldOrNone doc ps rs bs us cs gs ls ms ts ws cells (Err x) = (check doc ≡ refused (refusal_of x)) × (get_or cells 0 0 ≡ 0)
 
 -- the answer r is that of the check, the reserve aside, and so are the arrays
-pub record HoldsArrays (doc ps rs bs us cs gs ls ms ts ws cells : List ℕ) (r : Loaded) : Type 0 where
+pub record HoldsArrays (doc ps rs bs us cs gs ls ms ts ws cells : List ℕ) (r : Result (Counts × ℕ) code.Refusal) : Type 0 where
   pub is : HeldOrNone doc ps rs bs us cs gs ls ms ts ws cells r
 
 -- THE LOADING: the answer r is that of the check; arrays of an accepted document hold it, and those of a refused one are of no version
-pub record LoadsDocument (doc ps rs bs us cs gs ls ms ts ws cells : List ℕ) (r : Checked) : Type 0 where
+pub record LoadsDocument (doc ps rs bs us cs gs ls ms ts ws cells : List ℕ) (r : Result (ℕ × ℕ) code.Refusal) : Type 0 where
   pub checks : ChecksDocument doc r
-  pub accepts : (n m : ℕ) → r ≡ checked.Accepted n m → Holds doc ps rs bs us cs gs ms ts ws cells
-  pub explains : (n m : ℕ) → r ≡ checked.Accepted n m → HoldsLabels doc ps ls ms ts ws cells
-  pub refuses : (x : code.Refusal) → r ≡ checked.Refused x → get_or cells 0 0 ≡ 0
+  pub accepts : (n m : ℕ) → r ≡ Ok (n, m) → Holds doc ps rs bs us cs gs ms ts ws cells
+  pub explains : (n m : ℕ) → r ≡ Ok (n, m) → HoldsLabels doc ps ls ms ts ws cells
+  pub refuses : (x : code.Refusal) → r ≡ Err x → get_or cells 0 0 ≡ 0

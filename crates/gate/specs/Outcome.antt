@@ -5,18 +5,19 @@ use Rattle.answer.specs.Reserve.{Taken}
 use Rattle.answer.specs.Reserve as reserve
 use Rattle.text.specs.Reasons.{refusal_of}
 use Rattle.text.specs.Refusal.{Result, accepted, refused}
-use Rattle.gate.specs.declared.documents.Checked.{Checked}
-use Rattle.gate.specs.declared.documents.Checked.TheVariants as checked
+use Rattle.std.specs.Prelude.{Err, Ok}
+use Rattle.text.specs.declared.refusals.Refusal.{Refusal}
+use Rattle.std.specs.Prelude as prelude
 
 -- the outcome that the answer stands for: a refusal, or the number of lines and the reserve
-unfoldable pub checked_as : Checked → Result Taken
-checked_as (checked.Accepted n r) = accepted (record { lines = n; reserve = r })
-checked_as (checked.Refused x) = refused (refusal_of x)
+unfoldable pub checked_as : prelude.Result (ℕ × ℕ) Refusal → Result Taken
+checked_as (Ok (n, r)) = accepted (record { lines = n; reserve = r })
+checked_as (Err x) = refused (refusal_of x)
 
 -- the answer r stands for this outcome
-pub record Answers (o : Result Taken) (r : Checked) : Type 0 where
+pub record Answers (o : Result Taken) (r : prelude.Result (ℕ × ℕ) Refusal) : Type 0 where
   pub is : checked_as r ≡ o
 
 -- THE CHECK: the answer r stands for the outcome of the check of the document, its reserve to the byte
-abbrev pub Checks : List ℕ → Checked → Type 0
+abbrev pub Checks : List ℕ → prelude.Result (ℕ × ℕ) Refusal → Type 0
 Checks doc r = Answers (reserve.checked doc) r

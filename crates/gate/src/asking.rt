@@ -3,11 +3,11 @@ ghost use Rattle.loaded.specs.Outside.{Asks};
 ghost use Rattle.query.specs.HostClock.{clock_of};
 
 use crate::documents::hold;
-use checker::loading::Loaded;
 use loaded::asks::ask_loaded;
 use loaded::cells::CELLS;
 use query::clock::Clock;
-use stages::answered::Answered;
+use stages::answered::Figures;
+use text::refusals::Refusal;
 use workspace::layout::{
     ATTRIBUTE_CELLS, COND_ROLE_CELLS, GRANT_CELLS, LABELS, PURPOSE_CELLS, ROLE_CELLS, ROW_CELLS,
     SET_WORDS, TABLE_CELLS, USER_CELLS,
@@ -15,7 +15,7 @@ use workspace::layout::{
 
 // Asks the document with the query at the clock's time: loads it, then asks it. An answer fills the first bytes of the lent buffer, a
 // refusal leaves it.
-pub fn ask(doc: &[u8], query: &[u8], clock: Clock, out: &mut [u8]) -> Answered
+pub fn ask(doc: &[u8], query: &[u8], clock: Clock, out: &mut [u8]) -> Result<Figures, Refusal>
     ensures { Asks doc.now query.now (clock_of clock) out.old out.new result }
 {
     let mut purposes = [0usize; PURPOSE_CELLS];
@@ -29,7 +29,7 @@ pub fn ask(doc: &[u8], query: &[u8], clock: Clock, out: &mut [u8]) -> Answered
     let mut tables = [0usize; TABLE_CELLS];
     let mut rows = [0usize; ROW_CELLS];
     let mut cells = [0usize; CELLS];
-    let r = hold(
+    hold(
         doc,
         &mut purposes,
         &mut roles,
@@ -42,24 +42,21 @@ pub fn ask(doc: &[u8], query: &[u8], clock: Clock, out: &mut [u8]) -> Answered
         &mut tables,
         &mut rows,
         &mut cells,
-    );
-    match r {
-        Loaded::Refused(x) => Answered::Refused(x),
-        Loaded::Accepted(_, _) => ask_loaded(
-            doc,
-            &purposes,
-            &roles,
-            &attributes,
-            &users,
-            &conds,
-            &grants,
-            &sets,
-            &tables,
-            &rows,
-            &cells,
-            clock,
-            query,
-            out,
-        ),
-    }
+    )?;
+    ask_loaded(
+        doc,
+        &purposes,
+        &roles,
+        &attributes,
+        &users,
+        &conds,
+        &grants,
+        &sets,
+        &tables,
+        &rows,
+        &cells,
+        clock,
+        query,
+        out,
+    )
 }

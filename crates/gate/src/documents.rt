@@ -3,7 +3,7 @@ ghost use Rattle.gate.specs.Loads.{HoldsArrays, LoadsDocument};
 ghost use Rattle.gate.specs.Reserved.{ChecksDocument};
 
 use checker::loading;
-use checker::loading::Loaded;
+use index::counts::Counts;
 use loaded::cells::{CELLS, store_counts, store_none};
 use reserve::longest::reserve;
 use text::refusals::Refusal;
@@ -11,13 +11,6 @@ use workspace::layout::{
     ATTRIBUTE_CELLS, COND_ROLE_CELLS, GRANT_CELLS, LABELS, PURPOSE_CELLS, ROLE_CELLS, ROW_CELLS,
     SET_WORDS, TABLE_CELLS, USER_CELLS,
 };
-
-// What the check of a document says: the number of lines with the reserve, or a refusal.
-#[derive(Clone, Copy)]
-pub enum Checked {
-    Accepted(usize, usize),
-    Refused(Refusal),
-}
 
 // The check of a document into lent arrays, which hold it then; `cells` say so, or that they hold none. What all of them held
 // before does not matter. The reserve is left out, which asking has no use for.
@@ -34,20 +27,20 @@ pub(crate) fn hold(
     tables: &mut [usize; TABLE_CELLS],
     rows: &mut [usize; ROW_CELLS],
     cells: &mut [usize; CELLS],
-) -> Loaded
+) -> Result<(Counts, usize), Refusal>
     ensures { HoldsArrays doc.now purposes.new roles.new attributes.new users.new conds.new grants.new labels.new sets.new tables.new rows.new cells.new result }
 {
     let r = loading::load(
         doc, purposes, roles, attributes, users, conds, grants, labels, sets, tables, rows,
     );
     match r {
-        Loaded::Accepted(c, n) => {
+        Ok((c, n)) => {
             store_counts(cells, c);
-            Loaded::Accepted(c, n)
+            Ok((c, n))
         }
-        Loaded::Refused(x) => {
+        Err(x) => {
             store_none(cells);
-            Loaded::Refused(x)
+            Err(x)
         }
     }
 }
@@ -66,20 +59,17 @@ pub fn load(
     tables: &mut [usize; TABLE_CELLS],
     rows: &mut [usize; ROW_CELLS],
     cells: &mut [usize; CELLS],
-) -> Checked
+) -> Result<(usize, usize), Refusal>
     ensures { LoadsDocument doc.now purposes.new roles.new attributes.new users.new conds.new grants.new labels.new sets.new tables.new rows.new cells.new result }
 {
-    let r = hold(
+    let (c, n) = hold(
         doc, purposes, roles, attributes, users, conds, grants, labels, sets, tables, rows, cells,
-    );
-    match r {
-        Loaded::Accepted(c, n) => Checked::Accepted(n, reserve(doc, rows, c.tables, c.rows)),
-        Loaded::Refused(x) => Checked::Refused(x),
-    }
+    )?;
+    Ok((n, reserve(doc, rows, c.tables, c.rows)))
 }
 
 // The check of a document: the number of its lines and the reserve, or the first refusal.
-pub fn check(doc: &[u8]) -> Checked
+pub fn check(doc: &[u8]) -> Result<(usize, usize), Refusal>
     ensures { ChecksDocument doc.now result }
 {
     let mut purposes = [0usize; PURPOSE_CELLS];

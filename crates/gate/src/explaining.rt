@@ -7,16 +7,17 @@ use crate::arrays::store_not_loaded;
 use crate::exports::{store_five, store_refusal};
 use loaded::cells::{CELLS, is_loaded};
 use telling::arrays::why_loaded;
-use telling::texts::{LINE_BYTES, Told, why};
+use telling::texts::{LINE_BYTES, why};
+use text::refusals::Refusal;
 use workspace::layout::{LABELS, PURPOSE_CELLS, ROW_CELLS, SET_WORDS, TABLE_CELLS};
 
 // Stores the figures of a told line. Gives its code.
-fn store_told(figures: &mut [u64; 5], x: Told) -> u64
+fn store_told(figures: &mut [u64; 5], x: Result<usize, Refusal>) -> u64
     ensures { StoresLength (told_as x) figures.new result }
 {
     match x {
-        Told::Refused(r) => store_refusal(figures, r),
-        Told::Line(len) => {
+        Err(r) => store_refusal(figures, r),
+        Ok(len) => {
             store_five(figures, len as u64, 0, 0, 0, 0);
             0
         }

@@ -8,12 +8,11 @@ ghost use Rattle.stages.specs.Figures.{answered_as};
 ghost use Rattle.text.specs.Reasons.{refusal_of, source_of};
 
 use crate::asking::ask;
-use crate::documents::{Checked, check};
+use crate::documents::check;
 use crate::measuring::measure;
-use import::importing::{Imported, import_rows, measure_rows};
-use loaded::measures::Measured;
+use import::importing::{import_rows, measure_rows};
 use query::clock::Clock;
-use stages::answered::Answered;
+use stages::answered::Figures;
 use text::refusals::{Refusal, Source, number};
 
 // Stores five figures.
@@ -49,12 +48,12 @@ pub(crate) fn store_refusal(figures: &mut [u64; 5], r: Refusal) -> u64
 }
 
 // Stores the figures of a check. Gives its code.
-pub(crate) fn store_checked(figures: &mut [u64; 5], x: Checked) -> u64
+pub(crate) fn store_checked(figures: &mut [u64; 5], x: Result<(usize, usize), Refusal>) -> u64
     ensures { (doc : List ℕ) → ChecksDocument doc x → ExportsCheck doc figures.new result }
 {
     match x {
-        Checked::Refused(r) => store_refusal(figures, r),
-        Checked::Accepted(lines, reserve) => {
+        Err(r) => store_refusal(figures, r),
+        Ok((lines, reserve)) => {
             store_five(figures, lines as u64, reserve as u64, 0, 0, 0);
             0
         }
@@ -62,12 +61,12 @@ pub(crate) fn store_checked(figures: &mut [u64; 5], x: Checked) -> u64
 }
 
 // Stores the figures of an answer. Gives its code.
-pub(crate) fn store_answered(figures: &mut [u64; 5], x: Answered) -> u64
+pub(crate) fn store_answered(figures: &mut [u64; 5], x: Result<Figures, Refusal>) -> u64
     ensures { StoresAnswer (answered_as x) figures.new result }
 {
     match x {
-        Answered::Refused(r) => store_refusal(figures, r),
-        Answered::Given(f) => {
+        Err(r) => store_refusal(figures, r),
+        Ok(f) => {
             store_five(
                 figures,
                 f.len as u64,
@@ -82,12 +81,12 @@ pub(crate) fn store_answered(figures: &mut [u64; 5], x: Answered) -> u64
 }
 
 // Stores the figures of a measured answer. Gives its code.
-pub(crate) fn store_measured(figures: &mut [u64; 5], x: Measured) -> u64
+pub(crate) fn store_measured(figures: &mut [u64; 5], x: Result<usize, Refusal>) -> u64
     ensures { StoresLength (measured_as x) figures.new result }
 {
     match x {
-        Measured::Refused(r) => store_refusal(figures, r),
-        Measured::Length(len) => {
+        Err(r) => store_refusal(figures, r),
+        Ok(len) => {
             store_five(figures, len as u64, 0, 0, 0, 0);
             0
         }
@@ -140,12 +139,12 @@ pub extern "C" fn gate_measure(
 }
 
 // Stores the figures of an import. Gives its code.
-fn store_imported(figures: &mut [u64; 5], x: Imported) -> u64
+fn store_imported(figures: &mut [u64; 5], x: Result<usize, Refusal>) -> u64
     ensures { StoresLength (imported_as x) figures.new result }
 {
     match x {
-        Imported::Refused(r) => store_refusal(figures, r),
-        Imported::Lines(len) => {
+        Err(r) => store_refusal(figures, r),
+        Ok(len) => {
             store_five(figures, len as u64, 0, 0, 0, 0);
             0
         }

@@ -3,17 +3,17 @@ ghost use Rattle.loaded.specs.Outside.{Measures};
 ghost use Rattle.query.specs.HostClock.{clock_of};
 
 use crate::documents::hold;
-use checker::loading::Loaded;
 use loaded::cells::CELLS;
-use loaded::measures::{Measured, measure_loaded};
+use loaded::measures::measure_loaded;
 use query::clock::Clock;
+use text::refusals::Refusal;
 use workspace::layout::{
     ATTRIBUTE_CELLS, COND_ROLE_CELLS, GRANT_CELLS, LABELS, PURPOSE_CELLS, ROLE_CELLS, ROW_CELLS,
     SET_WORDS, TABLE_CELLS, USER_CELLS,
 };
 
 // Measures the answer to the query at the clock's time: loads the document, then measures. Nothing of the answer is held.
-pub fn measure(doc: &[u8], query: &[u8], clock: Clock) -> Measured
+pub fn measure(doc: &[u8], query: &[u8], clock: Clock) -> Result<usize, Refusal>
     ensures { Measures doc.now query.now (clock_of clock) result }
 {
     let mut purposes = [0usize; PURPOSE_CELLS];
@@ -27,7 +27,7 @@ pub fn measure(doc: &[u8], query: &[u8], clock: Clock) -> Measured
     let mut tables = [0usize; TABLE_CELLS];
     let mut rows = [0usize; ROW_CELLS];
     let mut cells = [0usize; CELLS];
-    let r = hold(
+    hold(
         doc,
         &mut purposes,
         &mut roles,
@@ -40,23 +40,20 @@ pub fn measure(doc: &[u8], query: &[u8], clock: Clock) -> Measured
         &mut tables,
         &mut rows,
         &mut cells,
-    );
-    match r {
-        Loaded::Refused(x) => Measured::Refused(x),
-        Loaded::Accepted(_, _) => measure_loaded(
-            doc,
-            &purposes,
-            &roles,
-            &attributes,
-            &users,
-            &conds,
-            &grants,
-            &sets,
-            &tables,
-            &rows,
-            &cells,
-            clock,
-            query,
-        ),
-    }
+    )?;
+    measure_loaded(
+        doc,
+        &purposes,
+        &roles,
+        &attributes,
+        &users,
+        &conds,
+        &grants,
+        &sets,
+        &tables,
+        &rows,
+        &cells,
+        clock,
+        query,
+    )
 }

@@ -17,8 +17,8 @@ use Rattle.import.specs.Outside.{Imports, imported_as, in_brief, length_within}
 use Rattle.import.specs.Placement.{RowsPlaced}
 use Rattle.csv_text.specs.Records.{Entry, Split, first_unfit, malformed, records, split}
 use Rattle.csv_text.specs.Scanned.{field_size, place_of, scan_of, size_of, total_size}
-use Rattle.import.specs.declared.importing.Imported.TheVariants as imported
-use Rattle.csv_text.specs.declared.records.Scan.TheVariants as scan
+use Rattle.std.specs.Prelude as prelude
+use Rattle.std.specs.Prelude.{None, Some, Err, IsErrAnd, Ok}
 use Rattle.lists.proofs.Tests.{and_left, and_right}
 use Rattle.lists.specs.Lists.{all_of}
 use Rattle.text.proofs.RefusalLaws.{accepted_same, not_refused}
@@ -28,8 +28,6 @@ use Rattle.text.specs.Numbers.{is_value}
 use Rattle.text.specs.Reasons.{refusal_of}
 use Rattle.text.specs.Refusal.{Refusal, Result, ◌>>=◌, ◌>>◌, accepted, refuse_if, refused}
 use Rattle.text.specs.declared.refusals.Refusal as code
-use Rattle.text.specs.declared.words.End.TheVariants.{At, Nothing}
-use Rattle.text.specs.declared.words.End.{End}
 use Rattle.writing.proofs.Writing.{filled}
 
 -- ---- how long the lines are
@@ -59,28 +57,28 @@ name_short n h = leb-true (length n) 24 (and_right (all_of is_name_byte n) (leb 
 
 -- ---- records that were scanned: 20 and 21
 
-place_nothing : (o : Option ℕ) → Nothing ≡ place_of o → o ≡ none
+place_nothing : (o : Option ℕ) → None ≡ place_of o → o ≡ none
 place_nothing none h = refl
 place_nothing (some p) h = let x : ◌≡◌ {A = ℕ} 0 1 = cc in absurd (omega arith)
 
-place_at : (o : Option ℕ) {p : ℕ} → At p ≡ place_of o → o ≡ some p
+place_at : (o : Option ℕ) {p : ℕ} → Some p ≡ place_of o → o ≡ some p
 place_at none h = let x : ◌≡◌ {A = ℕ} 0 1 = cc in absurd (omega arith)
 place_at (some q) {p} h = let e : q ≡ p = cc in ap some e
 
 -- a length that is within the room, or not
-within_at : (room m n : ℕ) → length_within room m ≡ At n → (m ≤ room) × (m ≡ n)
+within_at : (room m n : ℕ) → length_within room m ≡ Some n → (m ≤ room) × (m ≡ n)
 unfolding length_within
 within_at room m n h = go (leb m room) refl h
   where
-    go : (b : Bool) → leb m room ≡ b → cond b (At m) Nothing ≡ At n → (m ≤ room) × (m ≡ n)
+    go : (b : Bool) → leb m room ≡ b → cond b (Some m) None ≡ Some n → (m ≤ room) × (m ≡ n)
     go true e k = (leb-true m room e, cc)
     go false e k = let x : ◌≡◌ {A = ℕ} 0 1 = cc in absurd (omega arith)
 
-within_no : (room m : ℕ) → length_within room m ≡ Nothing → room < m
+within_no : (room m : ℕ) → length_within room m ≡ None → room < m
 unfolding length_within
 within_no room m h = go (leb m room) refl h
   where
-    go : (b : Bool) → leb m room ≡ b → cond b (At m) Nothing ≡ Nothing → room < m
+    go : (b : Bool) → leb m room ≡ b → cond b (Some m) None ≡ None → room < m
     go true e k = let x : ◌≡◌ {A = ℕ} 0 1 = cc in absurd (omega arith)
     go false e k = leb-false m room e
 
@@ -108,9 +106,11 @@ module _ (t l : Name) (room : ℕ) (es : List Entry) where
   unfolding in_brief ◌>>=◌
   brief_refusal r a e = ap refused e ∙ sym (ap (in_brief t l) a)
 
-  module _ {count size : ℕ} {f : End} (s : scan_of (split es) ≡ scan.Counted count size f) where
+  module _ {count size : ℕ} {f : prelude.Option ℕ} (s : scan_of (split es) ≡ Ok (count, size, f)) where
     counted : (count ≡ length es) × (size ≡ total_size es) × (f ≡ place_of (first_unfit es))
-    counted = (cc, cc, cc)
+    counted =
+        let q : ◌≡◌ {A = ℕ × ℕ × prelude.Option ℕ} (count, size, f) (length es, total_size es, place_of (first_unfit es)) = cc in
+        (ap (λ z. z.0) q, ap (λ z. z.1) q, ap (λ z. z.2) q)
 
     measured : first_unfit es ≡ none → length (record_lines t l es) ≡ count * (length t + length l + 8) + size
     measured k = lines_length_lem t l es k ∙ sym (ap (λ (n : ℕ). n * (length t + length l + 8) + size) counted.0 ∙ ap (λ (n : ℕ). length es * (length t + length l + 8) + n) counted.1)
@@ -121,21 +121,21 @@ module _ (t l : Name) (room : ℕ) (es : List Entry) where
 
     module _ (named : (is_name t && is_name l) ≡ true) where
       -- a field is unfit
-      pub judged_unfit : (r : code.Refusal) {p : ℕ} → f ≡ At p → refusal_of r ≡ refusal_at 20 p → refused (refusal_of r) ≡ in_brief t l (if_writable t l room es)
+      pub judged_unfit : (r : code.Refusal) {p : ℕ} → f ≡ Some p → refusal_of r ≡ refusal_at 20 p → refused (refusal_of r) ≡ in_brief t l (if_writable t l room es)
       judged_unfit r k e = brief_refusal r (admits_fields named (place_at (first_unfit es) (sym k ∙ counted.2))) e
 
-      module _ (fit : f ≡ Nothing) where
+      module _ (fit : f ≡ None) where
         fits : first_unfit es ≡ none
         fits = place_nothing (first_unfit es) (sym fit ∙ counted.2)
 
         -- there is no room for the lines
-        pub judged_short : (r : code.Refusal) → length_within room (count * (length t + length l + 8) + size) ≡ Nothing → refusal_of r ≡ refusal_at 21 0 → refused (refusal_of r) ≡ in_brief t l (if_writable t l room es)
+        pub judged_short : (r : code.Refusal) → length_within room (count * (length t + length l + 8) + size) ≡ None → refusal_of r ≡ refusal_at 21 0 → refused (refusal_of r) ≡ in_brief t l (if_writable t l room es)
         judged_short r w e =
             let o : room < length (record_lines t l es) = omega (arith, within_no room (count * (length t + length l + 8) + size) w, measured fits) in
             brief_refusal r (admits_room named fits o) e
 
         -- there is
-        pub judged_fit : {n : ℕ} → length_within room (count * (length t + length l + 8) + size) ≡ At n → accepted (count, n) ≡ in_brief t l (if_writable t l room es)
+        pub judged_fit : {n : ℕ} → length_within room (count * (length t + length l + 8) + size) ≡ Some n → accepted (count, n) ≡ in_brief t l (if_writable t l room es)
         unfolding in_brief ◌>>=◌
         judged_fit {n} w =
             let a = within_at room (count * (length t + length l + 8) + size) n w in
@@ -145,25 +145,30 @@ module _ (t l : Name) (room : ℕ) (es : List Entry) where
 
 -- ---- a file that was scanned: 19
 
-malformed_of : (p : Split) {r : ℕ} → scan_of p ≡ scan.Malformed r → p ≡ malformed r
+malformed_of : (p : Split) {r : ℕ} → scan_of p ≡ Err r → p ≡ malformed r
 malformed_of (malformed q) {r} h = let e : q ≡ r = cc in ap malformed e
 malformed_of (split es) h = let x : ◌≡◌ {A = ℕ} 0 1 = cc in absurd (omega arith)
 
-split_of : (p : Split) {n z : ℕ} {f : End} → scan_of p ≡ scan.Counted n z f → (es : List Entry) × (p ≡ split es)
+split_of : (p : Split) {n z : ℕ} {f : prelude.Option ℕ} → scan_of p ≡ Ok (n, z, f) → (es : List Entry) × (p ≡ split es)
 split_of (malformed q) h = let x : ◌≡◌ {A = ℕ} 0 1 = cc in absurd (omega arith)
 split_of (split es) h = (es, refl)
 
 module _ (bytes : List ℕ) (t l : Name) (room : ℕ) where
-  pub judge_malformed : {p : ℕ} (r : code.Refusal) → scan_of (records bytes) ≡ scan.Malformed p → refusal_of r ≡ refusal_at 19 p → refused (refusal_of r) ≡ in_brief t l (importable bytes t l room)
+  pub judge_malformed : {p : ℕ} (r : code.Refusal) → scan_of (records bytes) ≡ Err p → refusal_of r ≡ refusal_at 19 p → refused (refusal_of r) ≡ in_brief t l (importable bytes t l room)
   unfolding importable well_formed in_brief ◌>>=◌
   judge_malformed r h e = ap refused e ∙ sym (ap (λ (x : Split). in_brief t l (well_formed x >>= if_writable t l room)) (malformed_of (records bytes) h))
 
-  pub judge_counted : {n z : ℕ} {f : End} {x : Result (ℕ × ℕ)} → scan_of (records bytes) ≡ scan.Counted n z f
-      → ((es : List Entry) → scan_of (split es) ≡ scan.Counted n z f → x ≡ in_brief t l (if_writable t l room es)) → x ≡ in_brief t l (importable bytes t l room)
+  pub judge_counted : {n z : ℕ} {f : prelude.Option ℕ} {x : Result (ℕ × ℕ)} → scan_of (records bytes) ≡ Ok (n, z, f)
+      → ((es : List Entry) → scan_of (split es) ≡ Ok (n, z, f) → x ≡ in_brief t l (if_writable t l room es)) → x ≡ in_brief t l (importable bytes t l room)
   unfolding importable well_formed ◌>>=◌
   judge_counted h k =
       let s = split_of (records bytes) h in
       k s.0 (sym (ap scan_of s.1) ∙ h) ∙ sym (ap (λ (x : Split). in_brief t l (well_formed x >>= if_writable t l room)) s.1)
+
+-- an error that is handed on is the same
+pub error_kept : {T E : Type 0} {e : E} (r : prelude.Result T E) → IsErrAnd r (λ y. y ≡ e) → r ≡ Err e
+error_kept (Ok x) h = absurd h
+error_kept (Err y) h = ap Err h
 
 -- ---- what was taken
 
@@ -223,7 +228,7 @@ was_taken bytes t l room es h = go (records bytes) refl h
 
 module _ (bytes : List ℕ) (t l : Name) where
   -- a refusal leaves the buffer as it was
-  pub imports_refused : (before : List ℕ) (r : code.Refusal) → refused (refusal_of r) ≡ in_brief t l (importable bytes t l (length before)) → Imports bytes t l before before (imported.Refused r)
+  pub imports_refused : (before : List ℕ) (r : code.Refusal) → refused (refusal_of r) ≡ in_brief t l (importable bytes t l (length before)) → Imports bytes t l before before (Err r)
   unfolding importing length_only after_import ◌>>=◌
   imports_refused before r h =
       let o = brief_refused t l (importable bytes t l (length before)) h in
@@ -232,7 +237,7 @@ module _ (bytes : List ℕ) (t l : Name) where
 
   -- the lines are written
   pub imports_lines : (before after : List ℕ) {count n m : ℕ} → length before < 2 ^ 63 → accepted (count, n) ≡ in_brief t l (importable bytes t l (length before)) → RowsPlaced bytes count t l before after m
-      → Imports bytes t l before after (imported.Lines n)
+      → Imports bytes t l before after (Ok n)
   unfolding importing length_only after_import ◌>>=◌
   imports_lines before after {count} {n} {m} small h x =
       let o = brief_accepted t l (importable bytes t l (length before)) h in

@@ -2,7 +2,7 @@
 use Prim.Native.Nat.{◌*◌, ◌+◌, ◌-◌, ◌/◌, ◌<◌, ◌≤◌, ℕ}
 use borrow.Author.Tests.{le-leb, leb-true, lt-leb}
 use Rattle.import.specs.Outside.{length_within}
-use Rattle.text.specs.declared.words.End.TheVariants.{At, Nothing}
+use Rattle.std.specs.Prelude.{None, Some}
 use lib.Dec.{leb}
 use mathlib.Core.Bool.{Bool, cond, false, true}
 use mathlib.Core.Path.{◌∙◌, ◌≡◌, ap, sym}
@@ -27,20 +27,20 @@ room_by room count each more p h =
 
 module _ (room count each more : ℕ) where
   -- the bytes more alone are too many
-  pub within_less : room < more → Nothing ≡ length_within room (count * each + more)
+  pub within_less : room < more → None ≡ length_within room (count * each + more)
   unfolding length_within
-  within_less h = ap (λ (b : Bool). cond b (At (count * each + more)) Nothing) (room_short room count each more h)
+  within_less h = ap (λ (b : Bool). cond b (Some (count * each + more)) None) (room_short room count each more h)
 
   module _ (some_bytes : 0 < each) (h : more ≤ room) where
     -- the lines fit, and their length does not wrap
     pub product_small : count ≤ (room - more) / each → count * each + more ≤ room
     product_small k = leb-true (count * each + more) room (sym (room_by room count each more some_bytes h) ∙ le-leb count ((room - more) / each) k)
 
-    pub within_fits : count ≤ (room - more) / each → At (count * each + more) ≡ length_within room (count * each + more)
+    pub within_fits : count ≤ (room - more) / each → Some (count * each + more) ≡ length_within room (count * each + more)
     unfolding length_within
-    within_fits k = ap (λ (b : Bool). cond b (At (count * each + more)) Nothing) (sym (le-leb (count * each + more) room (product_small k)))
+    within_fits k = ap (λ (b : Bool). cond b (Some (count * each + more)) None) (sym (le-leb (count * each + more) room (product_small k)))
 
     -- they don't
-    pub within_not : (room - more) / each < count → Nothing ≡ length_within room (count * each + more)
+    pub within_not : (room - more) / each < count → None ≡ length_within room (count * each + more)
     unfolding length_within
-    within_not k = ap (λ (b : Bool). cond b (At (count * each + more)) Nothing) (sym (lt-leb count ((room - more) / each) k) ∙ room_by room count each more some_bytes h)
+    within_not k = ap (λ (b : Bool). cond b (Some (count * each + more)) None) (sym (lt-leb count ((room - more) / each) k) ∙ room_by room count each more some_bytes h)

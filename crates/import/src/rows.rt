@@ -169,12 +169,10 @@ pub(crate) fn put_rows(out: &mut [u8], s: &[u8], count: usize, table: &[u8], lab
 {
     let mut to = 0;
     let mut at = 0;
-    let mut k = 0;
-    while k < count {
+    for k in 0..count {
         let p = put_row(out, to, s, at, table, label);
         to = p.to;
         at = p.at;
-        k += 1;
     }
     to
 }

@@ -5,10 +5,10 @@
 
 ghost use Rattle.programs.specs.Input.{ReadsWithin};
 
-use import::importing::{Imported, import_rows};
+use import::importing::import_rows;
 use programs::arguments;
 use programs::arguments::{is_given, read_argument};
-use programs::input::{Loaded, read_all};
+use programs::input::read_all;
 use programs::output::write_first;
 use programs::refusals::write_refused;
 use std::rt::Env;
@@ -21,10 +21,10 @@ const FILE_ROOM: usize = 262145;
 
 fn import_into<R: Print + Eprint>(rt: &R, file: &[u8], table: &[u8], label: &[u8], out: &mut [u8]) {
     match import_rows(file, table, label, out) {
-        Imported::Refused(r) => {
+        Err(r) => {
             write_refused(rt, r);
         }
-        Imported::Lines(len) => {
+        Ok(len) => {
             write_first(rt, len, out);
         }
     }
@@ -40,7 +40,7 @@ fn import_named<R: Env + Print + Eprint>(rt: &R, file: &[u8]) {
     import_into(rt, file, &table[..t], &label[..l], &mut out);
 }
 
-fn read_file<R: Input + Eprint>(rt: &R, file: &mut [u8; FILE_ROOM]) -> Loaded
+fn read_file<R: Input + Eprint>(rt: &R, file: &mut [u8; FILE_ROOM]) -> Option<usize>
     ensures { ReadsWithin file.new result }
 {
     read_all(rt, &mut rt.reader(), b"standard input", file)
@@ -48,7 +48,7 @@ fn read_file<R: Input + Eprint>(rt: &R, file: &mut [u8; FILE_ROOM]) -> Loaded
 
 fn import_input<R: Input + Env + Print + Eprint>(rt: &R) {
     let mut file = [0u8; FILE_ROOM];
-    let Loaded::Text(n) = read_file(rt, &mut file) else {
+    let Some(n) = read_file(rt, &mut file) else {
         return;
     };
     if n == FILE_ROOM {

@@ -10,7 +10,8 @@ use Rattle.calendar.proofs.ReadingLaws.{date_at, date_missing, date_nothing}
 use Rattle.calendar.specs.Calendar.{Date, date_rank, day_number, day_of_date, exists, pair_rank}
 use Rattle.calendar.specs.DateText.{date_text, day_rank_of, is_date}
 use Rattle.calendar.specs.Found.{date_read_of, ranked_at}
-use Rattle.calendar.specs.declared.reading.DateRead.TheVariants as date_read
+use Rattle.std.specs.Prelude.{None, Some}
+use Rattle.lists.proofs.PairLaws.{pair_same}
 use Rattle.lists.specs.Lists.{holds_of, there}
 use Rattle.query.specs.Query.{is_missing_date}
 use Rattle.text.specs.Reader.{Left, from}
@@ -23,21 +24,21 @@ module _ (d : Date) (a : ℕ) where
   unfolding date_rank day_of_date
   by_existing b e = ap (λ (t : Bool). ranked_at a (map (pair_rank d.year) (cond t (some (day_number d)) none))) e
 
-  ranked_exists : (e r : ℕ) → ranked_at a (date_rank d) ≡ date_read.At e r → exists d ≡ true
+  ranked_exists : (e r : ℕ) → ranked_at a (date_rank d) ≡ Some (e, Some r) → exists d ≡ true
   ranked_exists e r h = go (exists d) refl
     where
       go : (b : Bool) → exists d ≡ b → exists d ≡ true
       go true k = k
-      go false k = absurd (let f = sym (by_existing false k) ∙ h in let z : ◌≡◌ {A = ℕ} 0 1 = cc in omega (arith, z))
+      go false k = absurd (let f = (pair_same (sym (by_existing false k) ∙ h)).1 in let z : ◌≡◌ {A = ℕ} 0 1 = cc in omega (arith, z))
 
-  unranked_missing : (e : ℕ) → ranked_at a (date_rank d) ≡ date_read.NoSuchDate e → exists d ≡ false
+  unranked_missing : (e : ℕ) → ranked_at a (date_rank d) ≡ Some (e, None) → exists d ≡ false
   unranked_missing e h = go (exists d) refl
     where
       go : (b : Bool) → exists d ≡ b → exists d ≡ false
-      go true k = absurd (let f = sym (by_existing true k) ∙ h in let z : ◌≡◌ {A = ℕ} 0 1 = cc in omega (arith, z))
+      go true k = absurd (let f = (pair_same (sym (by_existing true k) ∙ h)).1 in let z : ◌≡◌ {A = ℕ} 0 1 = cc in omega (arith, z))
       go false k = k
 
-  ranked_not_nothing : {A : Type 0} → ranked_at a (date_rank d) ≡ date_read.Nothing → A
+  ranked_not_nothing : {A : Type 0} → ranked_at a (date_rank d) ≡ None → A
   ranked_not_nothing h = go (exists d) refl
     where
       go : {A : Type 0} (b : Bool) → exists d ≡ b → A
@@ -60,11 +61,11 @@ module _ (s : List ℕ) (at : ℕ) where
       go (some x) = unfold holds_of in refl
 
   -- a date that exists
-  module _ (e r : ℕ) (h : date_read_of (date_text (from s at)) ≡ date_read.At e r) where
+  module _ (e r : ℕ) (h : date_read_of (date_text (from s at)) ≡ Some (e, Some r)) where
     pub ranked_date : is_date (written_at s at) ≡ true
     ranked_date = is_date_lem s at ∙ go (date_text (from s at)) h
       where
-        go : (o : Option (Date × Left)) → date_read_of o ≡ date_read.At e r → there o ≡ true
+        go : (o : Option (Date × Left)) → date_read_of o ≡ Some (e, Some r) → there o ≡ true
         go none k = absurd (let z : ◌≡◌ {A = ℕ} 0 1 = cc in omega (arith, z))
         go (some x) k = unfold there in refl
 
@@ -74,16 +75,16 @@ module _ (s : List ℕ) (at : ℕ) where
     pub ranked_there : is_missing_date (written_at s at) ≡ false
     ranked_there = missing_read_lem ∙ go (date_text (from s at)) h
       where
-        go : (o : Option (Date × Left)) → date_read_of o ≡ date_read.At e r → missing_read o ≡ false
+        go : (o : Option (Date × Left)) → date_read_of o ≡ Some (e, Some r) → missing_read o ≡ false
         go none k = absurd (let z : ◌≡◌ {A = ℕ} 0 1 = cc in omega (arith, z))
         go (some x) k = unfold holds_of in ap not (ranked_exists x.0 x.1.at e r k)
 
   -- a date that does not
-  module _ (e : ℕ) (h : date_read_of (date_text (from s at)) ≡ date_read.NoSuchDate e) where
+  module _ (e : ℕ) (h : date_read_of (date_text (from s at)) ≡ Some (e, None)) where
     pub missing_date_lem : is_date (written_at s at) ≡ true
     missing_date_lem = is_date_lem s at ∙ go (date_text (from s at)) h
       where
-        go : (o : Option (Date × Left)) → date_read_of o ≡ date_read.NoSuchDate e → there o ≡ true
+        go : (o : Option (Date × Left)) → date_read_of o ≡ Some (e, None) → there o ≡ true
         go none k = absurd (let z : ◌≡◌ {A = ℕ} 0 1 = cc in omega (arith, z))
         go (some x) k = unfold there in refl
 
@@ -93,13 +94,13 @@ module _ (s : List ℕ) (at : ℕ) where
     pub missing_there : is_missing_date (written_at s at) ≡ true
     missing_there = missing_read_lem ∙ go (date_text (from s at)) h
       where
-        go : (o : Option (Date × Left)) → date_read_of o ≡ date_read.NoSuchDate e → missing_read o ≡ true
+        go : (o : Option (Date × Left)) → date_read_of o ≡ Some (e, None) → missing_read o ≡ true
         go none k = absurd (let z : ◌≡◌ {A = ℕ} 0 1 = cc in omega (arith, z))
         go (some x) k = unfold holds_of in ap not (unranked_missing x.0 x.1.at e k)
 
   -- no date
-  module _ (h : date_read_of (date_text (from s at)) ≡ date_read.Nothing) where
-    unread : (o : Option (Date × Left)) → date_read_of o ≡ date_read.Nothing → o ≡ none
+  module _ (h : date_read_of (date_text (from s at)) ≡ None) where
+    unread : (o : Option (Date × Left)) → date_read_of o ≡ None → o ≡ none
     unread none k = refl
     unread (some x) k = ranked_not_nothing x.0 x.1.at k
 

@@ -20,7 +20,7 @@ use Rattle.condition.specs.Cond.{Cond, Conds, both, comparisons, comparisons_in,
 use Rattle.condition.specs.CondForm.{Compared, mistyped}
 use Rattle.condition.specs.Kinds.{Kind}
 use Rattle.condition.specs.Ranges.{Mode, meets_in, other, passes_in}
-use Rattle.condition.specs.declared.conditions.Read.{Read}
+use Rattle.std.specs.Prelude as prelude
 use Rattle.lists.proofs.ListLaws.{map_map}
 use Rattle.program.proofs.ProgramLaws.{Agree, program_two}
 use Rattle.program.specs.Program.{ProgrammedBy, comes_to}
@@ -180,7 +180,7 @@ module _ (ts s : List ℕ) (g : Comparisons) (ops cs : List ℕ) (number : Compa
           ∙ ap (λ (bs : List Bool). get_or bs j false) (sym (map_map (holds_of_it odd) here (take g.tests ops)))
 
       -- the condition at a place of the query
-      module _ (at n : ℕ) (e : g.test ≡ tests.When at n) (result : Read) (p : ProgrammedBy (naming_by g.joined) s at result trues falses flips) (least : 0 < g.tests) where
+      module _ (at n : ℕ) (e : g.test ≡ tests.When at n) (result : prelude.Option (ℕ × ℕ)) (p : ProgrammedBy (naming_by g.joined) s at result trues falses flips) (least : 0 < g.tests) where
         -- what was read there
         abbrev there_read : Option (Cond Compared × Left)
         there_read = condition_by (naming_by g.joined) (from s at)

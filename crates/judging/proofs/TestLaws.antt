@@ -20,8 +20,8 @@ use Rattle.condition.specs.Cond.{Cond}
 use Rattle.condition.specs.CondForm.{Naming}
 use Rattle.condition.specs.Kinds.{Kind, Op}
 use Rattle.condition.specs.Ranges.{Mode, ends_of, meets_in, other, range_meets, values_meet_in}
-use Rattle.condition.specs.declared.conditions.Read.{Read}
-use Rattle.condition.specs.declared.conditions.Read.TheVariants as read
+use Rattle.std.specs.Prelude as prelude
+use Rattle.std.specs.Prelude.{None}
 use Rattle.workspace.proofs.CellLaws.{kind_dates}
 use Rattle.workspace.specs.Cells.{kind_of_cell}
 use Rattle.lists.proofs.Tests.{and_left, both, never, true_not_false}
@@ -356,9 +356,9 @@ module _ (vs : List Value) (s rs : List ℕ) (m : ℕ) (mode : Mode) (o : Option
 -- ---- the program
 
 pub no_program : (way : Naming) (s : List ℕ) (test : Test) → test ≡ tests.Always → (ts fs : List ℕ) (os : List Bool) → ProgramOf way s test ts fs os
-no_program way s test e ts fs os = record { result = read.Refused; is = λ at n w. let z : ◌≡◌ {A = ℕ} 0 1 = cc in absurd (omega (arith, z)) }
+no_program way s test e ts fs os = record { result = None; is = λ at n w. let z : ◌≡◌ {A = ℕ} 0 1 = cc in absurd (omega (arith, z)) }
 
-pub program_when : (way : Naming) (s : List ℕ) (test : Test) (at n : ℕ) → test ≡ tests.When at n → (r : Read) (ts fs : List ℕ) (os : List Bool) → ProgrammedBy way s at r ts fs os → ProgramOf way s test ts fs os
+pub program_when : (way : Naming) (s : List ℕ) (test : Test) (at n : ℕ) → test ≡ tests.When at n → (r : prelude.Option (ℕ × ℕ)) (ts fs : List ℕ) (os : List Bool) → ProgrammedBy way s at r ts fs os → ProgramOf way s test ts fs os
 program_when way s test at n e r ts fs os p = record { result = r; is = λ i k w. subst (λ (z : ℕ). ProgrammedBy way s z r ts fs os) (place_same at i n k (sym e ∙ w)) p }
   where
     place_same : (a b k l : ℕ) → tests.When a k ≡ tests.When b l → a ≡ b

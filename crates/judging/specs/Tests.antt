@@ -11,7 +11,7 @@ use Rattle.condition.specs.Cond.{Cond}
 use Rattle.condition.specs.CondForm.{Naming}
 use Rattle.condition.specs.Kinds.{Kind, dates, has_kind, names, numbers}
 use Rattle.condition.specs.Ranges.{Mode, meets_in, other}
-use Rattle.condition.specs.declared.conditions.Read.{Read}
+use Rattle.std.specs.Prelude as prelude
 use Rattle.workspace.specs.Cells.{kind_of_cell}
 use Rattle.relations.specs.Tables.{column_kind_in}
 use Rattle.lists.specs.Lists.{or_zero}
@@ -95,7 +95,7 @@ test_holds vs s x = meets_in (mode_is x) (comparison_by s x) (get_or vs x.column
 
 -- the three lists are the program of the condition, where there is one; its comparisons name columns in this way
 pub record ProgramOf (way : Naming) (s : List ℕ) (test : Test) (trues falses : List ℕ) (flips : List Bool) : Type 0 where
-  pub result : Read
+  pub result : prelude.Option (ℕ × ℕ)
   pub is : (at n : ℕ) → test ≡ tests.When at n → ProgrammedBy way s at result trues falses flips
 
 -- what was read of the m comparisons of the condition o: they go on as its program says, and running that by which of them are sure

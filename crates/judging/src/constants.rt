@@ -4,10 +4,10 @@ ghost use Rattle.condition.specs.Answers.{kind_of};
 ghost use Rattle.judging.specs.Constants.{ConstantOf};
 ghost use Rattle.text.specs.Words.{written_at};
 
-use calendar::reading::{DateRead, read_date};
+use calendar::reading::read_date;
 use condition::kinds::Kind;
-use text::numbers::{Amount, rank_at};
-use text::words::{End, name_end};
+use text::numbers::rank_at;
+use text::words::name_end;
 
 // A constant as it is read: 1 if it is of the type and else 0, and its rank, if it is a number or a date.
 #[derive(Clone, Copy)]
@@ -28,33 +28,24 @@ pub(crate) fn read_constant(query: &[u8], at: usize, kind: Kind) -> Constant
     ensures { ConstantOf (kind_of kind) (written_at query.now at) result }
 {
     match kind {
-        Kind::Num => {
-            let n = rank_at(query, at);
-            match n {
-                Amount::Is(m) => Constant {
-                    fits: 1,
-                    rank: rank_number(m),
-                },
-                Amount::Nothing => Constant { fits: 0, rank: 0 },
-            }
-        }
-        Kind::Name => {
-            let n = name_end(query, at);
-            match n {
-                End::At(_) => Constant { fits: 1, rank: 0 },
-                End::Nothing => Constant { fits: 0, rank: 0 },
-            }
-        }
-        Kind::Date => {
-            let d = read_date(query, at);
-            match d {
-                DateRead::At(_, r) => Constant {
-                    fits: 1,
-                    rank: rank_number(r),
-                },
-                DateRead::NoSuchDate(_) => Constant { fits: 1, rank: 0 },
-                DateRead::Nothing => Constant { fits: 0, rank: 0 },
-            }
-        }
+        Kind::Num => match rank_at(query, at) {
+            Some(n) => Constant {
+                fits: 1,
+                rank: rank_number(n),
+            },
+            None => Constant { fits: 0, rank: 0 },
+        },
+        Kind::Name => match name_end(query, at) {
+            Some(_) => Constant { fits: 1, rank: 0 },
+            None => Constant { fits: 0, rank: 0 },
+        },
+        Kind::Date => match read_date(query, at) {
+            Some((_, Some(r))) => Constant {
+                fits: 1,
+                rank: rank_number(r),
+            },
+            Some((_, None)) => Constant { fits: 1, rank: 0 },
+            None => Constant { fits: 0, rank: 0 },
+        },
     }
 }

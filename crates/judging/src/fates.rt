@@ -45,12 +45,10 @@ fn any_closed(
 ) -> bool
     ensures { r < 1024 → label_count_in rows.now r ≤ label_room → result ≡ any_of (λ c. not (open_under said.now m (labels_in rows.now r) c)) columns.now }
 {
-    let mut i = 0;
-    while i < columns.len() {
+    for i in 0..columns.len() {
         if !cell_open(rows, said, m, r, columns[i]) {
             return true;
         }
-        i += 1;
     }
     false
 }
@@ -201,12 +199,10 @@ fn judge_each(
         withheld: 0,
         unmatched: 0,
     };
-    let mut r = 0;
-    while r < count {
+    for r in 0..count {
         let f = fate_of(text, rows, r, said, query, s, first, scheme, columns, tests);
         marks[r] = is_passed(f);
         x = count_row(x, f);
-        r += 1;
     }
     x
 }

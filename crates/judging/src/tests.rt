@@ -214,8 +214,7 @@ fn store_tests(
     let m = g.tests;
     let behind = g.behind;
     let certain = g.certain;
-    let mut j = 0;
-    while j < m {
+    for j in 0..m {
         let x = read_test(
             tables,
             g,
@@ -227,7 +226,6 @@ fn store_tests(
             asked_certain(certain, flips[j]),
         );
         store_test(tests, j, x);
-        j += 1;
     }
 }
 

@@ -6,68 +6,62 @@ ghost use Rattle.text.specs.CodeEnds.{offending_value};
 ghost use Rattle.text.specs.Words.{written_at};
 
 use crate::tests::{TEST_CELLS, TESTS, TestRead, test_at};
-use calendar::reading::{DateRead, read_date};
+use calendar::reading::read_date;
 use condition::kinds::{op_by, takes_op};
-use text::offending::Offending;
 use workspace::store::kind_by;
 
 // The operator of a comparison, or else its value, where it is of the wrong type.
-fn wrong_test(x: TestRead) -> Offending
+fn wrong_test(x: TestRead) -> Option<usize>
     ensures { (s : List ℕ) → offending_value s result ≡ wrong_by s x }
 {
     if !takes_op(kind_by(x.kind), op_by(x.operator)) {
-        return Offending::At(x.sign);
+        return Some(x.sign);
     }
     if x.fits == 1 {
-        return Offending::Nothing;
+        return None;
     }
-    Offending::At(x.place)
+    Some(x.place)
 }
 
 // The first operator or value of the wrong type among m comparisons.
-pub fn mistyped_test(tests: &[usize; TEST_CELLS], m: usize) -> Offending
+pub fn mistyped_test(tests: &[usize; TEST_CELLS], m: usize) -> Option<usize>
     ensures { (s : List ℕ) → m ≤ 64 → offending_value s result ≡ first_wrong s tests.now m }
 {
-    let mut j = 0;
-    while j < m {
+    for j in 0..m {
         if j >= TESTS {
-            return Offending::Nothing;
+            return None;
         }
         let w = wrong_test(test_at(tests, j));
-        if let Offending::At(p) = w {
-            return Offending::At(p);
+        if let Some(p) = w {
+            return Some(p);
         }
-        j += 1;
     }
-    Offending::Nothing
+    None
 }
 
 // Whether a date is written at a place of the query, and there is no such date.
 fn is_missing_date(query: &[u8], at: usize) -> bool
     ensures { result ≡ is_missing_date (written_at query.now at) }
 {
-    let d = read_date(query, at);
-    match d {
-        DateRead::At(_, _) => false,
-        DateRead::NoSuchDate(_) => true,
-        DateRead::Nothing => false,
+    match read_date(query, at) {
+        Some((_, Some(_))) => false,
+        Some((_, None)) => true,
+        None => false,
     }
 }
 
 // The first date that does not exist among m comparisons.
-pub fn missing_date(query: &[u8], tests: &[usize; TEST_CELLS], m: usize) -> Offending
+pub fn missing_date(query: &[u8], tests: &[usize; TEST_CELLS], m: usize) -> Option<usize>
     ensures { m ≤ 64 → offending_value query.now result ≡ first_missing query.now tests.now m }
 {
-    let mut j = 0;
-    while j < m {
+    for j in 0..m {
         if j >= TESTS {
-            return Offending::Nothing;
+            return None;
         }
         let x = test_at(tests, j);
         if is_missing_date(query, x.place) {
-            return Offending::At(x.place);
+            return Some(x.place);
         }
-        j += 1;
     }
-    Offending::Nothing
+    None
 }

@@ -23,11 +23,15 @@ use Rattle.text.proofs.RefusalLaws.{bind_cong, then_cong}
 use Rattle.text.specs.Reasons.{refusal_of}
 use Rattle.text.specs.Refusal.{Refusal, Result, ◌>>=◌, ◌>>◌, accepted, need, pointing_all, pointing_nowhere, query, refuse_if, refused}
 use Rattle.index.specs.declared.counts.Counts.{Counts}
-use Rattle.loaded.specs.declared.measures.Measured.TheVariants as measured
-use Rattle.stages.specs.declared.answered.Answered as code
-use Rattle.stages.specs.declared.answered.Answered.TheVariants as answered
+use Rattle.std.specs.Prelude.{Err, IsErrAnd, Ok}
 use Rattle.stages.specs.declared.answered.Figures as figures
 use Rattle.text.specs.declared.refusals.Refusal as refusals
+use Rattle.std.specs.Prelude as prelude
+
+-- what holds of a refusal holds of what hands it on
+pub handed_on : {T E : Type 0} {e : E} (P : prelude.Result T E → Type 0) {r : prelude.Result T E} → IsErrAnd r (λ y. y ≡ e) → P (Err e) → P r
+handed_on P {r = Ok x} h p = absurd h
+handed_on P {r = Err y} h p = subst (λ z. P (Err z)) (sym h) p
 
 module _ (doc text : List ℕ) (c : Clock) where
   pub ask_refused : {r : Refusal} → check doc ≡ refused r → ask_unbounded doc text c ≡ refused r
@@ -41,7 +45,7 @@ module _ (doc text : List ℕ) (c : Clock) where
       bind_cong (need (query_of text) (pointing_all 11 query text)) _ _ (λ q _. form_tails A.doc c q)))
 
 -- asking over arrays that hold this very text
-pub held_gives : {text ps rs bs us cs gs ms ts ws cells : List ℕ} {k : Counts} {before after' : List ℕ} {r : code.Answered} (c : Clock) (asked : List ℕ) → Holds text ps rs bs us cs gs ms ts ws cells → k ≡ counts_in cells
+pub held_gives : {text ps rs bs us cs gs ms ts ws cells : List ℕ} {k : Counts} {before after' : List ℕ} {r : prelude.Result figures.Figures refusals.Refusal} (c : Clock) (asked : List ℕ) → Holds text ps rs bs us cs gs ms ts ws cells → k ≡ counts_in cells
     → ((d : Doc) → Standing text ps rs bs us cs gs ms ts ws k d → Gives (if_timed d c asked) before after' r) → Gives (ask_unbounded text asked c) before after' r
 held_gives {text} {ps} {rs} {bs} {us} {cs} {gs} {ms} {ts} {ws} c asked h e f =
     gives_same (ask_tails text asked c h.is) (f h.what.doc (subst (λ k. Standing text ps rs bs us cs gs ms ts ws k h.what.doc) (sym e) h.standing))
@@ -70,7 +74,7 @@ after_fits (accepted a) before = go (ltb (length before) (length a.answer.bytes)
     go false e = rw e
 
 -- the answer of ask: that of asking without bounds, or 18
-pub gives_asks : {doc text : List ℕ} {c : Clock} {before after' : List ℕ} {r x : code.Answered} → Gives (ask_unbounded doc text c) before after' r
+pub gives_asks : {doc text : List ℕ} {c : Clock} {before after' : List ℕ} {r x : prelude.Result figures.Figures refusals.Refusal} → Gives (ask_unbounded doc text c) before after' r
     → answered_as x ≡ figures_fit (length before) (answered_as r) → Asks doc text c before after' x
 unfolding ask
 gives_asks {doc} {text} {c} {before} h e = record {
@@ -85,30 +89,30 @@ unfolding in_figures ◌>>=◌
 length_bind (refused r) f = refl
 length_bind (accepted a) f = refl
 
-module _ (doc text : List ℕ) (c : Clock) {before after' : List ℕ} {r : code.Answered} (h : Gives (ask_unbounded doc text c) before after' r) where
+module _ (doc text : List ℕ) (c : Clock) {before after' : List ℕ} {r : prelude.Result figures.Figures refusals.Refusal} (h : Gives (ask_unbounded doc text c) before after' r) where
   measures : measure doc text c ≡ (answered_as r >>= (λ (x : Figures). accepted x.len))
   unfolding measure
   measures = sym (length_bind (ask_unbounded doc text c) accepted) ∙ ap (λ o. o >>= (λ (x : Figures). accepted x.len)) (sym h.is)
 
-  pub measures_refused : {x : refusals.Refusal} → r ≡ answered.Refused x → Measures doc text c (measured.Refused x)
+  pub measures_refused : {x : refusals.Refusal} → r ≡ Err x → Measures doc text c (Err x)
   unfolding measured_as answered_as ◌>>=◌
   measures_refused e = record { is = sym (measures ∙ ap (λ y. answered_as y >>= (λ (z : Figures). accepted z.len)) e) }
 
-  pub measures_length : {f : figures.Figures} → r ≡ answered.Given f → Measures doc text c (measured.Length f.len)
+  pub measures_length : {f : figures.Figures} → r ≡ Ok f → Measures doc text c (Ok f.len)
   unfolding measured_as answered_as figures_of ◌>>=◌
   measures_length e = record { is = sym (measures ∙ ap (λ y. answered_as y >>= (λ (z : Figures). accepted z.len)) e) }
 
 -- ---- the answer, or 18
 
-module _ (room : ℕ) {a : code.Answered} where
-  pub room_refused : {r : refusals.Refusal} → a ≡ answered.Refused r → answered_as a ≡ figures_fit room (answered_as a)
+module _ (room : ℕ) {a : prelude.Result figures.Figures refusals.Refusal} where
+  pub room_refused : {r : refusals.Refusal} → a ≡ Err r → answered_as a ≡ figures_fit room (answered_as a)
   unfolding answered_as figures_fit ◌>>=◌
   room_refused e = rw e
 
-  pub room_short : {f : figures.Figures} (r : refusals.Refusal) → a ≡ answered.Given f → room < f.len → refusal_of r ≡ pointing_nowhere 18 query → answered_as (answered.Refused r) ≡ figures_fit room (answered_as a)
+  pub room_short : {f : figures.Figures} (r : refusals.Refusal) → a ≡ Ok f → room < f.len → refusal_of r ≡ pointing_nowhere 18 query → answered_as (Err r) ≡ figures_fit room (answered_as a)
   unfolding answered_as figures_of figures_fit refuse_if ◌>>=◌ ◌>>◌
   room_short {f} r e l h = rw (e, lt-ltb room f.len l) (ap refused h)
 
-  pub room_enough : {f : figures.Figures} → a ≡ answered.Given f → f.len ≤ room → answered_as (answered.Given f) ≡ figures_fit room (answered_as a)
+  pub room_enough : {f : figures.Figures} → a ≡ Ok f → f.len ≤ room → answered_as (Ok f) ≡ figures_fit room (answered_as a)
   unfolding answered_as figures_of figures_fit refuse_if ◌>>=◌ ◌>>◌
   room_enough {f} e l = rw (e, le-ltb room f.len l)

@@ -7,7 +7,8 @@ use crate::cells::{CELLS, counts_of};
 use crate::room::within_room;
 use query::clock::Clock;
 use stages::accepted::ask_accepted;
-use stages::answered::Answered;
+use stages::answered::Figures;
+use text::refusals::Refusal;
 use workspace::layout::{
     ATTRIBUTE_CELLS, COND_ROLE_CELLS, GRANT_CELLS, PURPOSE_CELLS, ROLE_CELLS, ROW_CELLS, SET_WORDS,
     TABLE_CELLS, USER_CELLS,
@@ -29,7 +30,7 @@ pub(crate) fn ask_unbounded(
     clock: Clock,
     query: &[u8],
     out: &mut [u8],
-) -> Answered
+) -> Result<Figures, Refusal>
     ensures { AskUnboundedPromise text.now purposes.now roles.now attributes.now users.now conds.now grants.now sets.now tables.now rows.now cells.now (clock_of clock) query.now out.old out.new result }
 {
     let c = counts_of(cells);
@@ -55,7 +56,7 @@ pub fn ask_loaded(
     clock: Clock,
     query: &[u8],
     out: &mut [u8],
-) -> Answered
+) -> Result<Figures, Refusal>
     ensures { AskLoadedPromise text.now purposes.now roles.now attributes.now users.now conds.now grants.now sets.now tables.now rows.now cells.now (clock_of clock) query.now out.old out.new result }
 {
     let room = out.len();

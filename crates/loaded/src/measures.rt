@@ -5,19 +5,11 @@ ghost use Rattle.query.specs.HostClock.{clock_of};
 use crate::asks::ask_unbounded;
 use crate::cells::CELLS;
 use query::clock::Clock;
-use stages::answered::Answered;
 use text::refusals::Refusal;
 use workspace::layout::{
     ATTRIBUTE_CELLS, COND_ROLE_CELLS, GRANT_CELLS, PURPOSE_CELLS, ROLE_CELLS, ROW_CELLS, SET_WORDS,
     TABLE_CELLS, USER_CELLS,
 };
-
-// The refusal that no buffer would change, or the length of the answer.
-#[derive(Clone, Copy)]
-pub enum Measured {
-    Refused(Refusal),
-    Length(usize),
-}
 
 // Measures the answer to the query at the clock's time. Nothing of the answer is held.
 pub fn measure_loaded(
@@ -34,11 +26,11 @@ pub fn measure_loaded(
     cells: &[usize; CELLS],
     clock: Clock,
     query: &[u8],
-) -> Measured
+) -> Result<usize, Refusal>
     ensures { MeasureLoadedPromise text.now purposes.now roles.now attributes.now users.now conds.now grants.now sets.now tables.now rows.now cells.now (clock_of clock) query.now result }
 {
     let mut nothing = [0u8; 1];
-    let a = ask_unbounded(
+    let f = ask_unbounded(
         text,
         purposes,
         roles,
@@ -53,9 +45,6 @@ pub fn measure_loaded(
         clock,
         query,
         &mut nothing[..0],
-    );
-    match a {
-        Answered::Refused(r) => Measured::Refused(r),
-        Answered::Given(f) => Measured::Length(f.len),
-    }
+    )?;
+    Ok(f.len)
 }

@@ -22,9 +22,7 @@ use form::walks::{first_in, pair_end, second_in};
 use principals::attributes::{attribute_kind, attribute_role, find_attribute};
 use principals::names::role_below;
 use text::bytes::byte_at;
-use text::offending::Offending;
 use text::words::same_name;
-use workspace::found::Found;
 use workspace::layout::{ATTRIBUTE_CELLS, ATTRIBUTES, MET_WORDS, ROLE_CELLS};
 use workspace::met::{LONG_LINE, is_new};
 
@@ -38,11 +36,7 @@ fn attribute_known(
 ) -> bool
     ensures { (d : Policy) → Attributes text.now attributes.now k d.attributes → result ≡ there (attribute_of d (word_of line.now at)) }
 {
-    let found = find_attribute(text, attributes, k, line, at);
-    match found {
-        Found::At(_) => true,
-        Found::Nothing => false,
-    }
+    find_attribute(text, attributes, k, line, at).is_some()
 }
 
 // The first attribute given that is unknown.
@@ -52,18 +46,18 @@ pub(crate) fn first_unknown_given(
     k: usize,
     line: &[u8],
     gs: usize,
-) -> Offending
+) -> Option<usize>
     ensures { ((d : Policy) → Attributes text.now attributes.now k d.attributes → offending_of line.now result ≡ missing (λ w. there (attribute_of d w)) (map (λ g. g.attribute) (givens_at line.now gs))) × Near line.now result }
 {
     let mut j = gs;
     while byte_at(line, j) == b' ' {
         let a = first_in(line, j + 1);
         if !attribute_known(text, attributes, k, line, a) {
-            return Offending::At(a);
+            return Some(a);
         }
         j = pair_end(line, j + 1);
     }
-    Offending::Nothing
+    None
 }
 
 // Whether the name at w is among the attributes of the first n values.
@@ -71,8 +65,7 @@ fn given_before(line: &[u8], gs: usize, n: usize, w: usize) -> bool
     ensures { result ≡ any_of (λ v. is_called (word_of line.now w) v.bytes) (take n (map (λ g. g.attribute) (givens_at line.now gs))) }
 {
     let mut j = gs;
-    let mut i = 0;
-    while i < n {
+    for i in 0..n {
         if byte_at(line, j) != b' ' {
             return false;
         }
@@ -81,7 +74,6 @@ fn given_before(line: &[u8], gs: usize, n: usize, w: usize) -> bool
             return true;
         }
         j = pair_end(line, j + 1);
-        i += 1;
     }
     false
 }
@@ -143,8 +135,8 @@ fn attribute_of_role(
 {
     let at = attribute_role(attributes, k, n);
     match at {
-        Found::At(above) => role_below(roles, rcount, role, above),
-        Found::Nothing => false,
+        Some(above) => role_below(roles, rcount, role, above),
+        None => false,
     }
 }
 
@@ -163,8 +155,8 @@ fn names_attribute_of(
 {
     let found = find_attribute(text, attributes, k, line, at);
     match found {
-        Found::At(n) => attribute_of_role(roles, rcount, attributes, k, role, n),
-        Found::Nothing => false,
+        Some(n) => attribute_of_role(roles, rcount, attributes, k, role, n),
+        None => false,
     }
 }
 
@@ -206,12 +198,10 @@ fn role_attributes(
         return 0;
     }
     let mut n = 0;
-    let mut i = 0;
-    while i < k {
+    for i in 0..k {
         if attribute_of_role(roles, rcount, attributes, k, role, 3 + i) {
             n += 1;
         }
-        i += 1;
     }
     n
 }
@@ -253,8 +243,8 @@ fn value_fits(
 {
     let found = find_attribute(text, attributes, k, line, at);
     match found {
-        Found::At(n) => has_kind(line, v, attribute_kind(attributes, k, n)),
-        Found::Nothing => has_kind(line, v, Kind::Num),
+        Some(n) => has_kind(line, v, attribute_kind(attributes, k, n)),
+        None => has_kind(line, v, Kind::Num),
     }
 }
 
@@ -265,7 +255,7 @@ pub(crate) fn first_mistyped_given(
     k: usize,
     line: &[u8],
     gs: usize,
-) -> Offending
+) -> Option<usize>
     ensures { ((d : Policy) → Attributes text.now attributes.now k d.attributes → offending_of line.now result ≡ leftmost (map (λ g. unless (has_kind (attribute_kind d g.attribute) g.value.bytes) g.value) (givens_at line.now gs))) × Near line.now result }
 {
     let mut j = gs;
@@ -273,9 +263,9 @@ pub(crate) fn first_mistyped_given(
         let a = first_in(line, j + 1);
         let v = second_in(line, j + 1);
         if !value_fits(text, attributes, k, line, a, v) {
-            return Offending::At(v);
+            return Some(v);
         }
         j = pair_end(line, j + 1);
     }
-    Offending::Nothing
+    None
 }

@@ -3,9 +3,8 @@ ghost use Rattle.members.specs.Promises.{GrantFaultPromise};
 
 use principals::conds::find_cond_role;
 use principals::names::find_purpose;
-use stepping::fault::{Fault, Verdict};
+use stepping::fault::Fault;
 use text::refusals::Reason;
-use workspace::found::Found;
 use workspace::layout::{COND_ROLE_CELLS, GRANTS, PURPOSE_CELLS};
 
 // The purpose whose name stands at p of the line, granted to the conditional role whose name stands at c, behind k grants.
@@ -19,17 +18,17 @@ pub fn grant_fault(
     line: &[u8],
     p: usize,
     c: usize,
-) -> Verdict
+) -> Result<(), Fault>
     ensures { GrantFaultPromise text.now purposes.now purposes_count conds.now conds_count k line.now p c result }
 {
     if GRANTS <= k {
-        return Verdict::Faulty(Fault::Whole(Reason::OverBound));
+        return Err(Fault::Whole(Reason::OverBound));
     }
-    if let Found::Nothing = find_purpose(text, purposes, purposes_count, line, p) {
-        return Verdict::Faulty(Fault::Item(Reason::NameUnknown, p));
+    if find_purpose(text, purposes, purposes_count, line, p).is_none() {
+        return Err(Fault::Item(Reason::NameUnknown, p));
     }
-    if let Found::Nothing = find_cond_role(text, conds, conds_count, line, c) {
-        return Verdict::Faulty(Fault::Item(Reason::NameUnknown, c));
+    if find_cond_role(text, conds, conds_count, line, c).is_none() {
+        return Err(Fault::Item(Reason::NameUnknown, c));
     }
-    Verdict::Fine
+    Ok(())
 }

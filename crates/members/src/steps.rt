@@ -6,8 +6,7 @@ use crate::grant_storing::store_grant;
 use crate::user_faults::user_fault;
 use crate::user_storing::store_user;
 use index::counts::Counts;
-use stepping::fault::Verdict;
-use stepping::step::Step;
+use stepping::fault::Fault;
 use workspace::layout::{
     ATTRIBUTE_CELLS, COND_ROLE_CELLS, GRANT_CELLS, PURPOSE_CELLS, ROLE_CELLS, USER_CELLS,
 };
@@ -24,11 +23,11 @@ pub fn step_user(
     u: usize,
     r: usize,
     gs: usize,
-) -> Step
+) -> Result<Counts, Fault>
     ensures { StepUserPromise text.now at line.now roles.now attributes.now users.old users.new c u r gs result }
 {
     let k = c.users;
-    let f = user_fault(
+    user_fault(
         text,
         roles,
         c.roles,
@@ -40,14 +39,11 @@ pub fn step_user(
         u,
         r,
         gs,
-    );
-    if let Verdict::Faulty(wrong) = f {
-        return Step::Fails(wrong);
-    }
+    )?;
     store_user(text, roles, c.roles, users, k, at, line, u, r, gs);
     let mut next = c;
     next.users = k + 1;
-    Step::Goes(next)
+    Ok(next)
 }
 
 // A grant of the purpose at p to the conditional role at h.
@@ -61,18 +57,15 @@ pub fn step_grant(
     c: Counts,
     p: usize,
     h: usize,
-) -> Step
+) -> Result<Counts, Fault>
     ensures { StepGrantPromise text.now at line.now purposes.now conds.now grants.old grants.new c p h result }
 {
     let k = c.grants;
-    let f = grant_fault(text, purposes, c.purposes, conds, c.conds, k, line, p, h);
-    if let Verdict::Faulty(wrong) = f {
-        return Step::Fails(wrong);
-    }
+    grant_fault(text, purposes, c.purposes, conds, c.conds, k, line, p, h)?;
     store_grant(
         text, purposes, c.purposes, conds, c.conds, grants, k, line, p, h,
     );
     let mut next = c;
     next.grants = k + 1;
-    Step::Goes(next)
+    Ok(next)
 }

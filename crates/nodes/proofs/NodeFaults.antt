@@ -29,11 +29,10 @@ use Rattle.text.proofs.OffendingLaws.{missing_here, missing_next, missing_nil}
 use Rattle.text.specs.Offending.{missing, offending_if}
 use Rattle.text.specs.Words.{Word, is_called, word_of}
 use Rattle.stepping.specs.declared.fault.Fault.TheVariants.{Item, Whole}
-use Rattle.stepping.specs.declared.fault.Verdict.{Verdict}
-use Rattle.stepping.specs.declared.fault.Verdict.TheVariants.{Faulty, Fine}
-use Rattle.workspace.specs.declared.found.Found.{Found}
-use Rattle.workspace.specs.declared.found.Found.TheVariants.{At, Nothing}
+use Rattle.std.specs.Prelude as prelude
+use Rattle.std.specs.Prelude.{None, Some, Err, Ok, Result}
 use Rattle.text.specs.declared.refusals.Reason.TheVariants.{NameTaken, NameUnknown, OverBound, SecondRoot}
+use Rattle.stepping.specs.declared.fault.Fault.{Fault}
 
 -- the node of this name is there
 abbrev pub is_node : List Node → Word → Bool
@@ -100,36 +99,36 @@ module _ (nodes : Policy → List Node) (form : Word → Option Word → Form) (
   Held d = Nodes room text ws k (nodes d.policy)
 
   module _ (p : Option Word) (Placed : Type 0) where
-    abbrev Says : Verdict → Type 0
+    abbrev Says : Result (Unit {0}) Fault → Type 0
     Says r = Judges Held Placed line (form (word_of line n) p) k room r
 
-    pub node_full : room ≤ k → Says (Faulty (Whole OverBound))
+    pub node_full : room ≤ k → Says (Err (Whole OverBound))
     node_full l =
         says_bound Held Placed line (form (word_of line n) p) k room
         (λ d h. kind.bound d (word_of line n) p ∙ le-leb room (length (nodes d.policy)) (omega (arith, nodes_length h, l)))
 
-    module _ (l : k < room) (r : Found) (is : (ns : List Node) → Nodes room text ws k ns → found_as r ≡ find_index (λ x. is_called (word_of line n) x.name) ns) where
+    module _ (l : k < room) (r : prelude.Option ℕ) (is : (ns : List Node) → Nodes room text ws k ns → found_as r ≡ find_index (λ x. is_called (word_of line n) x.name) ns) where
       roomy : (d : Doc) → Held d → over_bound d (form (word_of line n) p) ≡ false
       roomy d h = kind.bound d (word_of line n) p ∙ lt-leb room (length (nodes d.policy)) (omega (arith, nodes_length h, l))
 
-      pub node_taken : (x : ℕ) → r ≡ At x → (Placed → n ≤ length line) → Says (Faulty (Item NameTaken n))
+      pub node_taken : (x : ℕ) → r ≡ Some x → (Placed → n ≤ length line) → Says (Err (Item NameTaken n))
       unfolding offending_if
       node_taken x e q =
           says_taken Held Placed line (form (word_of line n) p) k room roomy n q
           (λ d h. kind.taken d.policy (word_of line n) p ∙ ap (λ b. offending_if b (word_of line n)) (found_there r _ (is (nodes d.policy) h) x e))
 
-      module _ (e : r ≡ Nothing) where
+      module _ (e : r ≡ None) where
         fresh : (d : Doc) → Held d → taken d.policy (form (word_of line n) p) ≡ none
         unfolding offending_if
         fresh d h = kind.taken d.policy (word_of line n) p ∙ ap (λ b. offending_if b (word_of line n)) (found_absent r _ (is (nodes d.policy) h) e)
 
-        pub node_second : p ≡ none → ((d : Doc) → Held d → second_root d.policy (form (word_of line n) p) ≡ true) → Says (Faulty (Whole SecondRoot))
+        pub node_second : p ≡ none → ((d : Doc) → Held d → second_root d.policy (form (word_of line n) p) ≡ true) → Says (Err (Whole SecondRoot))
         node_second q s =
             says_root Held Placed line (form (word_of line n) p) k room roomy fresh
             (λ d h. kind.unknown d.policy (word_of line n) p ∙ ap (λ o. missing (is_node (nodes d.policy)) (listed o)) q ∙ no_name (nodes d.policy)) s
 
         pub node_fine : ((d : Doc) → Held d → missing (is_node (nodes d.policy)) (listed p) ≡ none)
-            → ((d : Doc) → Held d → second_root d.policy (form (word_of line n) p) ≡ false) → Says Fine
+            → ((d : Doc) → Held d → second_root d.policy (form (word_of line n) p) ≡ false) → Says (Ok tt)
         node_fine u s =
             says_fine Held Placed line (form (word_of line n) p) k room roomy fresh
             (λ d h. kind.unknown d.policy (word_of line n) p ∙ u d h) s
@@ -141,21 +140,21 @@ module _ (nodes : Policy → List Node) (form : Word → Option Word → Form) (
             (λ d h. kind.early d.policy (word_of line n) p)
             (λ d h. kind.placed d (word_of line n) p)
 
-        pub node_unknown : (v : ℕ) → (Placed → v ≤ length line) → ((d : Doc) → Held d → missing (is_node (nodes d.policy)) (listed p) ≡ some (word_of line v)) → Says (Faulty (Item NameUnknown v))
+        pub node_unknown : (v : ℕ) → (Placed → v ≤ length line) → ((d : Doc) → Held d → missing (is_node (nodes d.policy)) (listed p) ≡ some (word_of line v)) → Says (Err (Item NameUnknown v))
         node_unknown v q u =
             says_unknown Held Placed line (form (word_of line n) p) k room roomy fresh v q
             (λ d h. kind.unknown d.policy (word_of line n) p ∙ u d h)
 
   -- below another, whose name stands at v
   module _ (v : ℕ) (Placed : Type 0) (l : k < room)
-      (r : Found) (is : (ns : List Node) → Nodes room text ws k ns → found_as r ≡ find_index (λ x. is_called (word_of line n) x.name) ns) (e : r ≡ Nothing)
-      (r' : Found) (is' : (ns : List Node) → Nodes room text ws k ns → found_as r' ≡ find_index (λ x. is_called (word_of line v) x.name) ns) where
-    pub below_unknown : r' ≡ Nothing → (Placed → v ≤ length line) → Says (some (word_of line v)) Placed (Faulty (Item NameUnknown v))
+      (r : prelude.Option ℕ) (is : (ns : List Node) → Nodes room text ws k ns → found_as r ≡ find_index (λ x. is_called (word_of line n) x.name) ns) (e : r ≡ None)
+      (r' : prelude.Option ℕ) (is' : (ns : List Node) → Nodes room text ws k ns → found_as r' ≡ find_index (λ x. is_called (word_of line v) x.name) ns) where
+    pub below_unknown : r' ≡ None → (Placed → v ≤ length line) → Says (some (word_of line v)) Placed (Err (Item NameUnknown v))
     below_unknown e' q =
         node_unknown (some (word_of line v)) Placed l r is e v q
         (λ d h. one_unknown (nodes d.policy) (word_of line v) (found_absent r' _ (is' (nodes d.policy) h) e'))
 
-    pub below_fine : (x : ℕ) → r' ≡ At x → Says (some (word_of line v)) Placed Fine
+    pub below_fine : (x : ℕ) → r' ≡ Some x → Says (some (word_of line v)) Placed (Ok tt)
     below_fine x e' =
         node_fine (some (word_of line v)) Placed l r is e
         (λ d h. one_known (nodes d.policy) (word_of line v) (found_there r' _ (is' (nodes d.policy) h) x e'))

@@ -12,31 +12,32 @@ use Rattle.stepping.specs.Follows.{Follows}
 use Rattle.stepping.specs.Stored.{LineAt, Passes}
 use Rattle.text.specs.Words.{word_of}
 use Rattle.index.specs.declared.counts.Counts.{Counts}
-use Rattle.stepping.specs.declared.step.Step.{Step}
+use Rattle.std.specs.Prelude.{Result}
+use Rattle.stepping.specs.declared.fault.Fault.{Fault}
 
 -- steps::step_purpose_root: a root purpose, whose name stands at n
-abbrev pub StepPurposeRootPromise : (text : List ℕ) (at : ℕ) (line purposes purposes' : List ℕ) (c : Counts) (n : ℕ) (s : Step) → Type 0
+abbrev pub StepPurposeRootPromise : (text : List ℕ) (at : ℕ) (line purposes purposes' : List ℕ) (c : Counts) (n : ℕ) (s : Result Counts Fault) → Type 0
 StepPurposeRootPromise text at line purposes purposes' c n s =
     (d : Doc) (rs' bs' us' cs' gs' ls' ms' ts' ws' : List ℕ) → LineAt text at line → (n ≤ length line) →
     Indexed text purposes rs' bs' us' cs' gs' ls' ms' ts' ws' c d →
     Follows (Indexed text purposes' rs' bs' us' cs' gs' ls' ms' ts' ws') line (check_form d line (purpose (word_of line n) none)) s
 
 -- steps::step_purpose_below: a purpose below the one whose name stands at p
-abbrev pub StepPurposeBelowPromise : (text : List ℕ) (at : ℕ) (line purposes purposes' : List ℕ) (c : Counts) (n p : ℕ) (s : Step) → Type 0
+abbrev pub StepPurposeBelowPromise : (text : List ℕ) (at : ℕ) (line purposes purposes' : List ℕ) (c : Counts) (n p : ℕ) (s : Result Counts Fault) → Type 0
 StepPurposeBelowPromise text at line purposes purposes' c n p s =
     (d : Doc) (rs' bs' us' cs' gs' ls' ms' ts' ws' : List ℕ) → LineAt text at line → ((n ≤ length line) × (p ≤ length line)) →
     Indexed text purposes rs' bs' us' cs' gs' ls' ms' ts' ws' c d →
     Follows (Indexed text purposes' rs' bs' us' cs' gs' ls' ms' ts' ws') line (check_form d line (purpose (word_of line n) (some (word_of line p)))) s
 
 -- steps::step_role_root: a root role, whose name stands at n
-abbrev pub StepRoleRootPromise : (text : List ℕ) (at : ℕ) (line roles roles' : List ℕ) (c : Counts) (n : ℕ) (s : Step) → Type 0
+abbrev pub StepRoleRootPromise : (text : List ℕ) (at : ℕ) (line roles roles' : List ℕ) (c : Counts) (n : ℕ) (s : Result Counts Fault) → Type 0
 StepRoleRootPromise text at line roles roles' c n s =
     (d : Doc) (ps' bs' us' cs' gs' ls' ms' ts' ws' : List ℕ) → LineAt text at line → (n ≤ length line) →
     Indexed text ps' roles bs' us' cs' gs' ls' ms' ts' ws' c d →
     Follows (Indexed text ps' roles' bs' us' cs' gs' ls' ms' ts' ws') line (check_form d line (role (word_of line n) none)) s
 
 -- steps::step_role_below: a role below the one whose name stands at p
-abbrev pub StepRoleBelowPromise : (text : List ℕ) (at : ℕ) (line roles roles' : List ℕ) (c : Counts) (n p : ℕ) (s : Step) → Type 0
+abbrev pub StepRoleBelowPromise : (text : List ℕ) (at : ℕ) (line roles roles' : List ℕ) (c : Counts) (n p : ℕ) (s : Result Counts Fault) → Type 0
 StepRoleBelowPromise text at line roles roles' c n p s =
     (d : Doc) (ps' bs' us' cs' gs' ls' ms' ts' ws' : List ℕ) → LineAt text at line → ((n ≤ length line) × (p ≤ length line)) →
     Indexed text ps' roles bs' us' cs' gs' ls' ms' ts' ws' c d →

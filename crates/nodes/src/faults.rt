@@ -8,9 +8,8 @@ ghost use Rattle.purpose.specs.Members.{limit};
 ghost use Rattle.text.specs.Words.{word_of};
 
 use principals::names::{find_purpose, find_role};
-use stepping::fault::{Fault, Verdict};
+use stepping::fault::Fault;
 use text::refusals::Reason;
-use workspace::found::Found;
 use workspace::layout::{PURPOSE_CELLS, PURPOSES, ROLE_CELLS, ROLES};
 
 // A root purpose, whose name stands at n of the line, behind k purposes.
@@ -20,19 +19,19 @@ pub fn purpose_root_fault(
     k: usize,
     line: &[u8],
     n: usize,
-) -> Verdict
+) -> Result<(), Fault>
     ensures { Judges (λ d. Nodes limit text.now purposes.now k d.policy.purposes) (n ≤ length line.now) line.now (purpose (word_of line.now n) none) k limit result }
 {
     if PURPOSES <= k {
-        return Verdict::Faulty(Fault::Whole(Reason::OverBound));
+        return Err(Fault::Whole(Reason::OverBound));
     }
-    if let Found::At(_) = find_purpose(text, purposes, k, line, n) {
-        return Verdict::Faulty(Fault::Item(Reason::NameTaken, n));
+    if find_purpose(text, purposes, k, line, n).is_some() {
+        return Err(Fault::Item(Reason::NameTaken, n));
     }
     if 0 < k {
-        return Verdict::Faulty(Fault::Whole(Reason::SecondRoot));
+        return Err(Fault::Whole(Reason::SecondRoot));
     }
-    Verdict::Fine
+    Ok(())
 }
 
 // A purpose below the one whose name stands at p.
@@ -43,19 +42,19 @@ pub fn purpose_below_fault(
     line: &[u8],
     n: usize,
     p: usize,
-) -> Verdict
+) -> Result<(), Fault>
     ensures { Judges (λ d. Nodes limit text.now purposes.now k d.policy.purposes) ((n ≤ length line.now) × (p ≤ length line.now)) line.now (purpose (word_of line.now n) (some (word_of line.now p))) k limit result }
 {
     if PURPOSES <= k {
-        return Verdict::Faulty(Fault::Whole(Reason::OverBound));
+        return Err(Fault::Whole(Reason::OverBound));
     }
-    if let Found::At(_) = find_purpose(text, purposes, k, line, n) {
-        return Verdict::Faulty(Fault::Item(Reason::NameTaken, n));
+    if find_purpose(text, purposes, k, line, n).is_some() {
+        return Err(Fault::Item(Reason::NameTaken, n));
     }
-    if let Found::Nothing = find_purpose(text, purposes, k, line, p) {
-        return Verdict::Faulty(Fault::Item(Reason::NameUnknown, p));
+    if find_purpose(text, purposes, k, line, p).is_none() {
+        return Err(Fault::Item(Reason::NameUnknown, p));
     }
-    Verdict::Fine
+    Ok(())
 }
 
 // A root role, whose name stands at n of the line, behind k roles.
@@ -65,16 +64,16 @@ pub fn role_root_fault(
     k: usize,
     line: &[u8],
     n: usize,
-) -> Verdict
+) -> Result<(), Fault>
     ensures { Judges (λ d. Nodes 64 text.now roles.now k d.policy.roles) (n ≤ length line.now) line.now (role (word_of line.now n) none) k 64 result }
 {
     if ROLES <= k {
-        return Verdict::Faulty(Fault::Whole(Reason::OverBound));
+        return Err(Fault::Whole(Reason::OverBound));
     }
-    if let Found::At(_) = find_role(text, roles, k, line, n) {
-        return Verdict::Faulty(Fault::Item(Reason::NameTaken, n));
+    if find_role(text, roles, k, line, n).is_some() {
+        return Err(Fault::Item(Reason::NameTaken, n));
     }
-    Verdict::Fine
+    Ok(())
 }
 
 // A role below the one whose name stands at p.
@@ -85,17 +84,17 @@ pub fn role_below_fault(
     line: &[u8],
     n: usize,
     p: usize,
-) -> Verdict
+) -> Result<(), Fault>
     ensures { Judges (λ d. Nodes 64 text.now roles.now k d.policy.roles) ((n ≤ length line.now) × (p ≤ length line.now)) line.now (role (word_of line.now n) (some (word_of line.now p))) k 64 result }
 {
     if ROLES <= k {
-        return Verdict::Faulty(Fault::Whole(Reason::OverBound));
+        return Err(Fault::Whole(Reason::OverBound));
     }
-    if let Found::At(_) = find_role(text, roles, k, line, n) {
-        return Verdict::Faulty(Fault::Item(Reason::NameTaken, n));
+    if find_role(text, roles, k, line, n).is_some() {
+        return Err(Fault::Item(Reason::NameTaken, n));
     }
-    if let Found::Nothing = find_role(text, roles, k, line, p) {
-        return Verdict::Faulty(Fault::Item(Reason::NameUnknown, p));
+    if find_role(text, roles, k, line, p).is_none() {
+        return Err(Fault::Item(Reason::NameUnknown, p));
     }
-    Verdict::Fine
+    Ok(())
 }

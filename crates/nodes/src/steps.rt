@@ -4,8 +4,7 @@ ghost use Rattle.nodes.specs.Promises.{StepPurposeBelowPromise, StepPurposeRootP
 use crate::faults::{purpose_below_fault, purpose_root_fault, role_below_fault, role_root_fault};
 use crate::storing::{store_purpose_below, store_purpose_root, store_role_below, store_role_root};
 use index::counts::Counts;
-use stepping::fault::Verdict;
-use stepping::step::Step;
+use stepping::fault::Fault;
 use workspace::layout::{PURPOSE_CELLS, ROLE_CELLS};
 
 // A root purpose, whose name stands at n.
@@ -16,18 +15,15 @@ pub fn step_purpose_root(
     purposes: &mut [usize; PURPOSE_CELLS],
     c: Counts,
     n: usize,
-) -> Step
+) -> Result<Counts, Fault>
     ensures { StepPurposeRootPromise text.now at line.now purposes.old purposes.new c n result }
 {
     let k = c.purposes;
-    let f = purpose_root_fault(text, purposes, k, line, n);
-    if let Verdict::Faulty(wrong) = f {
-        return Step::Fails(wrong);
-    }
+    purpose_root_fault(text, purposes, k, line, n)?;
     store_purpose_root(text, purposes, k, at, line, n);
     let mut next = c;
     next.purposes = k + 1;
-    Step::Goes(next)
+    Ok(next)
 }
 
 // A purpose below the one whose name stands at p.
@@ -39,18 +35,15 @@ pub fn step_purpose_below(
     c: Counts,
     n: usize,
     p: usize,
-) -> Step
+) -> Result<Counts, Fault>
     ensures { StepPurposeBelowPromise text.now at line.now purposes.old purposes.new c n p result }
 {
     let k = c.purposes;
-    let f = purpose_below_fault(text, purposes, k, line, n, p);
-    if let Verdict::Faulty(wrong) = f {
-        return Step::Fails(wrong);
-    }
+    purpose_below_fault(text, purposes, k, line, n, p)?;
     store_purpose_below(text, purposes, k, at, line, n, p);
     let mut next = c;
     next.purposes = k + 1;
-    Step::Goes(next)
+    Ok(next)
 }
 
 // A root role, whose name stands at n.
@@ -61,18 +54,15 @@ pub fn step_role_root(
     roles: &mut [usize; ROLE_CELLS],
     c: Counts,
     n: usize,
-) -> Step
+) -> Result<Counts, Fault>
     ensures { StepRoleRootPromise text.now at line.now roles.old roles.new c n result }
 {
     let k = c.roles;
-    let f = role_root_fault(text, roles, k, line, n);
-    if let Verdict::Faulty(wrong) = f {
-        return Step::Fails(wrong);
-    }
+    role_root_fault(text, roles, k, line, n)?;
     store_role_root(text, roles, k, at, line, n);
     let mut next = c;
     next.roles = k + 1;
-    Step::Goes(next)
+    Ok(next)
 }
 
 // A role below the one whose name stands at p.
@@ -84,16 +74,13 @@ pub fn step_role_below(
     c: Counts,
     n: usize,
     p: usize,
-) -> Step
+) -> Result<Counts, Fault>
     ensures { StepRoleBelowPromise text.now at line.now roles.old roles.new c n p result }
 {
     let k = c.roles;
-    let f = role_below_fault(text, roles, k, line, n, p);
-    if let Verdict::Faulty(wrong) = f {
-        return Step::Fails(wrong);
-    }
+    role_below_fault(text, roles, k, line, n, p)?;
     store_role_below(text, roles, k, at, line, n, p);
     let mut next = c;
     next.roles = k + 1;
-    Step::Goes(next)
+    Ok(next)
 }

@@ -20,15 +20,12 @@ use Rattle.stepping.proofs.FoundLaws.{found_absent, found_there}
 use Rattle.stepping.proofs.Outcomes.{says_fine, says_misplaced, says_unknown}
 use Rattle.stepping.specs.Judged.{Judges}
 use Rattle.stepping.specs.declared.fault.Fault.TheVariants.{Item, Whole}
-use Rattle.stepping.specs.declared.fault.Verdict.TheVariants.{Faulty, Fine}
-use Rattle.stepping.specs.declared.fault.Verdict.{Verdict}
+use Rattle.std.specs.Prelude.{None, Option, Some, Err, Ok, Result}
 use Rattle.text.proofs.OffendingLaws.{leftmost_fail, leftmost_on, missing_here, missing_next, missing_nil}
 use Rattle.text.specs.Offending.{missing}
 use Rattle.text.specs.Words.{Word, is_called, word_of}
 use Rattle.text.specs.declared.refusals.Reason.TheVariants.{NameUnknown, NoteMisplaced}
 use Rattle.workspace.specs.Found.{FoundBelow, found_as}
-use Rattle.workspace.specs.declared.found.Found.TheVariants.{At, Nothing}
-use Rattle.workspace.specs.declared.found.Found.{Found}
 use lib.Dec.{eqb}
 use lib.ListN.{length}
 use mathlib.Core.Bool.{Bool, ◌||◌, false, not, true}
@@ -36,6 +33,7 @@ use mathlib.Core.List.{List, [], ◌∷◌}
 use mathlib.Core.Option.{none, some}
 use mathlib.Core.Path.{◌∙◌, ◌≡◌, ap, refl, subst, sym}
 use native.Mathlib.Omega.{arith}
+use Rattle.stepping.specs.declared.fault.Fault.{Fault}
 
 -- ---- whether one is out of place
 
@@ -70,7 +68,7 @@ unfolding note_labels
 one_label_lem false v = refl
 one_label_lem true v = refl
 
-module _ (text labels tables rows : List ℕ) (c : Counts) (line : List ℕ) (t l : ℕ) (s : Bool) (x : Found)
+module _ (text labels tables rows : List ℕ) (c : Counts) (line : List ℕ) (t l : ℕ) (s : Bool) (x : Option ℕ)
     (is : (ts : List Table) → Tables text tables c.tables ts → found_as x ≡ find_index (λ y. is_called (word_of line t) y.name) ts) where
   abbrev Held : Doc → Type 0
   Held d = Tables text tables c.tables d.policy.tables × Notes tables c.tables d.policy.notes × ((sets : List ℕ) × Labels text labels sets c.labels d.policy.labels) × Rows text rows c.rows d.rows
@@ -81,7 +79,7 @@ module _ (text labels tables rows : List ℕ) (c : Counts) (line : List ℕ) (t 
   abbrev Said : Form
   Said = note (word_of line t) (note_by s (word_of line l))
 
-  abbrev Says : Verdict → Type 0
+  abbrev Says : Result (Unit {0}) Fault → Type 0
   Says f = Judges Held Inside line Said 0 1 f
 
   roomy : (d : Doc) → Held d → over_bound d Said ≡ false
@@ -97,13 +95,13 @@ module _ (text labels tables rows : List ℕ) (c : Counts) (line : List ℕ) (t 
   unfolding table_of
   table_found d h = is d.policy.tables h.0
 
-  pub no_table : x ≡ Nothing → Says (Faulty (Item NameUnknown t))
+  pub no_table : x ≡ None → Says (Err (Item NameUnknown t))
   no_table e = says_unknown Held Inside line Said 0 1 roomy free t (λ p. p.0) lacking
     where
       lacking : (d : Doc) → Held d → unknown d.policy Said ≡ some (word_of line t)
       lacking d h = unfold unknown in leftmost_fail _ (word_of line t) _ (found_absent x _ (table_found d h) e)
 
-  module _ (n : ℕ) (e : x ≡ At n) (below : FoundBelow x c.tables) (g : Found)
+  module _ (n : ℕ) (e : x ≡ Some n) (below : FoundBelow x c.tables) (g : Option ℕ)
       (called : (sets : List ℕ) (ls : List Label) → Labels text labels sets c.labels ls → found_as g ≡ find_index (λ y. is_called (word_of line l) y.name) ls) where
     label_found : (d : Doc) → Held d → found_as g ≡ label_of d.policy (word_of line l)
     unfolding label_of
@@ -116,10 +114,10 @@ module _ (text labels tables rows : List ℕ) (c : Counts) (line : List ℕ) (t 
         leftmost_on _ (word_of line t) _ (found_there x _ (table_found d h) n e)
         ∙ ap (missing (λ w. there (label_of d.policy w))) (one_label_lem s (word_of line l))
 
-    pub no_label : g ≡ Nothing → Says (Faulty (Item NameUnknown l))
+    pub no_label : g ≡ None → Says (Err (Item NameUnknown l))
     no_label z = says_unknown Held Inside line Said 0 1 roomy free l (λ p. p.1) (λ d h. by_label d h ∙ missing_here (λ w. there (label_of d.policy w)) (word_of line l) [] (found_absent g _ (label_found d h) z))
 
-    module _ (m : ℕ) (z : g ≡ At m) (b : Bool) (told : OutOfPlacePromise tables rows c.rows n s b) where
+    module _ (m : ℕ) (z : g ≡ Some m) (b : Bool) (told : OutOfPlacePromise tables rows c.rows n s b) where
       known : (d : Doc) → Held d → unknown d.policy Said ≡ none
       known d h =
           by_label d h
@@ -129,17 +127,17 @@ module _ (text labels tables rows : List ℕ) (c : Counts) (line : List ℕ) (t 
       placed_so : (d : Doc) → Held d → misplaced d Said ≡ b
       unfolding misplaced or_zero
       placed_so d h =
-          let inside : n < c.tables = subst (λ (y : Found). FoundBelow y c.tables) e below in
+          let inside : n < c.tables = subst (λ (y : Option ℕ). FoundBelow y c.tables) e below in
           ap (λ o. misplaced_note d (or_zero o) (note_by s (word_of line l))) (sym (table_found d h) ∙ ap found_as e)
           ∙ sym (told d text c.tables (word_of line l) h.0 h.1 h.3 inside)
 
-      pub out_of_its_place : b ≡ true → Says (Faulty (Whole NoteMisplaced))
+      pub out_of_its_place : b ≡ true → Says (Err (Whole NoteMisplaced))
       unfolding late_attr second_root misfit wrong_type broken_range no_such_date
       out_of_its_place p =
           says_misplaced Held Inside line Said 0 1 roomy free known
           (λ d h. refl) (λ d h. refl) (λ d h. refl) (λ d h. refl) (λ d h. refl) (λ d h. refl) (λ d h. placed_so d h ∙ p)
 
-      pub in_its_place : b ≡ false → Says Fine
+      pub in_its_place : b ≡ false → Says (Ok tt)
       unfolding late_attr second_root misfit wrong_type broken_range no_such_date
       in_its_place p =
           says_fine Held Inside line Said 0 1 roomy free known

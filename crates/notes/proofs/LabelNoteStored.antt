@@ -22,8 +22,7 @@ use Rattle.text.proofs.RefusalLaws.{refuse_if_accepted, then_accepted}
 use Rattle.text.specs.Offending.{missing}
 use Rattle.text.specs.Words.{Word}
 use Rattle.workspace.specs.Found.{FoundBelow, found_as}
-use Rattle.workspace.specs.declared.found.Found.TheVariants.{At, Nothing}
-use Rattle.workspace.specs.declared.found.Found.{Found}
+use Rattle.std.specs.Prelude.{None, Option, Some}
 use lib.ListN.{length}
 use mathlib.Core.Bool.{Bool, false, true}
 use mathlib.Core.List.{List, [], ◌++◌, ◌∷◌}
@@ -56,10 +55,10 @@ missing_one f w h = go (f w) refl
     go false e = absurd (none-ne-some w (sym h ∙ missing_here f w [] e))
 
 -- a number that was found is below the number of names
-pub number_below : (f : Found) (k : ℕ) → there (found_as f) ≡ true → FoundBelow f k → or_zero (found_as f) < k
+pub number_below : (f : Option ℕ) (k : ℕ) → there (found_as f) ≡ true → FoundBelow f k → or_zero (found_as f) < k
 unfolding or_zero
-number_below Nothing k e l = true_not_false e (unfold there in refl)
-number_below (At n) k e l = l
+number_below None k e l = true_not_false e (unfold there in refl)
+number_below (Some n) k e l = l
 
 -- what the code stored by its flag
 pub by_flag : {before after : List ℕ} {x : ℕ} (y : ℕ) (s b : Bool) → s ≡ b → LabelNoted before after x (note_by b y) (given_in b) → LabelNoted before after x (note_by s y) (given_in s)

@@ -22,17 +22,15 @@ use Rattle.stepping.proofs.FoundLaws.{found_absent, found_there}
 use Rattle.stepping.proofs.Outcomes.{says_fine, says_taken, says_unknown}
 use Rattle.stepping.specs.Judged.{Judges}
 use Rattle.stepping.specs.declared.fault.Fault.TheVariants.{Item}
-use Rattle.stepping.specs.declared.fault.Verdict.{Verdict}
-use Rattle.stepping.specs.declared.fault.Verdict.TheVariants.{Faulty, Fine}
+use Rattle.std.specs.Prelude.{None, Option, Some, Err, Ok, Result}
 use Rattle.text.proofs.OffendingLaws.{leftmost_fail, leftmost_on, missing_nil}
 use Rattle.text.specs.Offending.{offending_if}
 use Rattle.text.specs.Words.{is_called, word_of}
 use Rattle.text.specs.declared.refusals.Reason.TheVariants.{NameTaken, NameUnknown}
 use Rattle.workspace.specs.Found.{FoundBelow, found_as}
-use Rattle.workspace.specs.declared.found.Found.{Found}
-use Rattle.workspace.specs.declared.found.Found.TheVariants.{At, Nothing}
+use Rattle.stepping.specs.declared.fault.Fault.{Fault}
 
-module _ (text ws : List ℕ) (k : ℕ) (line : List ℕ) (t : ℕ) (x : Found)
+module _ (text ws : List ℕ) (k : ℕ) (line : List ℕ) (t : ℕ) (x : Option ℕ)
     (is : (ts : List Table) → Tables text ws k ts → found_as x ≡ find_index (λ y. is_called (word_of line t) y.name) ts) where
   abbrev Held : Doc → Type 0
   Held d = Tables text ws k d.policy.tables × Notes ws k d.policy.notes
@@ -40,7 +38,7 @@ module _ (text ws : List ℕ) (k : ℕ) (line : List ℕ) (t : ℕ) (x : Found)
   abbrev Said : Form
   Said = note (word_of line t) public
 
-  abbrev Says : Verdict → Type 0
+  abbrev Says : Result (Unit {0}) Fault → Type 0
   Says f = Judges Held (t ≤ length line) line Said 0 1 f
 
   roomy : (d : Doc) → Held d → over_bound d Said ≡ false
@@ -57,30 +55,30 @@ module _ (text ws : List ℕ) (k : ℕ) (line : List ℕ) (t : ℕ) (x : Found)
   unfolding taken taken_note
   taken_by_lem d h = ap (λ o. offending_if (holds_of (λ n. any_of is_public (notes_of d.policy.notes n)) o) (word_of line t)) (sym (looked_up d h))
 
-  pub no_table : x ≡ Nothing → Says (Faulty (Item NameUnknown t))
+  pub no_table : x ≡ None → Says (Err (Item NameUnknown t))
   no_table e = says_unknown Held (t ≤ length line) line Said 0 1 roomy free t (λ p. p) lacking
     where
       free : (d : Doc) → Held d → taken d.policy Said ≡ none
-      free d h = taken_by_lem d h ∙ (unfold holds_of offending_if in ap (λ (y : Found). offending_if (holds_of (λ n. any_of is_public (notes_of d.policy.notes n)) (found_as y)) (word_of line t)) e)
+      free d h = taken_by_lem d h ∙ (unfold holds_of offending_if in ap (λ (y : Option ℕ). offending_if (holds_of (λ n. any_of is_public (notes_of d.policy.notes n)) (found_as y)) (word_of line t)) e)
 
       lacking : (d : Doc) → Held d → unknown d.policy Said ≡ some (word_of line t)
       lacking d h = unfold unknown in leftmost_fail _ (word_of line t) _ (found_absent x _ (looked_up d h) e)
 
-  module _ (n : ℕ) (e : x ≡ At n) (below : FoundBelow x k) (b : Bool) (read : n < 8 → b ≡ public_in ws n) where
+  module _ (n : ℕ) (e : x ≡ Some n) (below : FoundBelow x k) (b : Bool) (read : n < 8 → b ≡ public_in ws n) where
     -- the table is declared public already, as the array says
     said_so : (d : Doc) → Held d → taken d.policy Said ≡ offending_if b (word_of line t)
     unfolding holds_of
     said_so d h =
-        let inside : n < k = subst (λ (y : Found). FoundBelow y k) e below in
+        let inside : n < k = subst (λ (y : Option ℕ). FoundBelow y k) e below in
         taken_by_lem d h
-        ∙ ap (λ (y : Found). offending_if (holds_of (λ m. any_of is_public (notes_of d.policy.notes m)) (found_as y)) (word_of line t)) e
+        ∙ ap (λ (y : Option ℕ). offending_if (holds_of (λ m. any_of is_public (notes_of d.policy.notes m)) (found_as y)) (word_of line t)) e
         ∙ ap (λ c. offending_if c (word_of line t)) (sym (read (omega (arith, inside, h.0.few)) ∙ (h.1.said n inside).is_public?))
 
-    pub public_twice : b ≡ true → Says (Faulty (Item NameTaken t))
+    pub public_twice : b ≡ true → Says (Err (Item NameTaken t))
     unfolding offending_if
     public_twice p = says_taken Held (t ≤ length line) line Said 0 1 roomy t (λ q. q) (λ d h. said_so d h ∙ ap (λ c. offending_if c (word_of line t)) p)
 
-    pub public_once : b ≡ false → Says Fine
+    pub public_once : b ≡ false → Says (Ok tt)
     unfolding offending_if unknown note_labels late_attr misplaced misplaced_note second_root misfit wrong_type broken_range no_such_date
     public_once p =
         says_fine Held (t ≤ length line) line Said 0 1 roomy (λ d h. said_so d h ∙ ap (λ c. offending_if c (word_of line t)) p)

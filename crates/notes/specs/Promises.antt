@@ -17,12 +17,12 @@ use Rattle.stepping.specs.Judged.{Judges}
 use Rattle.stepping.specs.Stored.{Passes}
 use Rattle.text.specs.Words.{Word, word_of}
 use Rattle.index.specs.declared.counts.Counts.{Counts}
-use Rattle.stepping.specs.declared.fault.Verdict.{Verdict}
-use Rattle.stepping.specs.declared.step.Step.{Step}
+use Rattle.std.specs.Prelude.{Result}
+use Rattle.stepping.specs.declared.fault.Fault.{Fault}
 
 -- note_faults::public_fault: the table whose name stands at t of the line, among k of them, declared public; notes have no bound, so
 -- there is room for one more than none
-abbrev pub PublicFaultPromise : (text tables : List ℕ) (k : ℕ) (line : List ℕ) (t : ℕ) (r : Verdict) → Type 0
+abbrev pub PublicFaultPromise : (text tables : List ℕ) (k : ℕ) (line : List ℕ) (t : ℕ) (r : Result (Unit {0}) Fault) → Type 0
 PublicFaultPromise text tables k line t r =
     Judges (λ d. Tables text tables k d.policy.tables × Notes tables k d.policy.notes) (t ≤ length line) line (note (word_of line t) public) 0 1 r
 
@@ -33,7 +33,7 @@ StorePublicPromise text tables tables' k line t =
     Tables text tables' k d.policy.tables × Notes tables' k (add d (note (word_of line t) public)).policy.notes
 
 -- steps::step_public: the table whose name stands at t is declared public
-abbrev pub StepPublicPromise : (text line tables tables' : List ℕ) (c : Counts) (t : ℕ) (s : Step) → Type 0
+abbrev pub StepPublicPromise : (text line tables tables' : List ℕ) (c : Counts) (t : ℕ) (s : Result Counts Fault) → Type 0
 StepPublicPromise text line tables tables' c t s =
     (d : Doc) (ps' rs' bs' us' cs' gs' ls' ms' ws' : List ℕ) → t ≤ length line → Indexed text ps' rs' bs' us' cs' gs' ls' ms' tables ws' c d →
     Follows (Indexed text ps' rs' bs' us' cs' gs' ls' ms' tables' ws') line (check_form d line (note (word_of line t) public)) s
@@ -57,7 +57,7 @@ OutOfPlacePromise tables rows count t strong? r =
     r ≡ misplaced_note d t (note_by strong? w)
 
 -- note_faults::label_note_fault: the label whose name stands at l of the line, given to the table whose name stands at t
-abbrev pub LabelNoteFaultPromise : (text labels tables rows : List ℕ) (c : Counts) (line : List ℕ) (t l : ℕ) (strong? : Bool) (r : Verdict) → Type 0
+abbrev pub LabelNoteFaultPromise : (text labels tables rows : List ℕ) (c : Counts) (line : List ℕ) (t l : ℕ) (strong? : Bool) (r : Result (Unit {0}) Fault) → Type 0
 LabelNoteFaultPromise text labels tables rows c line t l strong? r =
     Judges (λ d. Tables text tables c.tables d.policy.tables × Notes tables c.tables d.policy.notes × ((sets : List ℕ) × Labels text labels sets c.labels d.policy.labels) × Rows text rows c.rows d.rows)
     ((t ≤ length line) × (l ≤ length line)) line (note (word_of line t) (note_by strong? (word_of line l))) 0 1 r
@@ -70,7 +70,7 @@ StoreLabelNotePromise text labels labels_count tables tables' k line t l strong?
     Tables text tables' k d.policy.tables × Notes tables' k (add d (note (word_of line t) (note_by strong? (word_of line l)))).policy.notes
 
 -- steps::step_label_note: the table whose name stands at t gets the label whose name stands at l
-abbrev pub StepLabelNotePromise : (text line labels tables tables' rows : List ℕ) (c : Counts) (t l : ℕ) (strong? : Bool) (s : Step) → Type 0
+abbrev pub StepLabelNotePromise : (text line labels tables tables' rows : List ℕ) (c : Counts) (t l : ℕ) (strong? : Bool) (s : Result Counts Fault) → Type 0
 StepLabelNotePromise text line labels tables tables' rows c t l strong? s =
     (d : Doc) (ps' rs' bs' us' cs' gs' ms' : List ℕ) → ((t ≤ length line) × (l ≤ length line)) → Indexed text ps' rs' bs' us' cs' gs' labels ms' tables rows c d →
     Follows (Indexed text ps' rs' bs' us' cs' gs' labels ms' tables' rows) line (check_form d line (note (word_of line t) (note_by strong? (word_of line l)))) s

@@ -4,7 +4,6 @@ ghost use Rattle.document.specs.Lookup.{given_by, notes_of};
 ghost use Rattle.document.specs.Policy.{Noted};
 ghost use Rattle.lists.specs.Lists.{there};
 ghost use Rattle.relations.specs.Notes.{Notes};
-ghost use Rattle.workspace.specs.Found.{found_as};
 ghost use Rattle.notes.specs.Promises.{LabelNoteFaultPromise, OutOfPlacePromise, PublicFaultPromise, given_in};
 
 use index::counts::Counts;
@@ -12,9 +11,8 @@ use relations::labels::find_label;
 use relations::notes::{is_public, strong_label, weak_label};
 use relations::rows::has_row;
 use relations::tables::{find_table, is_nested, table_scheme};
-use stepping::fault::{Fault, Verdict};
+use stepping::fault::Fault;
 use text::refusals::Reason;
-use workspace::found::Found;
 use workspace::layout::{LABELS, ROW_CELLS, TABLE_CELLS};
 
 // The table whose name stands at t of the line, among k of them, declared public: it has to be there, and not to be public already.
@@ -24,27 +22,16 @@ pub fn public_fault(
     k: usize,
     line: &[u8],
     t: usize,
-) -> Verdict
+) -> Result<(), Fault>
     ensures { PublicFaultPromise text.now tables.now k line.now t result }
 {
-    let f = find_table(text, tables, k, line, t);
-    let Found::At(x) = f else {
-        return Verdict::Faulty(Fault::Item(Reason::NameUnknown, t));
+    let Some(x) = find_table(text, tables, k, line, t) else {
+        return Err(Fault::Item(Reason::NameUnknown, t));
     };
     if is_public(tables, x) {
-        return Verdict::Faulty(Fault::Item(Reason::NameTaken, t));
+        return Err(Fault::Item(Reason::NameTaken, t));
     }
-    Verdict::Fine
-}
-
-// Whether one was found.
-fn is_found(f: Found) -> bool
-    ensures { result ≡ there (found_as f) }
-{
-    match f {
-        Found::At(_) => true,
-        Found::Nothing => false,
-    }
+    Ok(())
 }
 
 // Whether table t has a strong label, or a weak one.
@@ -52,9 +39,9 @@ fn has_label(tables: &[usize; TABLE_CELLS], t: usize, strong: bool) -> bool
     ensures { (k : ℕ) (ns : List Noted) → t < k → k ≤ 8 → Notes tables.now k ns → result ≡ there (given_by (given_in strong) (notes_of ns t)) }
 {
     if strong {
-        return is_found(strong_label(tables, t));
+        return strong_label(tables, t).is_some();
     }
-    is_found(weak_label(tables, t))
+    weak_label(tables, t).is_some()
 }
 
 // Whether a strong label for table t, or a weak one, is out of place: its scheme is another, it has one of the rows, or it has one already.
@@ -88,19 +75,17 @@ pub fn label_note_fault(
     t: usize,
     l: usize,
     strong: bool,
-) -> Verdict
+) -> Result<(), Fault>
     ensures { LabelNoteFaultPromise text.now labels.now tables.now rows.now c line.now t l strong result }
 {
-    let f = find_table(text, tables, c.tables, line, t);
-    let Found::At(x) = f else {
-        return Verdict::Faulty(Fault::Item(Reason::NameUnknown, t));
+    let Some(x) = find_table(text, tables, c.tables, line, t) else {
+        return Err(Fault::Item(Reason::NameUnknown, t));
     };
-    let g = find_label(text, labels, c.labels, line, l);
-    let Found::At(_) = g else {
-        return Verdict::Faulty(Fault::Item(Reason::NameUnknown, l));
-    };
-    if is_out_of_place(tables, rows, c.rows, x, strong) {
-        return Verdict::Faulty(Fault::Whole(Reason::NoteMisplaced));
+    if find_label(text, labels, c.labels, line, l).is_none() {
+        return Err(Fault::Item(Reason::NameUnknown, l));
     }
-    Verdict::Fine
+    if is_out_of_place(tables, rows, c.rows, x, strong) {
+        return Err(Fault::Whole(Reason::NoteMisplaced));
+    }
+    Ok(())
 }

@@ -4,8 +4,7 @@ ghost use Rattle.notes.specs.Promises.{StepLabelNotePromise, StepPublicPromise};
 use crate::note_faults::{label_note_fault, public_fault};
 use crate::note_storing::{store_label_note, store_public};
 use index::counts::Counts;
-use stepping::fault::Verdict;
-use stepping::step::Step;
+use stepping::fault::Fault;
 use workspace::layout::{LABELS, ROW_CELLS, TABLE_CELLS};
 
 // The table whose name stands at t is declared public; there are as many of each kind as before.
@@ -15,16 +14,13 @@ pub fn step_public(
     tables: &mut [usize; TABLE_CELLS],
     c: Counts,
     t: usize,
-) -> Step
+) -> Result<Counts, Fault>
     ensures { StepPublicPromise text.now line.now tables.old tables.new c t result }
 {
     let k = c.tables;
-    let f = public_fault(text, tables, k, line, t);
-    if let Verdict::Faulty(wrong) = f {
-        return Step::Fails(wrong);
-    }
+    public_fault(text, tables, k, line, t)?;
     store_public(text, tables, k, line, t);
-    Step::Goes(c)
+    Ok(c)
 }
 
 // The table whose name stands at t gets the label whose name stands at l as its strong one, or its weak one; there are as many of each
@@ -39,13 +35,10 @@ pub fn step_label_note(
     t: usize,
     l: usize,
     strong: bool,
-) -> Step
+) -> Result<Counts, Fault>
     ensures { StepLabelNotePromise text.now line.now labels.now tables.old tables.new rows.now c t l strong result }
 {
-    let f = label_note_fault(text, labels, tables, rows, c, line, t, l, strong);
-    if let Verdict::Faulty(wrong) = f {
-        return Step::Fails(wrong);
-    }
+    label_note_fault(text, labels, tables, rows, c, line, t, l, strong)?;
     store_label_note(text, labels, c.labels, tables, c.tables, line, t, l, strong);
-    Step::Goes(c)
+    Ok(c)
 }

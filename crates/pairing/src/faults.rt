@@ -11,16 +11,8 @@ use judging::types::{missing_date, mistyped_test};
 use ranging::join_ranged::ranged_join;
 use resolving::join_openness::closed_join;
 use resolving::joins::{JOINED, ref_kind};
-use text::offending::Offending;
 use text::refusals::{Reason, Refusal};
 use workspace::layout::{ROW_CELLS, TABLE_CELLS, VERDICTS};
-
-// Nothing to refuse, or a refusal.
-#[derive(Clone, Copy)]
-pub(crate) enum Judged {
-    Fine,
-    Refused(Refusal),
-}
 
 // Keys of different types, or else a comparison of the wrong type (16).
 fn judge_types(
@@ -29,20 +21,20 @@ fn judge_types(
     g: Names,
     columns: &[usize; JOINED],
     tests: &[usize; TEST_CELLS],
-) -> Judged
+) -> Result<(), Refusal>
     ensures { JudgeTypesPromise tables.now query.now g columns.now tests.now result }
 {
     let p = g.tables;
     let first = ref_kind(tables, p, columns[0]);
     let second = ref_kind(tables, p, columns[1]);
     if !same_kind(first, second) {
-        return Judged::Refused(refusal_at(query, Reason::MistypedQuery, g.other));
+        return Err(refusal_at(query, Reason::MistypedQuery, g.other));
     }
     let wrong = mistyped_test(tests, g.tests);
-    if let Offending::At(at) = wrong {
-        return Judged::Refused(refusal_written(query, Reason::MistypedQuery, at));
+    if let Some(at) = wrong {
+        return Err(refusal_written(query, Reason::MistypedQuery, at));
     }
-    Judged::Fine
+    Ok(())
 }
 
 // The first of 16, 27, 31 and 17, in this order.
@@ -57,25 +49,22 @@ pub(crate) fn judge_join(
     words: &[usize; JOINED],
     columns: &[usize; JOINED],
     tests: &[usize; TEST_CELLS],
-) -> Judged
+) -> Result<(), Refusal>
     ensures { JudgeJoinPromise text.now tables.now rows.now count said.now query.now g words.now columns.now tests.now result }
 {
-    let typed = judge_types(tables, query, g, columns, tests);
-    if let Judged::Refused(r) = typed {
-        return Judged::Refused(r);
-    }
+    judge_types(tables, query, g, columns, tests)?;
     let p = g.tables;
     let ranged = ranged_join(text, tables, rows, count, p, words, g.number, columns);
-    if let Offending::At(at) = ranged {
-        return Judged::Refused(refusal_at(query, Reason::RangeNotTaken, at));
+    if let Some(at) = ranged {
+        return Err(refusal_at(query, Reason::RangeNotTaken, at));
     }
     let absent = missing_date(query, tests, g.tests);
-    if let Offending::At(at) = absent {
-        return Judged::Refused(refusal_written(query, Reason::NoSuchDate, at));
+    if let Some(at) = absent {
+        return Err(refusal_written(query, Reason::NoSuchDate, at));
     }
     let closed = closed_join(tables, p, said, words, g.number, columns);
-    if let Offending::At(at) = closed {
-        return Judged::Refused(refusal_at(query, Reason::Closed, at));
+    if let Some(at) = closed {
+        return Err(refusal_at(query, Reason::Closed, at));
     }
-    Judged::Fine
+    Ok(())
 }

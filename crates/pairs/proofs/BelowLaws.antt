@@ -12,11 +12,13 @@ use Rattle.loaded.specs.Outside.{Asks}
 use Rattle.stages.specs.Figures.{Figures, answered_as, in_figures}
 use Rattle.query.specs.Authority.{Clock}
 use Rattle.text.specs.Refusal.{accepted}
-use Rattle.stages.specs.declared.answered.Answered as code
+use Rattle.std.specs.Prelude.{Result}
 use Rattle.pairs.specs.declared.two.Pair.{Pair}
+use Rattle.text.specs.declared.refusals.Refusal.{Refusal}
+use Rattle.stages.specs.declared.answered.Figures as figures
 
 -- an asking that is accepted gives its answer
-is_given_lem : {doc text : List ℕ} {c : Clock} {before after' : List ℕ} {r : code.Answered} → Asks doc text c before after' r → (a : Answered) → ask doc text c (length before) ≡ accepted a → IsGiven a before after' r
+is_given_lem : {doc text : List ℕ} {c : Clock} {before after' : List ℕ} {r : Result figures.Figures Refusal} → Asks doc text c before after' r → (a : Answered) → ask doc text c (length before) ≡ accepted a → IsGiven a before after' r
 is_given_lem {before} h a e = record { answer = h.is ∙ ap in_figures e; buffer = h.buffer ∙ ap (λ o. after o before) e }
 
 pub asks_below : {doc text lower : List ℕ} {c : Clock} {out out' other other' : List ℕ} {r : Pair} → Asks doc text c out out' r.first → Asks doc lower c other other' r.second → AsksBelow doc text lower c out out' other other' r

@@ -6,11 +6,13 @@ use Rattle.loaded.specs.Outside.{Asks}
 use Rattle.stages.specs.Figures.{Figures, answered_as, in_figures}
 use Rattle.query.specs.Authority.{Clock}
 use Rattle.text.specs.Refusal.{accepted}
-use Rattle.stages.specs.declared.answered.Answered as code
+use Rattle.std.specs.Prelude.{Result}
 use Rattle.pairs.specs.declared.two.Pair.{Pair}
+use Rattle.text.specs.declared.refusals.Refusal.{Refusal}
+use Rattle.stages.specs.declared.answered.Figures as figures
 
 -- the code's answer r is this answer, and it stands in the buffer
-pub record IsGiven (a : Answered) (before after' : List ℕ) (r : code.Answered) : Type 0 where
+pub record IsGiven (a : Answered) (before after' : List ℕ) (r : Result figures.Figures Refusal) : Type 0 where
   pub answer : answered_as r ≡ in_figures (accepted a)
   pub buffer : after' ≡ after (accepted a) before
 

@@ -7,7 +7,8 @@ use gate::asking::ask;
 use loaded::asks::ask_loaded;
 use loaded::cells::CELLS;
 use query::clock::Clock;
-use stages::answered::Answered;
+use stages::answered::Figures;
+use text::refusals::Refusal;
 use workspace::layout::{
     ATTRIBUTE_CELLS, COND_ROLE_CELLS, GRANT_CELLS, PURPOSE_CELLS, ROLE_CELLS, ROW_CELLS, SET_WORDS,
     TABLE_CELLS, USER_CELLS,
@@ -16,8 +17,8 @@ use workspace::layout::{
 // The answers of two documents.
 #[derive(Clone, Copy)]
 pub struct Pair {
-    pub first: Answered,
-    pub second: Answered,
+    pub first: Result<Figures, Refusal>,
+    pub second: Result<Figures, Refusal>,
 }
 
 // Asks two documents with one query and one clock, each into its own lent buffer.

@@ -12,7 +12,7 @@ ghost use Rattle.text.specs.Words.{is_called, word_at, word_of};
 
 use condition::kinds::Kind;
 use text::words::is_word;
-use workspace::found::{Found, find_name};
+use workspace::found::find_name;
 use workspace::layout::{ATTRIBUTE_CELLS, ATTRIBUTES};
 use workspace::store::{kind_by, kind_cell};
 
@@ -28,26 +28,23 @@ pub fn find_attribute(
     k: usize,
     line: &[u8],
     i: usize,
-) -> Found
+) -> Option<usize>
     ensures { ((xs : List Attribute) → Attributes text.now ws.now k xs → found_as result ≡ find_index (λ x. is_called (word_of line.now i) x.name) xs) × FoundBelow result (3 + k) }
 {
     if is_word(line, i, b"year") {
-        return Found::At(0);
+        return Some(0);
     }
     if is_word(line, i, b"day") {
-        return Found::At(1);
+        return Some(1);
     }
     if is_word(line, i, b"hour") {
-        return Found::At(2);
+        return Some(2);
     }
     if ATTRIBUTES < k {
-        return Found::Nothing;
+        return None;
     }
-    let f = find_name(text, ws, 0, k, line, i);
-    match f {
-        Found::At(n) => Found::At(3 + n),
-        Found::Nothing => Found::Nothing,
-    }
+    let n = find_name(text, ws, 0, k, line, i)?;
+    Some(3 + n)
 }
 
 // The type of attribute n.
@@ -65,17 +62,17 @@ pub fn attribute_kind(ws: &[usize; ATTRIBUTE_CELLS], k: usize, n: usize) -> Kind
 }
 
 // The role that attribute n is defined at: none for the clock's.
-pub fn attribute_role(ws: &[usize; ATTRIBUTE_CELLS], k: usize, n: usize) -> Found
+pub fn attribute_role(ws: &[usize; ATTRIBUTE_CELLS], k: usize, n: usize) -> Option<usize>
     ensures { (text : List ℕ) (xs : List Attribute) (a : Attribute) → Attributes text ws.now k xs → get_elem? xs n ≡ some a → found_as result ≡ a.role }
 {
     if n < 3 {
-        return Found::Nothing;
+        return None;
     }
     let j = n - 3;
     if ATTRIBUTES <= j {
-        return Found::Nothing;
+        return None;
     }
-    Found::At(ws[ROLE_AT + j])
+    Some(ws[ROLE_AT + j])
 }
 
 // One attribute more, where there is room.

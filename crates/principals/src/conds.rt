@@ -8,7 +8,7 @@ ghost use Rattle.lists.specs.Lists.{find_index};
 ghost use Rattle.text.specs.Words.{is_called, word_of};
 ghost use Rattle.principals.specs.Promises.{AddCondRolePromise, StoreCondRolePromise};
 
-use workspace::found::{Found, find_printed};
+use workspace::found::find_printed;
 use workspace::layout::{COND_ROLE_CELLS, COND_ROLES};
 
 // Where the roles, the starts and ends of the lines, the places in them, and the names' prints stand.
@@ -29,11 +29,11 @@ pub fn find_cond_role(
     k: usize,
     line: &[u8],
     i: usize,
-) -> Found
+) -> Option<usize>
     ensures { ((d : Policy) (cs : List CondRole) → CondRoles d text.now ws.now k cs → found_as result ≡ find_index (λ x. is_called (word_of line.now i) x.name) cs) × FoundBelow result k }
 {
     if COND_ROLES < k {
-        return Found::Nothing;
+        return None;
     }
     find_printed(text, ws, PRINT_AT, k, line, i)
 }

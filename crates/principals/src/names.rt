@@ -9,7 +9,7 @@ ghost use Rattle.purpose.specs.Compliance.{descends};
 ghost use Rattle.purpose.specs.Members.{limit};
 ghost use Rattle.text.specs.Words.{is_called, word_at, word_of};
 
-use workspace::found::{Found, same_length_name};
+use workspace::found::same_length_name;
 use workspace::hashes::hash_word;
 use workspace::layout::{PURPOSE_CELLS, PURPOSES, ROLE_CELLS, ROLES, SLOTS};
 use workspace::store::put;
@@ -17,7 +17,7 @@ use workspace::store::put;
 // What looking a name up gives: its number, if it is known; where the word ends, and its hash.
 #[derive(Clone, Copy)]
 pub struct Sought {
-    pub found: Found,
+    pub found: Option<usize>,
     pub end: usize,
     pub hash: usize,
 }
@@ -46,20 +46,18 @@ fn find_node(
     i: usize,
     len: usize,
     h: usize,
-) -> Found
+) -> Option<usize>
     requires { (k ≤ room) × (3 * room + slots ≤ length ws.now) × (h < slots) }
     ensures { ((ns : List Node) → Nodes room text.now ws.now k ns → len ≡ length (word_at line.now i) → h ≡ hash_of (word_at line.now i) → found_as result ≡ find_index (λ x. is_called (word_of line.now i) x.name) ns) × FoundBelow result k }
 {
-    let mut j = first_hashed(ws, room, k, h);
-    while j < k {
+    for j in first_hashed(ws, room, k, h)..k {
         if ws[2 * room + j] == h {
             if same_length_name(line, i, len, text, ws[j]) {
-                return Found::At(j);
+                return Some(j);
             }
         }
-        j += 1;
     }
-    Found::Nothing
+    None
 }
 
 // Looks the name at i of the line up among the first k, of which there is room for `room`: one walk over it, for its end and its hash.
@@ -91,7 +89,7 @@ pub fn seek_purpose(
     if PURPOSES < k {
         let w = hash_word(line, i);
         return Sought {
-            found: Found::Nothing,
+            found: None,
             end: w.end,
             hash: w.hash,
         };
@@ -106,7 +104,7 @@ pub fn find_purpose(
     k: usize,
     line: &[u8],
     i: usize,
-) -> Found
+) -> Option<usize>
     ensures { ((ns : List Node) → Nodes limit text.now ws.now k ns → found_as result ≡ find_index (λ x. is_called (word_of line.now i) x.name) ns) × FoundBelow result k }
 {
     let s = seek_purpose(text, ws, k, line, i);
@@ -114,11 +112,17 @@ pub fn find_purpose(
 }
 
 // The role of the name at i of the line, among the first k.
-pub fn find_role(text: &[u8], ws: &[usize; ROLE_CELLS], k: usize, line: &[u8], i: usize) -> Found
+pub fn find_role(
+    text: &[u8],
+    ws: &[usize; ROLE_CELLS],
+    k: usize,
+    line: &[u8],
+    i: usize,
+) -> Option<usize>
     ensures { ((ns : List Node) → Nodes 64 text.now ws.now k ns → found_as result ≡ find_index (λ x. is_called (word_of line.now i) x.name) ns) × FoundBelow result k }
 {
     if ROLES < k {
-        return Found::Nothing;
+        return None;
     }
     let s = seek_node(text, ws, ROLES, k, line, i);
     s.found

@@ -11,7 +11,7 @@ ghost use Rattle.principals.specs.Users.{Users, user_end_in, user_passes, user_p
 ghost use Rattle.lists.specs.Lists.{any_of, find_index};
 ghost use Rattle.text.specs.Words.{is_called, word_at, word_of};
 
-use workspace::found::{Found, find_printed, same_length_name};
+use workspace::found::{find_printed, same_length_name};
 use workspace::hashes::print_word;
 use workspace::layout::{USER_CELLS, USERS};
 use workspace::store::put;
@@ -47,24 +47,22 @@ pub fn find_user(
     line: &[u8],
     u: usize,
     role: usize,
-) -> Found
+) -> Option<usize>
     ensures { ((d : Policy) (us : List User) → Users d text.now ws.now k us → found_as result ≡ find_index (λ x. is_called (word_of line.now u) x.name && eqb x.role role) us) × FoundBelow result k }
 {
     if USERS < k {
-        return Found::Nothing;
+        return None;
     }
     let w = print_word(line, u);
     let e = w.end;
     let h = w.hash;
     let len = e - u;
-    let mut i = 0;
-    while i < k {
+    for i in 0..k {
         if is_user(text, ws, i, line, u, len, h, role) {
-            return Found::At(i);
+            return Some(i);
         }
-        i += 1;
     }
-    Found::Nothing
+    None
 }
 
 // Whether one of the first k user forms has the name at u of the line.
@@ -74,11 +72,7 @@ pub fn user_named(text: &[u8], ws: &[usize; USER_CELLS], k: usize, line: &[u8], 
     if USERS < k {
         return false;
     }
-    let found = find_printed(text, ws, 5 * USERS, k, line, u);
-    match found {
-        Found::At(_) => true,
-        Found::Nothing => false,
-    }
+    find_printed(text, ws, 5 * USERS, k, line, u).is_some()
 }
 
 // One user form more, behind k of them: its name stands at pos of the text and has the print h, its line stands from start to end, and

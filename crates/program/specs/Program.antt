@@ -5,7 +5,7 @@ use Rattle.std.proofs.lemmas.List.Edits.{sets}
 use Rattle.std.proofs.Math.Option.{some}
 use Rattle.condition.specs.Answers.{condition_by, numbered, read_to}
 use Rattle.condition.specs.CondForm.{Compared, Naming, plainly}
-use Rattle.condition.specs.declared.conditions.Read.{Read}
+use Rattle.std.specs.Prelude.{Option}
 use Rattle.text.specs.Reader.{Left, from}
 use Rattle.condition.specs.Cond.{Cond, Conds, both, comparisons, either, holds_two, last, more, negate, test}
 
@@ -44,12 +44,12 @@ comes_to f ts fs os m = eqb (run f 0 (branches_of ts fs os 0 m) 0) room
 -- what the code's answer r and the lists that it stored say of the condition at a position of the text s: where it ends and how
 -- many comparisons it has; and, where there is room for them, that running the program is evaluating the condition,
 -- whatever tells which comparisons hold under an even number of `not`s and under an odd one
-pub record ProgrammedBy (way : Naming) (s : List ℕ) (at : ℕ) (r : Read) (ts fs : List ℕ) (os : List Bool) : Type 0 where
+pub record ProgrammedBy (way : Naming) (s : List ℕ) (at : ℕ) (r : Option (ℕ × ℕ)) (ts fs : List ℕ) (os : List Bool) : Type 0 where
   pub reads : r ≡ read_to (condition_by way (from s at))
   pub runs : (c : Cond Compared) (l : Left) → condition_by way (from s at) ≡ some (c, l) → length (comparisons c) ≤ room → (f : Bool → ℕ → Bool) → comes_to f ts fs os (length (comparisons c)) ≡ holds_two (f false) (f true) (numbered 0 c)
 
 -- the same of the condition of a form
-abbrev pub Programmed : List ℕ → ℕ → Read → List ℕ → List ℕ → List Bool → Type 0
+abbrev pub Programmed : List ℕ → ℕ → Option (ℕ × ℕ) → List ℕ → List ℕ → List Bool → Type 0
 Programmed s at r ts fs os = ProgrammedBy plainly s at r ts fs os
 
 -- ---- for the functions that are not called from outside

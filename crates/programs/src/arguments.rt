@@ -20,8 +20,5 @@ pub fn is_given<R: Env>(rt: &R, i: usize) -> bool {
 pub fn read_argument<R: Env>(rt: &R, i: usize, buf: &mut [u8]) -> usize
     ensures { IsPrefixLen result buf.new }
 {
-    match rt.arg(i, buf) {
-        Ok(len) => len,
-        Err(_) => 0,
-    }
+    rt.arg(i, buf).unwrap_or(0)
 }

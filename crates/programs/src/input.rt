@@ -10,13 +10,6 @@ use crate::retry::is_made_again;
 use std::io;
 use std::io::{Eprint, ErrorKind, Read};
 
-// What became of reading a text: it has so many bytes, or an error was told on standard error.
-#[derive(Clone, Copy)]
-pub enum Loaded {
-    Text(usize),
-    Failed,
-}
-
 // One read, made again until it brings bytes, the end of the input or an error. A proved loop has to end: its turns are counted
 // down, from a number that no run uses up.
 pub fn read_some<I: Read>(input: &mut I, buf: &mut [u8]) -> io::Result<usize>
@@ -35,20 +28,25 @@ pub fn read_some<I: Read>(input: &mut I, buf: &mut [u8]) -> io::Result<usize>
 
 // Reads until the input ends or the buffer is full. A read that fails leaves no text: what came before may be cut anywhere. The name
 // is what standard error calls the input.
-pub fn read_all<R: Eprint, I: Read>(rt: &R, input: &mut I, name: &[u8], text: &mut [u8]) -> Loaded
+pub fn read_all<R: Eprint, I: Read>(
+    rt: &R,
+    input: &mut I,
+    name: &[u8],
+    text: &mut [u8],
+) -> Option<usize>
     ensures within { ReadsWithin text.new result }
     ensures bytes { ReadsFront (I.remaining input.old) text.new result }
 {
     let mut done = 0;
     while done < text.len() {
         match read_some(input, &mut text[done..]) {
-            Ok(0) => return Loaded::Text(done),
+            Ok(0) => return Some(done),
             Ok(n) => done += n,
             Err(e) => {
                 fail(rt, name, &e);
-                return Loaded::Failed;
+                return None;
             }
         }
     }
-    Loaded::Text(done)
+    Some(done)
 }

@@ -2,7 +2,7 @@
 ghost use Rattle.programs.specs.Input.{ReadsWithin};
 
 use crate::failures::fail;
-use crate::input::{Loaded, read_all};
+use crate::input::read_all;
 use std::fs;
 use std::io::{Eprint, ErrorKind};
 use std::rt::Files;
@@ -12,20 +12,17 @@ pub const ROOM: usize = 60001;
 
 // Reads policy.txt into the buffer. A file that does not exist is the empty text; one that can't be opened for another reason is an
 // error.
-pub fn load<R: Files + Eprint>(rt: &R, text: &mut [u8; ROOM]) -> Loaded
+pub fn load<R: Files + Eprint>(rt: &R, text: &mut [u8; ROOM]) -> Option<usize>
     ensures { ReadsWithin text.new result }
 {
     match fs::open(rt, "policy.txt") {
-        Ok(file) => {
-            let mut file = file;
-            read_all(rt, &mut file, b"policy.txt", text)
-        }
+        Ok(mut file) => read_all(rt, &mut file, b"policy.txt", text),
         Err(e) => {
             if e.kind() == ErrorKind::NotFound {
-                return Loaded::Text(0);
+                return Some(0);
             }
             fail(rt, b"policy.txt", &e);
-            Loaded::Failed
+            None
         }
     }
 }

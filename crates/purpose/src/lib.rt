@@ -20,13 +20,6 @@ pub struct Tree {
     pub count: usize,
 }
 
-// What growing a tree gives: whether it grew, and the tree.
-#[derive(Clone, Copy)]
-pub struct Growth {
-    pub ok: bool,
-    pub tree: Tree,
-}
-
 // The purposes that a label allows and denies, as bits.
 #[derive(Clone, Copy)]
 pub struct Label {
@@ -49,12 +42,6 @@ pub struct Closure {
     pub relatives: [u64; WORDS],
 }
 
-fn wide(x: u8) -> usize
-    ensures { result ≡ x }
-{
-    x as usize
-}
-
 // A tree with no purpose.
 pub fn no_purposes() -> Tree
     ensures { tree_held result ≡ [] }
@@ -73,8 +60,8 @@ pub fn size(t: Tree) -> usize
     if n < LIMIT { n } else { LIMIT }
 }
 
-// The tree with its first purpose; refused if it has one already.
-pub fn add_root(t: Tree) -> Growth
+// The tree with its first purpose; refused, as it was, if it has one already.
+pub fn add_root(t: Tree) -> Result<Tree, Tree>
     ensures { TreeGrows (eqb (length (tree_held t)) 0) 0 t result }
 {
     let n = t.count;
@@ -82,13 +69,13 @@ pub fn add_root(t: Tree) -> Growth
         let mut g = t;
         g.parents[0] = 0;
         g.count = 1;
-        return Growth { ok: true, tree: g };
+        return Ok(g);
     }
-    Growth { ok: false, tree: t }
+    Err(t)
 }
 
-// The tree with one purpose more below `parent`; refused if the tree is full or has no such purpose.
-pub fn add_child(t: Tree, parent: usize) -> Growth
+// The tree with one purpose more below `parent`; refused, as it was, if it is full or has no such purpose.
+pub fn add_child(t: Tree, parent: usize) -> Result<Tree, Tree>
     ensures { TreeGrows (ltb (length (tree_held t)) limit && in_tree (tree_held t) parent) parent t result }
 {
     let n = t.count;
@@ -97,30 +84,23 @@ pub fn add_child(t: Tree, parent: usize) -> Growth
             let mut g = t;
             g.parents[n] = parent as u8;
             g.count = n + 1;
-            return Growth { ok: true, tree: g };
+            return Ok(g);
         }
     }
-    Growth { ok: false, tree: t }
-}
-
-fn smaller(a: usize, b: usize) -> usize
-    ensures { result ≡ min a b }
-{
-    if a < b { a } else { b }
+    Err(t)
 }
 
 // The tree that `add_root` and then `add_child` for each further parent give, without a copy for each: what is refused is left out.
 pub fn tree_of(parents: &[usize], count: usize) -> Tree
     ensures { tree_held result ≡ tree_from (take count parents.now) }
 {
-    let m = smaller(count, parents.len());
+    let m = count.min(parents.len());
     if m == 0 {
         return no_purposes();
     }
     let mut ps = [0u8; LIMIT];
     let mut n: usize = 1;
-    let mut i: usize = 1;
-    while i < m {
+    for i in 1..m {
         let q = parents[i];
         if n < LIMIT {
             if q < n {
@@ -128,7 +108,6 @@ pub fn tree_of(parents: &[usize], count: usize) -> Tree
                 n += 1;
             }
         }
-        i += 1;
     }
     Tree {
         parents: ps,
@@ -173,12 +152,10 @@ pub fn insert(s: [u64; WORDS], p: usize) -> [u64; WORDS]
 pub fn meets(a: [u64; WORDS], b: [u64; WORDS]) -> bool
     ensures { result ≡ intersects (members a) (members b) }
 {
-    let mut k: usize = 0;
-    while k < WORDS {
+    for k in 0..WORDS {
         if a[k] & b[k] != 0 {
             return true;
         }
-        k += 1;
     }
     false
 }
@@ -188,10 +165,8 @@ pub fn unite(a: [u64; WORDS], b: [u64; WORDS]) -> [u64; WORDS]
     ensures { (i : ℕ) → member i (members result) ≡ (member i (members a) || member i (members b)) }
 {
     let mut r = a;
-    let mut k: usize = 0;
-    while k < WORDS {
+    for k in 0..WORDS {
         r[k] = r[k] | b[k];
-        k += 1;
     }
     r
 }
@@ -202,16 +177,14 @@ fn upward(t: Tree) -> [[u64; WORDS]; LIMIT]
 {
     let n = size(t);
     let mut up = [[0u64; WORDS]; LIMIT];
-    let mut i: usize = 0;
-    while i < n {
-        let q = wide(t.parents[i]);
+    for i in 0..n {
+        let q = t.parents[i] as usize;
         if q < i {
             let above = up[q];
             up[i] = insert(above, i);
         } else {
             up[i] = insert(no_members(), i);
         }
-        i += 1;
     }
     up
 }
@@ -221,15 +194,13 @@ fn relatives(up: &[[u64; WORDS]; LIMIT], n: usize, p: usize) -> [u64; WORDS]
     requires { (n ≤ limit) × (p < n) }
     ensures { (d : ℕ) → member d (members result) ≡ (member d (members (get_or up.now p [])) || (ltb d n && member p (members (get_or up.now d [])))) }
 {
-    let mut i: usize = 0;
     let mut r = up[p];
-    while i < n {
+    for i in 0..n {
         let s = up[i];
         if contains(s, p) {
             let more = insert(r, i);
             r = more;
         }
-        i += 1;
     }
     r
 }

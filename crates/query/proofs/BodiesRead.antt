@@ -24,16 +24,12 @@ use Rattle.text.specs.Bytes.{ascii}
 use Rattle.text.specs.Names.{same_name}
 use Rattle.text.specs.Reader.{Left, Reader, ◌>>=◌, from, give, whole}
 use Rattle.text.specs.Words.{Word, is_called, word_at}
-use Rattle.query.specs.declared.reading.Asked.TheVariants as asked
-use Rattle.query.specs.declared.reading.Body.{Body}
-use Rattle.query.specs.declared.reading.Body.TheVariants as body
+use Rattle.std.specs.Prelude as prelude
+use Rattle.std.specs.Prelude.{None, Some}
 use Rattle.query.specs.declared.reading.Head.{Head}
-use Rattle.query.specs.declared.reading.Headed.TheVariants as headed
-use Rattle.query.specs.declared.reading.Listed.TheVariants as listed
 use Rattle.query.specs.declared.reading.Question.{Question}
 use Rattle.query.specs.declared.reading.Test.{Test}
 use Rattle.query.specs.declared.reading.Test.TheVariants as test
-use Rattle.query.specs.declared.reading.Tested.TheVariants as tested
 use Rattle.query.specs.declared.reading.Verb.{Verb}
 use Rattle.query.specs.declared.reading.Verb.TheVariants as verb
 use Rattle.query.specs.declared.reading.Wanted.{Wanted}
@@ -49,36 +45,36 @@ rest B u r p t = do
   give (record { user = u; role = r; purpose = p; table = t; wanted = w; condition = c })
 
 module _ (s : List ℕ) {at : ℕ} where
-  pub body_headless : (B : Reader (form.Wanted Word)) → ReadsHead s at headed.Refused → ReadsBody s (query_body B (from s at)) body.Refused
+  pub body_headless : (B : Reader (form.Wanted Word)) → ReadsHead s at None → ReadsBody s (query_body B (from s at)) None
   unfolding query_body head_then head_to body_at BodyWithin
   body_headless B a = record { is = a.is (rest B); within = tt }
 
-  module _ {h : Head} {e : ℕ} (a : ReadsHead s at (headed.At h e)) where
-    pub rows_no_columns : (v : Verb) → ReadsColumns s e listed.Refused → ReadsBody s (query_body (wanted_rows (verb_of v)) (from s at)) body.Refused
+  module _ {h : Head} {e : ℕ} (a : ReadsHead s at (Some (h, e))) where
+    pub rows_no_columns : (v : Verb) → ReadsColumns s e None → ReadsBody s (query_body (wanted_rows (verb_of v)) (from s at)) None
     unfolding query_body wanted_rows head_then head_to listed_at body_at BodyWithin
     rows_no_columns v l = record { is = a.is (rest (wanted_rows (verb_of v))) ∙ rw l.is; within = tt }
 
-    pub count_wrong : ReadsTest s e tested.Refused → ReadsBody s (query_body (give counts_only) (from s at)) body.Refused
+    pub count_wrong : ReadsTest s e None → ReadsBody s (query_body (give counts_only) (from s at)) None
     unfolding query_body head_then head_to tested_at body_at BodyWithin
     count_wrong c = record { is = a.is (rest (give counts_only)) ∙ rw c.is; within = tt }
 
-    pub count_read_lem : {t : Test} {g : ℕ} → ReadsTest s e (tested.At t g) → ReadsBody s (query_body (give counts_only) (from s at)) (body.At (record { head = h; wanted = wanted.Count; test = t }) g)
+    pub count_read_lem : {t : Test} {g : ℕ} → ReadsTest s e (Some (t, g)) → ReadsBody s (query_body (give counts_only) (from s at)) (Some (record { head = h; wanted = wanted.Count; test = t }, g))
     unfolding query_body head_then head_to tested_at body_at form_at wanted_at BodyWithin WantedWithin HeadedWithin TestedWithin
     count_read_lem c = record { is = a.is (rest (give counts_only)) ∙ rw c.is; within = record { head = a.within; wanted = tt; test = c.within } }
 
-    module _ {p n f : ℕ} (l : ReadsColumns s e (listed.At p n f)) where
-      pub rows_wrong : (v : Verb) → ReadsTest s f tested.Refused → ReadsBody s (query_body (wanted_rows (verb_of v)) (from s at)) body.Refused
+    module _ {p n f : ℕ} (l : ReadsColumns s e (Some (p, n, f))) where
+      pub rows_wrong : (v : Verb) → ReadsTest s f None → ReadsBody s (query_body (wanted_rows (verb_of v)) (from s at)) None
       unfolding query_body wanted_rows head_then head_to listed_at tested_at body_at BodyWithin
       rows_wrong v c = record { is = a.is (rest (wanted_rows (verb_of v))) ∙ rw (l.is, c.is); within = tt }
 
-      pub rows_read : (v : Verb) {t : Test} {g : ℕ} → ReadsTest s f (tested.At t g)
-          → ReadsBody s (query_body (wanted_rows (verb_of v)) (from s at)) (body.At (record { head = h; wanted = wanted.Rows v p n; test = t }) g)
+      pub rows_read : (v : Verb) {t : Test} {g : ℕ} → ReadsTest s f (Some (t, g))
+          → ReadsBody s (query_body (wanted_rows (verb_of v)) (from s at)) (Some (record { head = h; wanted = wanted.Rows v p n; test = t }, g))
       unfolding query_body wanted_rows head_then head_to listed_at tested_at body_at form_at wanted_at BodyWithin WantedWithin HeadedWithin ListedWithin TestedWithin
       rows_read v c = record { is = a.is (rest (wanted_rows (verb_of v))) ∙ rw (l.is, c.is); within = record { head = a.within; wanted = l.within; test = c.within } }
 
 -- ---- the keyword
 
-module _ (s : List ℕ) (at : ℕ) {e : ℕ} (ends : e ≡ at + length (word_at s at)) {r : Body} where
+module _ (s : List ℕ) (at : ℕ) {e : ℕ} (ends : e ≡ at + length (word_at s at)) {r : prelude.Option (Question × ℕ)} where
   pub at_select : same_name (word_at s at) (ascii "select") ≡ true → ReadsBody s (query_body (wanted_rows (verb_of verb.Select)) (from s e)) r → ReadsBody s (keyword query_forms (from s at)) r
   unfolding query_forms among is_called verb_of
   at_select h b = record { is = rw (keyword_at query_forms s at e ends, h) b.is; within = b.within }
@@ -103,7 +99,7 @@ module _ (s : List ℕ) (at : ℕ) {e : ℕ} (ends : e ≡ at + length (word_at 
       at_possible m n b = record { is = rw (keyword_at query_forms s at e ends, h, k, l, m, n) b.is; within = b.within }
 
 pub at_none : (s : List ℕ) (at : ℕ) {e : ℕ} → e ≡ at + length (word_at s at) → same_name (word_at s at) (ascii "select") ≡ false → same_name (word_at s at) (ascii "count") ≡ false
-    → same_name (word_at s at) (ascii "blank") ≡ false → same_name (word_at s at) (ascii "sure") ≡ false → same_name (word_at s at) (ascii "possible") ≡ false → ReadsBody s (keyword query_forms (from s at)) body.Refused
+    → same_name (word_at s at) (ascii "blank") ≡ false → same_name (word_at s at) (ascii "sure") ≡ false → same_name (word_at s at) (ascii "possible") ≡ false → ReadsBody s (keyword query_forms (from s at)) None
 unfolding query_forms among is_called body_at BodyWithin
 at_none s at {e} ends h k l m n = record { is = rw (keyword_at query_forms s at e ends, h, k, l, m, n); within = tt }
 
@@ -223,34 +219,34 @@ module _ (s : List ℕ) where
   none_either true = refl
   none_either false = refl
 
-  pub query_long : 4096 < length s → ReadsQuery s asked.Wrong
+  pub query_long : 4096 < length s → ReadsQuery s None
   unfolding query_of ReadsQuery
   query_long h = rw (lt-leb (length s) 4096 h)
 
-  query_none : whole query_form s ≡ none → ReadsQuery s asked.Wrong
+  query_none : whole query_form s ≡ none → ReadsQuery s None
   unfolding query_of ReadsQuery bind
   query_none h = rw h (none_either (leb (length s) 4096))
 
-  pub query_shut : (get_or s 0 0 ≡ 40 → ⊥) → ReadsQuery s asked.Wrong
+  pub query_shut : (get_or s 0 0 ≡ 40 → ⊥) → ReadsQuery s None
   unfolding query_form
   query_shut h = query_none (whole_shut (keyword query_forms) s h)
 
   module _ (opens : get_or s 0 0 ≡ 40) where
-    pub query_wrong : ReadsBody s (keyword query_forms (from s 1)) body.Refused → ReadsQuery s asked.Wrong
+    pub query_wrong : ReadsBody s (keyword query_forms (from s 1)) None → ReadsQuery s None
     unfolding query_form body_at
     query_wrong b = query_none (whole_wrong (keyword query_forms) s opens b.is)
 
-    module _ {q : Question} {e : ℕ} (b : ReadsBody s (keyword query_forms (from s 1)) (body.At q e)) where
+    module _ {q : Question} {e : ℕ} (b : ReadsBody s (keyword query_forms (from s 1)) (Some (q, e))) where
       held : keyword query_forms (from s 1) ≡ map (λ x. (x, from s e)) (some (form_at s q))
       unfolding body_at
       held = b.is
 
-      pub query_open : (get_or s e 0 ≡ 41 → ⊥) → ReadsQuery s asked.Wrong
+      pub query_open : (get_or s e 0 ≡ 41 → ⊥) → ReadsQuery s None
       unfolding query_form
       query_open h = query_none (whole_open (keyword query_forms) s opens e (some (form_at s q)) held h)
 
       module _ (closes : get_or s e 0 ≡ 41) where
-        pub query_trailing : (e + 1 ≡ length s → ⊥) → ReadsQuery s asked.Wrong
+        pub query_trailing : (e + 1 ≡ length s → ⊥) → ReadsQuery s None
         unfolding query_form
         query_trailing h = query_none (whole_long (keyword query_forms) s opens e (some (form_at s q)) held closes h)
 
@@ -267,10 +263,10 @@ module _ (s : List ℕ) where
           unfolding bind
           bounds = ap (λ (o : Option QueryForm). bind o if_within_bounds) read ∙ form_bounds s q inside
 
-          pub query_read : length s ≤ 4096 → is_bounded q ≡ true → ReadsQuery s (asked.Query q)
+          pub query_read : length s ≤ 4096 → is_bounded q ≡ true → ReadsQuery s (Some q)
           unfolding query_of ReadsQuery
           query_read h k = record { is = rw (le-leb (length s) 4096 h, bounds, k); within = inside; few = bounded_few q k }
 
-          pub query_over : is_bounded q ≡ false → ReadsQuery s asked.Wrong
+          pub query_over : is_bounded q ≡ false → ReadsQuery s None
           unfolding query_of ReadsQuery
           query_over k = rw (bounds, k) (none_either (leb (length s) 4096))

@@ -22,7 +22,7 @@ use Rattle.query.specs.QueryPlaces.{IsQuery, TestWithin, chosen_count, compariso
 use Rattle.text.specs.Reader.{from}
 use Rattle.text.specs.Walking.{next_word, word_end_at}
 use Rattle.text.specs.Words.{Word, word_at, word_of}
-use Rattle.condition.specs.declared.conditions.Read.{Read}
+use Rattle.std.specs.Prelude.{Option}
 use Rattle.query.specs.declared.reading.Question.{Question}
 use Rattle.query.specs.declared.reading.Test.{Test}
 use Rattle.query.specs.declared.reading.Test.TheVariants as test
@@ -149,7 +149,7 @@ module _ (s : List ℕ) (k : ℕ) (before ops : List ℕ) where
   pub tested_always : {t : Test} → t ≡ test.Always → TestStored s t k k before before ops
   tested_always e = subst (λ v. TestStored s v k k before before ops) (sym e) none_stored
 
-module _ (s : List ℕ) {c : Read} {ops : List ℕ} where
+module _ (s : List ℕ) {c : Option (ℕ × ℕ)} {ops : List ℕ} where
   when_placed : (p n : ℕ) → Placed s p c ops → TestWithin s (test.When p n) → n ≤ 64 → TestsPlaced s (test.When p n) ops
   unfolding condition_at TestWithin comparison_count
   when_placed p n placed w f =

@@ -1,6 +1,6 @@
 -- The parts of a query as the code reads them: the head, the column bracket, the condition that may be absent. Each law gives what
 -- the code's answer promises, from what the calls before it told. Assumes nothing.
-use Prim.Native.Nat.{◌+◌, ◌<◌, ◌≤◌, suc, zero, ℕ}
+use Prim.Native.Nat.{◌+◌, ◌≤◌, suc, zero, ℕ}
 use lib.Dec.{eqb}
 use lib.ListN.{get_or, length}
 use mathlib.Core.Bool.{Bool, cond, false, true}
@@ -28,12 +28,8 @@ use Rattle.text.specs.Names.{is_name}
 use Rattle.text.specs.Reader.{from}
 use Rattle.text.specs.Walking.{word_end_at}
 use Rattle.text.specs.Words.{name, word_at, word_of}
-use Rattle.condition.specs.declared.conditions.Read.TheVariants as read
-use Rattle.query.specs.declared.reading.Headed.TheVariants as headed
-use Rattle.query.specs.declared.reading.Listed.TheVariants as listed
+use Rattle.std.specs.Prelude.{None, Some}
 use Rattle.query.specs.declared.reading.Test.TheVariants as test
-use Rattle.query.specs.declared.reading.Tested.TheVariants as tested
-use Rattle.text.specs.declared.words.End.TheVariants.{At, Nothing}
 
 -- ---- the head
 
@@ -42,26 +38,26 @@ abbrev pub Named : List ℕ → ℕ → ℕ → Type 0
 Named s at e = Behind name (word_of s (at + 1)) s at e
 
 module _ (s : List ℕ) {at : ℕ} where
-  pub head_wrong_1 : next name (from s at) ≡ none → ReadsHead s at headed.Refused
+  pub head_wrong_1 : next name (from s at) ≡ none → ReadsHead s at None
   unfolding head_then head_to HeadedWithin
   head_wrong_1 z = record { is = λ K. rw z; joins = λ K. rw z; within = tt }
 
   module _ {e : ℕ} (u : Named s at e) where
-    pub head_wrong_2 : next name (from s e) ≡ none → ReadsHead s at headed.Refused
+    pub head_wrong_2 : next name (from s e) ≡ none → ReadsHead s at None
     unfolding head_then head_to HeadedWithin
     head_wrong_2 z = record { is = λ K. rw (u.is, z); joins = λ K. rw (u.is, z); within = tt }
 
     module _ {f : ℕ} (r : Named s e f) where
-      pub head_wrong_3 : next name (from s f) ≡ none → ReadsHead s at headed.Refused
+      pub head_wrong_3 : next name (from s f) ≡ none → ReadsHead s at None
       unfolding head_then head_to HeadedWithin
       head_wrong_3 z = record { is = λ K. rw (u.is, r.is, z); joins = λ K. rw (u.is, r.is, z); within = tt }
 
       module _ {g : ℕ} (p : Named s f g) where
-        pub head_wrong_4 : next name (from s g) ≡ none → ReadsHead s at headed.Refused
+        pub head_wrong_4 : next name (from s g) ≡ none → ReadsHead s at None
         unfolding head_then head_to HeadedWithin
         head_wrong_4 z = record { is = λ K. rw (u.is, r.is, p.is, z); joins = λ K. rw (u.is, r.is, p.is, z); within = tt }
 
-        pub head_read : {h : ℕ} → Named s g h → ReadsHead s at (headed.At (record { user = at + 1; role = e + 1; purpose = f + 1; table = g + 1 }) h)
+        pub head_read : {h : ℕ} → Named s g h → ReadsHead s at (Some (record { user = at + 1; role = e + 1; purpose = f + 1; table = g + 1 }, h))
         unfolding head_then head_to HeadedWithin
         head_read t = record {
           is = λ K. rw (u.is, r.is, p.is, t.is);
@@ -103,31 +99,31 @@ module _ (s : List ℕ) where
 -- ---- the column bracket
 
 module _ (s : List ℕ) (at : ℕ) where
-  pub columns_no_space : (get_or s at 0 ≡ 32 → ⊥) → ReadsColumns s at listed.Refused
+  pub columns_no_space : (get_or s at 0 ≡ 32 → ⊥) → ReadsColumns s at None
   unfolding listed_at ListedWithin
   columns_no_space h = record { is = next_not column_list s at h; within = tt }
 
   module _ (space : get_or s at 0 ≡ 32) where
-    pub columns_shut : (get_or s (at + 1) 0 ≡ 40 → ⊥) → ReadsColumns s at listed.Refused
+    pub columns_shut : (get_or s (at + 1) 0 ≡ 40 → ⊥) → ReadsColumns s at None
     unfolding listed_at ListedWithin column_list bracketed
     columns_shut h = record { is = next_here column_list s at space ∙ rw (byte_at_refused s (at + 1) 40 h); within = tt }
 
     module _ (opens : get_or s (at + 1) 0 ≡ 40) where
-      pub columns_none : word_end (name (from s (at + 1 + 1))) ≡ Nothing → ReadsColumns s at listed.Refused
+      pub columns_none : word_end (name (from s (at + 1 + 1))) ≡ None → ReadsColumns s at None
       unfolding listed_at ListedWithin column_list bracketed
       columns_none h = record { is = next_here column_list s at space ∙ rw (byte_at_read s (at + 1) 40 opens, word_none s (at + 1 + 1) is_name h); within = tt }
 
-      module _ {e : ℕ} (first : word_end (name (from s (at + 1 + 1))) ≡ At e) where
-        pub columns_wrong : many name (from s e) ≡ none → ReadsColumns s at listed.Refused
+      module _ {e : ℕ} (first : word_end (name (from s (at + 1 + 1))) ≡ Some e) where
+        pub columns_wrong : many name (from s e) ≡ none → ReadsColumns s at None
         unfolding listed_at ListedWithin column_list bracketed
         columns_wrong h = record { is = next_here column_list s at space ∙ rw (byte_at_read s (at + 1) 40 opens, word_to s (at + 1 + 1) is_name e first, h); within = tt }
 
         module _ {f : ℕ} (rest : many name (from s e) ≡ some (names_at s e, from s f)) where
-          pub columns_open : (get_or s f 0 ≡ 41 → ⊥) → ReadsColumns s at listed.Refused
+          pub columns_open : (get_or s f 0 ≡ 41 → ⊥) → ReadsColumns s at None
           unfolding listed_at ListedWithin column_list bracketed
           columns_open h = record { is = next_here column_list s at space ∙ rw (byte_at_read s (at + 1) 40 opens, word_to s (at + 1 + 1) is_name e first, rest, byte_at_refused s f 41 h); within = tt }
 
-          pub columns_read : get_or s f 0 ≡ 41 → {n : ℕ} → n ≡ length (names_at s e) → ReadsColumns s at (listed.At (at + 1 + 1) (n + 1) (f + 1))
+          pub columns_read : get_or s f 0 ≡ 41 → {n : ℕ} → n ≡ length (names_at s e) → ReadsColumns s at (Some (at + 1 + 1, n + 1, f + 1))
           unfolding listed_at ListedWithin column_list bracketed selected_from word_end_at
           columns_read h {n} k =
               let q : e ≡ word_end_at s (at + 1 + 1) = (word_at_lem s (at + 1 + 1) is_name e first).1 in
@@ -145,16 +141,16 @@ module _ (s : List ℕ) (at : ℕ) where
 -- ---- the condition that may be absent
 
 module _ (s : List ℕ) (at : ℕ) where
-  pub test_absent : (get_or s at 0 ≡ 32 → ⊥) → ReadsTest s at (tested.At test.Always at)
+  pub test_absent : (get_or s at 0 ≡ 32 → ⊥) → ReadsTest s at (Some (test.Always, at))
   unfolding tested_at TestedWithin TestWithin condition_at
   test_absent h = record { is = optional_not condition_in_form s at h; within = tt }
 
   module _ (space : get_or s at 0 ≡ 32) where
-    pub test_wrong : read_to (condition_in_form (from s (at + 1))) ≡ read.Refused → ReadsTest s at tested.Refused
+    pub test_wrong : read_to (condition_in_form (from s (at + 1))) ≡ None → ReadsTest s at None
     unfolding tested_at TestedWithin
     test_wrong h = record { is = optional_here condition_in_form s at space ∙ rw (condition_none s (at + 1) h); within = tt }
 
-    pub test_read : {e n : ℕ} → read_to (condition_in_form (from s (at + 1))) ≡ read.At e n → ReadsTest s at (tested.At (test.When (at + 1) n) e)
+    pub test_read : {e n : ℕ} → read_to (condition_in_form (from s (at + 1))) ≡ Some (e, n) → ReadsTest s at (Some (test.When (at + 1) n, e))
     unfolding tested_at TestedWithin TestWithin condition_at there
     test_read {e} {n} h =
         let r = condition_at_lem s (at + 1) e n h in

@@ -20,7 +20,7 @@ use Rattle.text.specs.Numbers.{is_number}
 use Rattle.text.specs.Reader.{from}
 use Rattle.text.specs.Words.{is_called, name, word_at, word_that}
 use Rattle.query.specs.declared.why.Why.{Why}
-use Rattle.text.specs.declared.words.End.TheVariants.{At, Nothing}
+use Rattle.std.specs.Prelude.{None, Some}
 
 -- ---- the four words
 
@@ -40,11 +40,11 @@ module _ (s : List ℕ) (at : ℕ) where
       why_wrong_3 z = rw (p.is, t.is, next_not (word_that is_number) s f z)
 
       module _ (space : get_or s f 0 ≡ 32) where
-        pub why_wrong_4 : word_end (word_that is_number (from s (f + 1))) ≡ Nothing → why_body (from s at) ≡ none
+        pub why_wrong_4 : word_end (word_that is_number (from s (f + 1))) ≡ None → why_body (from s at) ≡ none
         unfolding why_body
         why_wrong_4 z = rw (p.is, t.is, next_here (word_that is_number) s f space, word_none s (f + 1) is_number z)
 
-        module _ {g : ℕ} (r : word_end (word_that is_number (from s (f + 1))) ≡ At g) where
+        module _ {g : ℕ} (r : word_end (word_that is_number (from s (f + 1))) ≡ Some g) where
           pub why_wrong_5 : next name (from s g) ≡ none → why_body (from s at) ≡ none
           unfolding why_body
           why_wrong_5 z = rw (p.is, t.is, next_here (word_that is_number) s f space, word_to s (f + 1) is_number g r, z)

@@ -10,15 +10,11 @@ use Rattle.query.specs.QueryForm.{QueryForm, column_list}
 use Rattle.text.specs.Brackets.{next, optional}
 use Rattle.text.specs.Reader.{Left, Reader, ◌>>=◌, from}
 use Rattle.text.specs.Words.{Word, name, word_of}
-use Rattle.query.specs.declared.reading.Body.{Body}
-use Rattle.query.specs.declared.reading.Body.TheVariants as body
-use Rattle.query.specs.declared.reading.Headed.{Headed}
-use Rattle.query.specs.declared.reading.Headed.TheVariants as headed
-use Rattle.query.specs.declared.reading.Listed.{Listed}
-use Rattle.query.specs.declared.reading.Listed.TheVariants as listed
+use Rattle.std.specs.Prelude as prelude
+use Rattle.std.specs.Prelude.{None, Some}
 use Rattle.query.specs.declared.reading.Question.{Question}
-use Rattle.query.specs.declared.reading.Tested.{Tested}
-use Rattle.query.specs.declared.reading.Tested.TheVariants as tested
+use Rattle.query.specs.declared.reading.Head.{Head}
+use Rattle.query.specs.declared.reading.Test.{Test}
 
 -- what comes behind the four words of a head
 abbrev pub AfterHead : Type 0 → Type 0
@@ -34,63 +30,63 @@ head_then K = do
   K u r p t
 
 -- the same by the code's answer for the four words
-unfoldable pub head_to : {A : Type 0} → List ℕ → AfterHead A → Headed → Option (A × Left)
-head_to s K headed.Refused = none
-head_to s K (headed.At h e) = K (word_of s h.user) (word_of s h.role) (word_of s h.purpose) (word_of s h.table) (from s e)
+unfoldable pub head_to : {A : Type 0} → List ℕ → AfterHead A → prelude.Option (Head × ℕ) → Option (A × Left)
+head_to s K None = none
+head_to s K (Some (h, e)) = K (word_of s h.user) (word_of s h.role) (word_of s h.purpose) (word_of s h.table) (from s e)
 
 -- their places lie in the text
-unfoldable pub HeadedWithin : List ℕ → Headed → Type 0
-HeadedWithin s headed.Refused = Unit {0}
-HeadedWithin s (headed.At h e) = HeadWithin s h
+unfoldable pub HeadedWithin : List ℕ → prelude.Option (Head × ℕ) → Type 0
+HeadedWithin s None = Unit {0}
+HeadedWithin s (Some (h, e)) = HeadWithin s h
 
 -- the code's answer r stands for the four words, whatever comes behind them, in a query of one table or in a join
-pub record ReadsHead (s : List ℕ) (at : ℕ) (r : Headed) : Type 0 where
+pub record ReadsHead (s : List ℕ) (at : ℕ) (r : prelude.Option (Head × ℕ)) : Type 0 where
   pub is : (K : AfterHead QueryForm) → head_then K (from s at) ≡ head_to s K r
   pub joins : (K : AfterHead JoinForm) → head_then K (from s at) ≡ head_to s K r
   pub within : HeadedWithin s r
 
 -- the columns of a select, by the code's answer
-unfoldable pub listed_at : List ℕ → Listed → Option (List Word × Left)
-listed_at s listed.Refused = none
-listed_at s (listed.At p n e) = some (selected_from s p, from s e)
+unfoldable pub listed_at : List ℕ → prelude.Option (ℕ × ℕ × ℕ) → Option (List Word × Left)
+listed_at s None = none
+listed_at s (Some (p, n, e)) = some (selected_from s p, from s e)
 
 -- their place and their number
-unfoldable pub ListedWithin : List ℕ → Listed → Type 0
-ListedWithin s listed.Refused = Unit {0}
-ListedWithin s (listed.At p n e) = Selects s p n
+unfoldable pub ListedWithin : List ℕ → prelude.Option (ℕ × ℕ × ℕ) → Type 0
+ListedWithin s None = Unit {0}
+ListedWithin s (Some (p, n, e)) = Selects s p n
 
 -- the code's answer r stands for the column bracket
-pub record ReadsColumns (s : List ℕ) (at : ℕ) (r : Listed) : Type 0 where
+pub record ReadsColumns (s : List ℕ) (at : ℕ) (r : prelude.Option (ℕ × ℕ × ℕ)) : Type 0 where
   pub is : next column_list (from s at) ≡ listed_at s r
   pub within : ListedWithin s r
 
 -- the condition that may be absent, by the code's answer
-unfoldable pub tested_at : List ℕ → Tested → Option (Option (Cond Compared) × Left)
-tested_at s tested.Refused = none
-tested_at s (tested.At t e) = some (condition_at s t, from s e)
+unfoldable pub tested_at : List ℕ → prelude.Option (Test × ℕ) → Option (Option (Cond Compared) × Left)
+tested_at s None = none
+tested_at s (Some (t, e)) = some (condition_at s t, from s e)
 
 -- its place and its number of comparisons
-unfoldable pub TestedWithin : List ℕ → Tested → Type 0
-TestedWithin s tested.Refused = Unit {0}
-TestedWithin s (tested.At t e) = TestWithin s t
+unfoldable pub TestedWithin : List ℕ → prelude.Option (Test × ℕ) → Type 0
+TestedWithin s None = Unit {0}
+TestedWithin s (Some (t, e)) = TestWithin s t
 
 -- the code's answer r stands for the condition that may be absent
-pub record ReadsTest (s : List ℕ) (at : ℕ) (r : Tested) : Type 0 where
+pub record ReadsTest (s : List ℕ) (at : ℕ) (r : prelude.Option (Test × ℕ)) : Type 0 where
   pub is : optional condition_in_form (from s at) ≡ tested_at s r
   pub within : TestedWithin s r
 
 -- what stands behind a keyword, by the code's answer
-unfoldable pub body_at : List ℕ → Body → Option (QueryForm × Left)
-body_at s body.Refused = none
-body_at s (body.At q e) = some (form_at s q, from s e)
+unfoldable pub body_at : List ℕ → prelude.Option (Question × ℕ) → Option (QueryForm × Left)
+body_at s None = none
+body_at s (Some (q, e)) = some (form_at s q, from s e)
 
 -- its places and numbers
-unfoldable pub BodyWithin : List ℕ → Body → Type 0
-BodyWithin s body.Refused = Unit {0}
-BodyWithin s (body.At q e) = Within s q
+unfoldable pub BodyWithin : List ℕ → prelude.Option (Question × ℕ) → Type 0
+BodyWithin s None = Unit {0}
+BodyWithin s (Some (q, e)) = Within s q
 
 -- the code's answer r stands for what a reader gives
-pub record ReadsBody (s : List ℕ) (o : Option (QueryForm × Left)) (r : Body) : Type 0 where
+pub record ReadsBody (s : List ℕ) (o : Option (QueryForm × Left)) (r : prelude.Option (Question × ℕ)) : Type 0 where
   pub is : o ≡ body_at s r
   pub within : BodyWithin s r
 

@@ -12,8 +12,8 @@ use Rattle.query.specs.QueryForm.{QueryForm, query_of}
 use Rattle.text.specs.Reader.{from}
 use Rattle.text.specs.Walking.{word_end_at}
 use Rattle.text.specs.Words.{Word, word_of}
-use Rattle.query.specs.declared.reading.Asked.{Asked}
-use Rattle.query.specs.declared.reading.Asked.TheVariants as asked
+use Rattle.std.specs.Prelude as prelude
+use Rattle.std.specs.Prelude.{None, Some}
 use Rattle.query.specs.declared.reading.Head.{Head}
 use Rattle.query.specs.declared.reading.Question.{Question}
 use Rattle.query.specs.declared.reading.Test.{Test}
@@ -121,6 +121,6 @@ pub record IsQuery (s : List ℕ) (q : Question) : Type 0 where
   pub few : Few q
 
 -- THE QUERY: the code's answer is the question that stands for the text's query, or says that the text is none
-unfoldable pub ReadsQuery : List ℕ → Asked → Type 0
-ReadsQuery s asked.Wrong = query_of s ≡ none
-ReadsQuery s (asked.Query q) = IsQuery s q
+unfoldable pub ReadsQuery : List ℕ → prelude.Option Question → Type 0
+ReadsQuery s None = query_of s ≡ none
+ReadsQuery s (Some q) = IsQuery s q

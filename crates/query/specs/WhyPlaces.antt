@@ -4,10 +4,8 @@ use Rattle.std.proofs.Math.Option.{Option, none, some}
 use Rattle.query.specs.WhyForm.{WhyForm}
 use Rattle.text.specs.Reader.{Left, from}
 use Rattle.text.specs.Words.{word_of}
-use Rattle.query.specs.declared.why.Body.{Body}
-use Rattle.query.specs.declared.why.Body.TheVariants as body
-use Rattle.query.specs.declared.why.Line.{Line}
-use Rattle.query.specs.declared.why.Line.TheVariants as line
+use Rattle.std.specs.Prelude as prelude
+use Rattle.std.specs.Prelude.{None, Some}
 use Rattle.query.specs.declared.why.Why.{Why}
 
 -- the line that the places stand for
@@ -15,11 +13,11 @@ unfoldable pub why_at : List ℕ → Why → WhyForm
 why_at s w = record { purpose = word_of s w.purpose; table = word_of s w.table; row = word_of s w.row; column = word_of s w.column }
 
 -- the same, if the text is one
-unfoldable pub why_line : List ℕ → Line → Option WhyForm
-why_line s line.Wrong = none
-why_line s (line.Is w) = some (why_at s w)
+unfoldable pub why_line : List ℕ → prelude.Option Why → Option WhyForm
+why_line s None = none
+why_line s (Some w) = some (why_at s w)
 
 -- what stands behind the keyword, by the code's answer
-unfoldable pub why_to : List ℕ → Body → Option (WhyForm × Left)
-why_to s body.Refused = none
-why_to s (body.At w e) = some (why_at s w, from s e)
+unfoldable pub why_to : List ℕ → prelude.Option (Why × ℕ) → Option (WhyForm × Left)
+why_to s None = none
+why_to s (Some (w, e)) = some (why_at s w, from s e)

@@ -43,9 +43,8 @@ fn store_wanted(s: &[u8], w: Wanted, out: &mut [usize]) -> usize
 fn store_compared(s: &[u8], ops: &[usize], n: usize, k: usize, out: &mut [usize]) -> usize
     ensures { ComparedStored s.now ops.now (length ops.now) n k result out.old out.new }
 {
-    let mut j = 0;
     let mut m = k;
-    while j < n {
+    for j in 0..n {
         if j >= ops.len() {
             return m;
         }
@@ -53,7 +52,6 @@ fn store_compared(s: &[u8], ops: &[usize], n: usize, k: usize, out: &mut [usize]
             return m;
         }
         out[m] = next_word(s, ops[j]);
-        j += 1;
         m += 1;
     }
     m

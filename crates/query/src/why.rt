@@ -9,8 +9,8 @@ ghost use Rattle.text.specs.Words.{word_that};
 
 use text::brackets::spaced_name_end;
 use text::bytes::byte_at;
-use text::numbers::{Number, read_number};
-use text::words::{End, is_word, word_end};
+use text::numbers::read_number;
+use text::words::{is_word, word_end};
 
 // `P T ROW COL`: where the four words stand.
 #[derive(Clone, Copy)]
@@ -21,55 +21,26 @@ pub struct Why {
     pub column: usize,
 }
 
-// What a line is read as.
-#[derive(Clone, Copy)]
-pub enum Line {
-    Wrong,
-    Is(Why),
-}
-
-// What stands behind the keyword, and where it ends.
-#[derive(Clone, Copy)]
-enum Body {
-    At(Why, usize),
-    Refused,
-}
-
 // The end of the number that stands at a position.
-fn number_end(s: &[u8], at: usize) -> End
+fn number_end(s: &[u8], at: usize) -> Option<usize>
     ensures { result ≡ word_end (word_that is_number (from s.now at)) }
 {
-    let k = read_number(s, at);
-    match k {
-        Number::At(e, _) => End::At(e),
-        Number::Nothing => End::Nothing,
-    }
+    let (e, _) = read_number(s, at)?;
+    Some(e)
 }
 
 // `P T ROW COL`, each behind a space.
-fn why_body(s: &[u8], at: usize) -> Body
+fn why_body(s: &[u8], at: usize) -> Option<(Why, usize)>
     ensures { why_body (from s.now at) ≡ why_to s.now result }
 {
-    let p = spaced_name_end(s, at);
-    let End::At(e) = p else {
-        return Body::Refused;
-    };
-    let t = spaced_name_end(s, e);
-    let End::At(f) = t else {
-        return Body::Refused;
-    };
+    let e = spaced_name_end(s, at)?;
+    let f = spaced_name_end(s, e)?;
     if byte_at(s, f) != b' ' {
-        return Body::Refused;
+        return None;
     }
-    let n = number_end(s, f + 1);
-    let End::At(g) = n else {
-        return Body::Refused;
-    };
-    let c = spaced_name_end(s, g);
-    let End::At(h) = c else {
-        return Body::Refused;
-    };
-    Body::At(
+    let g = number_end(s, f + 1)?;
+    let h = spaced_name_end(s, g)?;
+    Some((
         Why {
             purpose: at + 1,
             table: e + 1,
@@ -77,28 +48,25 @@ fn why_body(s: &[u8], at: usize) -> Body
             column: g + 1,
         },
         h,
-    )
+    ))
 }
 
 // The why line that a text is: one bracket with nothing behind it, of any length.
-pub fn read_why(s: &[u8]) -> Line
+pub fn read_why(s: &[u8]) -> Option<Why>
     ensures { why_of s.now ≡ why_line s.now result }
 {
     if byte_at(s, 0) != b'(' {
-        return Line::Wrong;
+        return None;
     }
     if !is_word(s, 1, b"why") {
-        return Line::Wrong;
+        return None;
     }
-    let b = why_body(s, word_end(s, 1));
-    let Body::At(w, e) = b else {
-        return Line::Wrong;
-    };
+    let (w, e) = why_body(s, word_end(s, 1))?;
     if byte_at(s, e) != b')' {
-        return Line::Wrong;
+        return None;
     }
     if e + 1 == s.len() {
-        return Line::Is(w);
+        return Some(w);
     }
-    Line::Wrong
+    None
 }

@@ -10,7 +10,6 @@ ghost use Rattle.resolving.specs.Joins.{KnowsTables, through};
 use crate::ranged::column_ranged;
 use relations::tables::table_width;
 use resolving::joins::{JOINED, TwoTables};
-use text::offending::Offending;
 use workspace::layout::{ROW_CELLS, TABLE_CELLS};
 
 // Whether a column of a join, by its number through both tables, has a range in one of the rows, of which there are count.
@@ -41,18 +40,16 @@ fn first_ranged_ref(
     words: &[usize; JOINED],
     n: usize,
     columns: &[usize; JOINED],
-) -> Offending
+) -> Option<usize>
     requires { n ≤ 82 }
     ensures { FirstRangedRefPromise text.now tables.now rows.now count p words.now n columns.now result }
 {
-    let mut i = 0;
-    while i < n {
+    for i in 0..n {
         if is_ref_ranged(text, tables, rows, count, p, columns[i]) {
-            return Offending::At(words[i]);
+            return Some(words[i]);
         }
-        i += 1;
     }
-    Offending::Nothing
+    None
 }
 
 // The first of the n columns of a join that has a range: a join takes none.
@@ -65,11 +62,11 @@ pub fn ranged_join(
     words: &[usize; JOINED],
     n: usize,
     columns: &[usize; JOINED],
-) -> Offending
+) -> Option<usize>
     ensures { RangedJoinPromise text.now tables.now rows.now count p words.now n columns.now result }
 {
     if JOINED < n {
-        return Offending::Nothing;
+        return None;
     }
     first_ranged_ref(text, tables, rows, count, p, words, n, columns)
 }

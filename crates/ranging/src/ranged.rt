@@ -11,7 +11,6 @@ use condition::ranges::is_range;
 use judging::cells::value_place;
 use relations::rows::{row_table, row_values};
 use resolving::columns::NAMED;
-use text::offending::Offending;
 use workspace::layout::ROW_CELLS;
 
 // Whether row r lies in table t and has a range in column c.
@@ -35,12 +34,10 @@ pub(crate) fn column_ranged(
 ) -> bool
     ensures { (rs : List Row) → Rows text.now rows.now count rs → result ≡ any_of (ranged_at c) (rows_in t rs) }
 {
-    let mut r = 0;
-    while r < count {
+    for r in 0..count {
         if row_ranged(text, rows, r, t, c) {
             return true;
         }
-        r += 1;
     }
     false
 }
@@ -54,23 +51,21 @@ fn first_ranged(
     places: &[usize],
     n: usize,
     columns: &[usize],
-) -> Offending
+) -> Option<usize>
     ensures { FirstRangedPromise text.now rows.now count t places.now n columns.now result }
 {
-    let mut i = 0;
-    while i < n {
+    for i in 0..n {
         if i >= places.len() {
-            return Offending::Nothing;
+            return None;
         }
         if i >= columns.len() {
-            return Offending::Nothing;
+            return None;
         }
         if column_ranged(text, rows, count, t, columns[i]) {
-            return Offending::At(places[i]);
+            return Some(places[i]);
         }
-        i += 1;
     }
-    Offending::Nothing
+    None
 }
 
 // The same where the query takes no ranges; one that takes them is not refused for them.
@@ -83,11 +78,11 @@ pub fn ranged_column(
     places: &[usize; NAMED],
     n: usize,
     columns: &[usize; NAMED],
-) -> Offending
+) -> Option<usize>
     ensures { RangedColumnPromise taken text.now rows.now count t places.now n columns.now result }
 {
     if taken {
-        return Offending::Nothing;
+        return None;
     }
     first_ranged(text, rows, count, t, places, n, columns)
 }

@@ -22,7 +22,7 @@ use Rattle.relations.proofs.LabelLaws.{element_none}
 use Rattle.text.specs.CodeEnds.{limited}
 use Rattle.text.specs.Offending.{leftmost, offending_if, unless}
 use Rattle.text.specs.Refusal.{Result, ◌>>=◌, ◌>>◌, accepted, need, pointing, query, refuse_at, refused}
-use Rattle.text.specs.declared.numbers.Amount.TheVariants as amount
+use Rattle.std.specs.Prelude.{None, Some}
 use Rattle.workspace.proofs.TabulatedLaws.{length_tabulated}
 
 -- a purpose below their number is in the tree
@@ -90,11 +90,11 @@ kept_few f (x ∷ xs) = go (f x) (kept_few f xs)
     go false h = omega (arith, h)
 
 -- a number that the code does not take counts no row
-pub no_row : (t : ℕ) (rs : List Row) → length rs ≤ 1024 → (o : Option ℕ) → limited o ≡ amount.Nothing → bind o (get_elem? (rows_in t rs)) ≡ none
+pub no_row : (t : ℕ) (rs : List Row) → length rs ≤ 1024 → (o : Option ℕ) → limited o ≡ None → bind o (get_elem? (rows_in t rs)) ≡ none
 unfolding bind rows_in
 no_row t rs few none h = refl
 no_row t rs few (some m) h = go (leb m (2 ^ 63)) refl h
   where
-    go : (b : Bool) → leb m (2 ^ 63) ≡ b → cond b (amount.Is m) amount.Nothing ≡ amount.Nothing → get_elem? (keep (λ (r : Row). eqb r.table t) rs) m ≡ none
+    go : (b : Bool) → leb m (2 ^ 63) ≡ b → cond b (Some m) None ≡ None → get_elem? (keep (λ (r : Row). eqb r.table t) rs) m ≡ none
     go true e k = let z : ◌≡◌ {A = ℕ} 0 1 = cc in absurd (omega arith)
     go false e k = element_none (keep (λ (r : Row). eqb r.table t) rs) m (omega (arith, leb-false m (2 ^ 63) e, few, kept_few (λ (r : Row). eqb r.table t) rs))

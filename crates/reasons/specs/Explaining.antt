@@ -21,8 +21,9 @@ use Rattle.text.specs.Words.{Word, word_at}
 use Rattle.index.specs.declared.counts.Counts.{Counts}
 use Rattle.reasons.specs.declared.explained.Cause.{Cause}
 use Rattle.reasons.specs.declared.explained.Cause.TheVariants as cause
-use Rattle.reasons.specs.declared.explained.Explained.{Explained}
-use Rattle.reasons.specs.declared.explained.Explained.TheVariants as explained
+use Rattle.std.specs.Prelude.{Err, Ok}
+use Rattle.text.specs.declared.refusals.Refusal.{Refusal}
+use Rattle.std.specs.Prelude as prelude
 
 -- the reason that the code's answer stands for: the name of a denied purpose stands at a position of the document
 unfoldable pub reason_of : List ℕ → Cause → Reason
@@ -32,9 +33,9 @@ reason_of text cause.NoneAllowed = allows_none
 reason_of text cause.Unlabelled = unlabelled_table
 
 -- the same, or a refusal
-unfoldable pub explained_as : List ℕ → Explained → Result Reason
-explained_as text (explained.Given x) = accepted (reason_of text x)
-explained_as text (explained.Refused r) = refused (refusal_of r)
+unfoldable pub explained_as : List ℕ → prelude.Result Cause Refusal → Result Reason
+explained_as text (Ok x) = accepted (reason_of text x)
+explained_as text (Err r) = refused (refusal_of r)
 
 -- the arrays hold the document d, as far as explaining goes: purposes ps, labels ls with their sets ms, tables ts, rows ws
 pub record Known (text ps ls ms ts ws : List ℕ) (c : Counts) (d : Doc) : Type 0 where

@@ -27,12 +27,11 @@ use Rattle.text.specs.Words.{word_at, word_of}
 use Rattle.workspace.specs.Found.{FoundBelow, found_as}
 use Rattle.index.specs.declared.counts.Counts.{Counts}
 use Rattle.reasons.specs.declared.explained.Cause.{Cause}
-use Rattle.reasons.specs.declared.explained.Explained.{Explained}
-use Rattle.text.specs.declared.offending.Offending.{Offending}
-use Rattle.workspace.specs.declared.found.Found.{Found}
+use Rattle.std.specs.Prelude.{Option, Result}
+use Rattle.text.specs.declared.refusals.Refusal.{Refusal}
 
 -- labels::first_near: the first of the names from a place on that is near
-abbrev pub FirstNearPromise : (text purposes : List ℕ) (k : ℕ) (closure : Closure) (at : ℕ) (r : Offending) → Type 0
+abbrev pub FirstNearPromise : (text purposes : List ℕ) (k : ℕ) (closure : Closure) (at : ℕ) (r : Option ℕ) → Type 0
 FirstNearPromise text purposes k closure at r =
     (d : Policy) (p : ℕ) → Nodes limit text purposes k d.purposes → ClosureOf (tree_of d.purposes) p closure → offending_of text r ≡ missing (λ w. not (is_near d p w)) (names_at text at)
 
@@ -43,7 +42,7 @@ LabelCausePromise text purposes labels sets c closure l r =
     in_tree (tree_of d.purposes) p ≡ true → ClosureOf (tree_of d.purposes) p closure → reason_of text r ≡ reason_at d p (some l)
 
 -- cells::meant_label: the label meant for cell c of row r of table t
-abbrev pub MeantLabelPromise : (tables rows : List ℕ) (t r c : ℕ) (f : Found) → Type 0
+abbrev pub MeantLabelPromise : (tables rows : List ℕ) (t r c : ℕ) (f : Option ℕ) → Type 0
 MeantLabelPromise tables rows t r c f =
     (d : Policy) (text : List ℕ) (k n : ℕ) (rs : List Row) (x : Row) → Tables text tables k d.tables → t < k → Rows text rows n rs → get_elem? rs r ≡ some x →
     found_as f ≡ label_meant (labelling_at d t) x.labels c
@@ -60,12 +59,12 @@ CellCausePromise text purposes labels sets tables rows c closure t r col x =
     reason_of text x ≡ cell_reason d.policy p (labelling_at d.policy t) y.labels col
 
 -- lines::row_sought: the row of table t that the word at a place of the line counts
-abbrev pub RowSoughtPromise : (rows : List ℕ) (count t : ℕ) (line : List ℕ) (row : ℕ) (x : Found) → Type 0
+abbrev pub RowSoughtPromise : (rows : List ℕ) (count t : ℕ) (line : List ℕ) (row : ℕ) (x : Option ℕ) → Type 0
 RowSoughtPromise rows count t line row x =
     ((text : List ℕ) (rs : List Row) → Rows text rows count rs → bind (found_as x) (get_elem? rs) ≡ bind (magnitude (word_at line row)) (get_elem? (rows_in t rs))) × FoundBelow x count
 
 -- lines::explain_row: the reason for a line whose purpose p, table t and column col are known
-abbrev pub ExplainRowPromise : (text purposes labels sets tables rows : List ℕ) (c : Counts) (line : List ℕ) (w : Why) (p t col : ℕ) (x : Explained) → Type 0
+abbrev pub ExplainRowPromise : (text purposes labels sets tables rows : List ℕ) (c : Counts) (line : List ℕ) (w : Why) (p t col : ℕ) (x : Result Cause Refusal) → Type 0
 ExplainRowPromise text purposes labels sets tables rows c line w p t col x =
     (d : Doc) → Known text purposes labels sets tables rows c d → p < c.purposes → t < c.tables →
     purpose_of d.policy (word_of line w.purpose) ≡ some p → table_of d.policy (word_of line w.table) ≡ some t → column_of (columns_at d.policy t) (word_of line w.column) ≡ some col →

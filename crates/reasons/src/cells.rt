@@ -17,47 +17,44 @@ use purpose::Closure;
 use relations::notes::is_public;
 use relations::rows::{row_label, row_labels, row_table};
 use relations::tables::{column_label, table_label, table_scheme, table_width};
-use workspace::found::Found;
 use workspace::layout::{LABELS, PURPOSE_CELLS, ROW_CELLS, SET_WORDS, TABLE_CELLS};
 
 // How many rows of table t are left to pass behind row r, of `left` before it; nothing where it is the one that is sought.
-fn pass_row(rows: &[usize; ROW_CELLS], r: usize, t: usize, left: usize) -> Found
+fn pass_row(rows: &[usize; ROW_CELLS], r: usize, t: usize, left: usize) -> Option<usize>
     ensures { r < 1024 → found_as result ≡ left_behind (eqb (get_or rows.now r 0) t) left }
 {
     if row_table(rows, r) != t {
-        return Found::At(left);
+        return Some(left);
     }
     if left == 0 {
-        return Found::Nothing;
+        return None;
     }
-    Found::At(left - 1)
+    Some(left - 1)
 }
 
 // The row of table t, among so many rows, before which n of its rows stand.
-pub(crate) fn nth_row(rows: &[usize; ROW_CELLS], count: usize, t: usize, n: usize) -> Found
+pub(crate) fn nth_row(rows: &[usize; ROW_CELLS], count: usize, t: usize, n: usize) -> Option<usize>
     ensures { ((text : List ℕ) (rs : List Row) → Rows text rows.now count rs → bind (found_as result) (get_elem? rs) ≡ get_elem? (rows_in t rs) n) × FoundBelow result count }
 {
-    let mut r: usize = 0;
     let mut left = n;
-    while r < count {
+    for r in 0..count {
         let x = pass_row(rows, r, t, left);
-        let Found::At(m) = x else {
-            return Found::At(r);
+        let Some(m) = x else {
+            return Some(r);
         };
         left = m;
-        r += 1;
     }
-    Found::Nothing
+    None
 }
 
 // Label m of row r, if the row has one.
-fn row_mark(rows: &[usize; ROW_CELLS], r: usize, m: usize) -> Found
+fn row_mark(rows: &[usize; ROW_CELLS], r: usize, m: usize) -> Option<usize>
     ensures { (text : List ℕ) (k : ℕ) (rs : List Row) (x : Row) → Rows text rows.now k rs → get_elem? rs r ≡ some x → found_as result ≡ get_elem? x.labels m }
 {
     if m < row_labels(rows, r) {
-        return Found::At(row_label(rows, r, m));
+        return Some(row_label(rows, r, m));
     }
-    Found::Nothing
+    None
 }
 
 // The label meant for cell c of row r of table t: the table's, the column's, the row's or the cell's, by scheme; none elsewhere.
@@ -67,22 +64,22 @@ fn meant_label(
     t: usize,
     r: usize,
     c: usize,
-) -> Found
+) -> Option<usize>
     ensures { MeantLabelPromise tables.now rows.now t r c result }
 {
     let scheme = table_scheme(tables, t);
     match scheme {
-        Scheme::Unlabelled => Found::Nothing,
-        Scheme::ByTable => Found::At(table_label(tables, t)),
+        Scheme::Unlabelled => None,
+        Scheme::ByTable => Some(table_label(tables, t)),
         Scheme::ByColumn => {
             if c < table_width(tables, t) {
-                return Found::At(column_label(tables, t, c));
+                return Some(column_label(tables, t, c));
             }
-            Found::Nothing
+            None
         }
         Scheme::ByRow => row_mark(rows, r, 0),
         Scheme::ByCell => row_mark(rows, r, c),
-        Scheme::Nested => Found::Nothing,
+        Scheme::Nested => None,
     }
 }
 
@@ -125,7 +122,7 @@ pub(crate) fn cell_cause(
     }
     let meant = meant_label(tables, rows, t, r, col);
     match meant {
-        Found::At(l) => label_cause(text, purposes, labels, sets, c, closure, l),
-        Found::Nothing => Cause::NoneAllowed,
+        Some(l) => label_cause(text, purposes, labels, sets, c, closure, l),
+        None => Cause::NoneAllowed,
     }
 }

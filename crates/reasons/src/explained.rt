@@ -18,19 +18,12 @@ pub enum Cause {
     Unlabelled,
 }
 
-// A reason, or a refusal.
-#[derive(Clone, Copy)]
-pub enum Explained {
-    Given(Cause),
-    Refused(Refusal),
-}
-
 // The refusal that hands back the word at a place of the line.
-pub(crate) fn refused_at(line: &[u8], reason: Reason, at: usize) -> Explained
+pub(crate) fn refused_at(line: &[u8], reason: Reason, at: usize) -> Result<Cause, Refusal>
     ensures { (text : List ℕ) → explained_as text result ≡ refused (pointing (reason_number reason) query (word_of line.now «at»)) }
 {
     let e = word_end(line, at);
-    Explained::Refused(Refusal {
+    Err(Refusal {
         reason,
         source: Source::Query,
         start: at,

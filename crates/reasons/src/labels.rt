@@ -12,21 +12,19 @@ use principals::names::find_purpose;
 use purpose::{Closure, contains};
 use relations::labels::{label_name, verdict_there};
 use text::bytes::byte_at;
-use text::offending::Offending;
 use text::words::word_end;
-use workspace::found::Found;
 use workspace::layout::{LABELS, PURPOSE_CELLS, SET_WORDS};
 
 // Whether a purpose that was looked up is ancestor or descendant of the one whose closure is given; one that is not known is neither.
-fn is_near(closure: Closure, f: Found) -> bool
+fn is_near(closure: Closure, f: Option<usize>) -> bool
     ensures { result ≡ holds_of (λ n. member n (members closure.relatives)) (found_as f) }
 {
     match f {
-        Found::At(n) => {
+        Some(n) => {
             let near = closure.relatives;
             contains(near, n)
         }
-        Found::Nothing => false,
+        None => false,
     }
 }
 
@@ -37,18 +35,18 @@ fn first_near(
     k: usize,
     closure: Closure,
     at: usize,
-) -> Offending
+) -> Option<usize>
     ensures { FirstNearPromise text.now purposes.now k closure «at» result }
 {
     let mut j = at;
     while byte_at(text, j) == b' ' {
         let w = j + 1;
         if is_near(closure, find_purpose(text, purposes, k, text, w)) {
-            return Offending::At(w);
+            return Some(w);
         }
         j = word_end(text, w);
     }
-    Offending::Nothing
+    None
 }
 
 // What label l says of the purpose whose closure is given: the first in the label's order that it denies and that is near counts. A label
@@ -68,7 +66,7 @@ pub(crate) fn label_cause(
         return Cause::NoneAllowed;
     }
     let place = deny_place(text, label_name(labels, l));
-    if let Offending::At(w) = first_near(text, purposes, c.purposes, closure, place) {
+    if let Some(w) = first_near(text, purposes, c.purposes, closure, place) {
         return Cause::Denied(w);
     }
     let v = verdict_there(closure, sets, c.labels, l);

@@ -7,26 +7,28 @@ ghost use Rattle.reasons.specs.Explaining.{Known, explain_line, explained_as};
 ghost use Rattle.reasons.specs.Promises.{ExplainRowPromise, RowSoughtPromise};
 
 use crate::cells::{cell_cause, nth_row};
-use crate::explained::{Explained, refused_at};
+use crate::explained::{Cause, refused_at};
 use authority::purposes::purpose_closure;
 use index::counts::Counts;
 use principals::names::find_purpose;
-use query::why::{Line, Why, read_why};
+use query::why::{Why, read_why};
 use relations::tables::{find_column, find_table, is_nested, table_scheme};
-use text::numbers::{Amount, magnitude_at};
+use text::numbers::magnitude_at;
 use text::refusals::{Reason, Refusal, Source};
-use workspace::found::Found;
 use workspace::layout::{LABELS, PURPOSE_CELLS, ROW_CELLS, SET_WORDS, TABLE_CELLS};
 
 // The row that the line's number counts in table t, among so many rows.
-fn row_sought(rows: &[usize; ROW_CELLS], count: usize, t: usize, line: &[u8], row: usize) -> Found
+fn row_sought(
+    rows: &[usize; ROW_CELLS],
+    count: usize,
+    t: usize,
+    line: &[u8],
+    row: usize,
+) -> Option<usize>
     ensures { RowSoughtPromise rows.now count t line.now row result }
 {
-    let m = magnitude_at(line, row);
-    match m {
-        Amount::Is(n) => nth_row(rows, count, t, n as usize),
-        Amount::Nothing => Found::Nothing,
-    }
+    let n = magnitude_at(line, row)?;
+    nth_row(rows, count, t, n as usize)
 }
 
 // The reason for a line whose purpose p, table t and column col are known: 24 and 26, and then the cell's.
@@ -43,18 +45,18 @@ fn explain_row(
     p: usize,
     t: usize,
     col: usize,
-) -> Explained
+) -> Result<Cause, Refusal>
     ensures { ExplainRowPromise text.now purposes.now labels.now sets.now tables.now rows.now c line.now w p t col result }
 {
     let row = row_sought(rows, c.rows, t, line, w.row);
-    let Found::At(r) = row else {
+    let Some(r) = row else {
         return refused_at(line, Reason::NoSuchRow, w.row);
     };
     if is_nested(table_scheme(tables, t)) {
         return refused_at(line, Reason::NestExplained, w.table);
     }
     let closure = purpose_closure(purposes, c.purposes, p);
-    Explained::Given(cell_cause(
+    Ok(cell_cause(
         text, purposes, labels, sets, tables, rows, c, closure, t, r, col,
     ))
 }
@@ -70,19 +72,19 @@ fn explain_words(
     c: Counts,
     line: &[u8],
     w: Why,
-) -> Explained
+) -> Result<Cause, Refusal>
     ensures { (d : Doc) → Known text.now purposes.now labels.now sets.now tables.now rows.now c d → explained_as text.now result ≡ explain d (why_at line.now w) }
 {
     let purpose = find_purpose(text, purposes, c.purposes, line, w.purpose);
-    let Found::At(p) = purpose else {
+    let Some(p) = purpose else {
         return refused_at(line, Reason::UnknownWhy, w.purpose);
     };
     let table = find_table(text, tables, c.tables, line, w.table);
-    let Found::At(t) = table else {
+    let Some(t) = table else {
         return refused_at(line, Reason::UnknownWhy, w.table);
     };
     let column = find_column(text, tables, t, line, w.column);
-    let Found::At(col) = column else {
+    let Some(col) = column else {
         return refused_at(line, Reason::UnknownWhy, w.column);
     };
     explain_row(
@@ -100,12 +102,12 @@ pub fn explain_line(
     rows: &[usize; ROW_CELLS],
     c: Counts,
     line: &[u8],
-) -> Explained
+) -> Result<Cause, Refusal>
     ensures { (d : Doc) → Known text.now purposes.now labels.now sets.now tables.now rows.now c d → explained_as text.now result ≡ explain_line d line.now }
 {
     let a = read_why(line);
-    let Line::Is(w) = a else {
-        return Explained::Refused(Refusal {
+    let Some(w) = a else {
+        return Err(Refusal {
             reason: Reason::NotAQuery,
             source: Source::Query,
             start: 0,

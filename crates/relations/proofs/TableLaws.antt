@@ -20,8 +20,8 @@ use Rattle.relations.proofs.NoteLaws.{notes_kept, notes_public, notes_strong, no
 use Rattle.relations.specs.Notes.{note_in}
 use Rattle.relations.specs.Tables.{ColumnStored, Cut, Filling, LabelNoted, PublicStored, TableAdded, Tables, column_count_in, column_in, column_kind_in, column_label_in, column_labels_in, scheme_by, scheme_in, scheme_of_cell, table_in, table_label_in}
 use Rattle.workspace.specs.Tabulated.{tabulated}
-use Rattle.workspace.specs.declared.found.Found.{Found}
-use Rattle.workspace.specs.declared.found.Found.TheVariants as found
+use Rattle.std.specs.Prelude as prelude
+use Rattle.std.specs.Prelude.{None, Some}
 use Rattle.form.specs.declared.lines.Scheme as coded
 use Rattle.workspace.proofs.CellLaws.{kept_3, kept_4}
 use Rattle.workspace.proofs.Finding.{found_first, found_from}
@@ -345,9 +345,9 @@ column_found text ws k t n ts w h l cut =
     found_from (is_called w) (λ x. x.name) text ws (column_in text ws t) n (32 + 16 * t) (tabulated (column_in text ws t) (get_or ws (24 + t) 0)) (λ i. refl)
     (ap (tabulated (column_in text ws t)) (cut.is (omega (arith, l, h.few)) (h.narrow t l)))
 
-pub below_wider : (r : Found) (n m : ℕ) → n ≤ m → FoundBelow r n → FoundBelow r m
-below_wider found.Nothing n m l b = tt
-below_wider (found.At i) n m l b = omega (arith, l, b)
+pub below_wider : (r : prelude.Option ℕ) (n m : ℕ) → n ≤ m → FoundBelow r n → FoundBelow r m
+below_wider None n m l b = tt
+below_wider (Some i) n m l b = omega (arith, l, b)
 
 -- ---- what stands at a table
 

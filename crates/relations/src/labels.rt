@@ -16,7 +16,7 @@ ghost use Rattle.text.specs.Words.{is_called, word_at, word_of};
 
 use purpose::{Closure, Verdict, WORDS, verdict_of};
 use text::words::word_end;
-use workspace::found::{Found, find_name_to};
+use workspace::found::find_name_to;
 use workspace::layout::{LABELS, SET_WORDS, VERDICTS};
 use workspace::store::put;
 
@@ -28,17 +28,23 @@ pub fn find_label_to(
     line: &[u8],
     u: usize,
     e: usize,
-) -> Found
+) -> Option<usize>
     ensures { ((sets : List ℕ) (ls : List Label) → e ≡ u + length (word_at line.now u) → Labels text.now ws.now sets k ls → found_as result ≡ find_index (λ x. is_called (word_of line.now u) x.name) ls) × FoundBelow result k }
 {
     if LABELS < k {
-        return Found::Nothing;
+        return None;
     }
     find_name_to(text, ws, 0, k, line, u, e)
 }
 
 // The label of the name at u of the line, among the first k.
-pub fn find_label(text: &[u8], ws: &[usize; LABELS], k: usize, line: &[u8], u: usize) -> Found
+pub fn find_label(
+    text: &[u8],
+    ws: &[usize; LABELS],
+    k: usize,
+    line: &[u8],
+    u: usize,
+) -> Option<usize>
     ensures { ((sets : List ℕ) (ls : List Label) → Labels text.now ws.now sets k ls → found_as result ≡ find_index (λ x. is_called (word_of line.now u) x.name) ls) × FoundBelow result k }
 {
     find_label_to(text, ws, k, line, u, word_end(line, u))
@@ -57,10 +63,8 @@ fn load_words(sets: &[u64], at: usize) -> [u64; WORDS]
     ensures { result ≡ take words (drop at sets.now) }
 {
     let mut r = [0u64; WORDS];
-    let mut w: usize = 0;
-    while w < WORDS {
+    for w in 0..WORDS {
         r[w] = sets[at + w];
-        w += 1;
     }
     r
 }
@@ -80,10 +84,8 @@ fn store_words(sets: &mut [u64], at: usize, s: [u64; WORDS])
     requires { at + words ≤ length sets.old }
     ensures { sets.new ≡ paste sets.old at s words }
 {
-    let mut w: usize = 0;
-    while w < WORDS {
+    for w in 0..WORDS {
         sets[at + w] = s[w];
-        w += 1;
     }
 }
 
@@ -153,12 +155,10 @@ fn fill_said(closure: Closure, sets: &[u64; SET_WORDS], k: usize, said: &mut [bo
     requires { 128 ≤ length said.old }
     ensures { (text ws : List ℕ) (d : Policy) (p : ℕ) → Labels text ws sets.now k d.labels → ClosureOf (tree_of d.purposes) p closure → Said d p said.new }
 {
-    let mut i = 0;
-    while i < LABELS {
+    for i in 0..LABELS {
         let v = verdict_there(closure, sets, k, i);
         said[i] = v.allowed;
         said[LABELS + i] = v.denied;
-        i += 1;
     }
 }
 
@@ -186,12 +186,12 @@ pub fn said_at(said: &[bool; VERDICTS], l: usize) -> Verdict
 }
 
 // What a label says that may be none, which says nothing.
-pub fn said_of(said: &[bool; VERDICTS], f: Found) -> Verdict
+pub fn said_of(said: &[bool; VERDICTS], f: Option<usize>) -> Verdict
     ensures { result ≡ verdict_for said.now (found_as f) }
 {
     match f {
-        Found::At(l) => said_at(said, l),
-        Found::Nothing => Verdict {
+        Some(l) => said_at(said, l),
+        None => Verdict {
             allowed: false,
             denied: false,
         },

@@ -7,7 +7,6 @@ ghost use Rattle.relations.specs.Notes.{label_of_cell, note_in, public_in};
 ghost use Rattle.relations.specs.Tables.{LabelNoted, PublicStored};
 ghost use Rattle.workspace.specs.Found.{found_as};
 
-use workspace::found::Found;
 use workspace::layout::{LABELS, TABLE_CELLS, TABLE_NOTES, TABLE_STRONG, TABLE_WEAK, TABLES};
 
 // Declares table t public.
@@ -31,33 +30,33 @@ pub fn is_public(ws: &[usize; TABLE_CELLS], t: usize) -> bool
 }
 
 // The label that a number of the array stands for.
-fn label_of_cell(n: usize) -> Found
+fn label_of_cell(n: usize) -> Option<usize>
     ensures { found_as result ≡ label_of_cell n }
 {
     if n == 0 {
-        return Found::Nothing;
+        return None;
     }
-    Found::At(n - 1)
+    Some(n - 1)
 }
 
 // The weak label of table t.
-pub fn weak_label(ws: &[usize; TABLE_CELLS], t: usize) -> Found
+pub fn weak_label(ws: &[usize; TABLE_CELLS], t: usize) -> Option<usize>
     ensures { t < 8 → found_as result ≡ label_of_cell (note_in ws.now 1 t) }
 {
     if t < TABLES {
         return label_of_cell(ws[TABLE_WEAK + t]);
     }
-    Found::Nothing
+    None
 }
 
 // The strong label of table t.
-pub fn strong_label(ws: &[usize; TABLE_CELLS], t: usize) -> Found
+pub fn strong_label(ws: &[usize; TABLE_CELLS], t: usize) -> Option<usize>
     ensures { t < 8 → found_as result ≡ label_of_cell (note_in ws.now 2 t) }
 {
     if t < TABLES {
         return label_of_cell(ws[TABLE_STRONG + t]);
     }
-    Found::Nothing
+    None
 }
 
 // Gives table t this weak label.

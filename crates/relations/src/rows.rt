@@ -107,12 +107,10 @@ pub fn row_label(ws: &[usize; ROW_CELLS], r: usize, m: usize) -> usize
 pub fn has_row(ws: &[usize; ROW_CELLS], count: usize, t: usize) -> bool
     ensures { (text : List ℕ) (rs : List Row) → Rows text ws.now count rs → result ≡ any_of (λ r. eqb r.table t) rs }
 {
-    let mut r: usize = 0;
-    while r < count {
+    for r in 0..count {
         if row_table(ws, r) == t {
             return true;
         }
-        r += 1;
     }
     false
 }

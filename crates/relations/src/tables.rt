@@ -14,7 +14,7 @@ ghost use Rattle.text.specs.Words.{is_called, word_at, word_of};
 use condition::kinds::Kind;
 use form::lines::Scheme;
 use text::words::word_end;
-use workspace::found::{Found, find_name, find_name_to};
+use workspace::found::{find_name, find_name_to};
 use workspace::layout::{
     COLUMN_KINDS, COLUMN_LABELS, COLUMN_NAMES, COLUMNS, TABLE_CELLS, TABLE_LABELS, TABLE_NOTES,
     TABLE_SCHEMES, TABLE_STRONG, TABLE_WEAK, TABLE_WIDTHS, TABLES,
@@ -114,45 +114,27 @@ pub fn table_scheme(ws: &[usize; TABLE_CELLS], t: usize) -> Scheme
 }
 
 // Whether a row of the scheme leads with a label for itself.
+#[tactic(auto, unfolding(form::specs::Form::leads_label, crate::specs::Tables::scheme_by))]
 pub fn leads_label(s: Scheme) -> bool
     ensures { (l : ℕ) (ls : List ℕ) → result ≡ leads_label (scheme_by s l ls) }
 {
-    match s {
-        Scheme::Unlabelled => false,
-        Scheme::ByTable => false,
-        Scheme::ByColumn => false,
-        Scheme::ByRow => true,
-        Scheme::ByCell => false,
-        Scheme::Nested => true,
-    }
+    matches!(s, Scheme::ByRow | Scheme::Nested)
 }
 
 // Whether a row of the scheme has each value in brackets with its label.
+#[tactic(auto, unfolding(form::specs::Form::has_brackets, crate::specs::Tables::scheme_by))]
 pub fn has_brackets(s: Scheme) -> bool
     ensures { (l : ℕ) (ls : List ℕ) → result ≡ has_brackets (scheme_by s l ls) }
 {
-    match s {
-        Scheme::Unlabelled => false,
-        Scheme::ByTable => false,
-        Scheme::ByColumn => false,
-        Scheme::ByRow => false,
-        Scheme::ByCell => true,
-        Scheme::Nested => true,
-    }
+    matches!(s, Scheme::ByCell | Scheme::Nested)
 }
 
 // Whether the scheme is nest.
+#[tactic(auto, unfolding(document::specs::NoteFaults::is_nested, crate::specs::Tables::scheme_by))]
 pub fn is_nested(s: Scheme) -> bool
     ensures { (l : ℕ) (ls : List ℕ) → result ≡ is_nested (scheme_by s l ls) }
 {
-    match s {
-        Scheme::Unlabelled => false,
-        Scheme::ByTable => false,
-        Scheme::ByColumn => false,
-        Scheme::ByRow => false,
-        Scheme::ByCell => false,
-        Scheme::Nested => true,
-    }
+    matches!(s, Scheme::Nested)
 }
 
 // The label of table t.
@@ -195,29 +177,41 @@ pub fn find_table_to(
     line: &[u8],
     i: usize,
     e: usize,
-) -> Found
+) -> Option<usize>
     ensures { ((ts : List Table) → e ≡ i + length (word_at line.now i) → Tables text.now ws.now k ts → found_as result ≡ find_index (λ x. is_called (word_of line.now i) x.name) ts) × FoundBelow result k }
 {
     if TABLES < k {
-        return Found::Nothing;
+        return None;
     }
     find_name_to(text, ws, 0, k, line, i, e)
 }
 
 // The table of the name at i of the line, among the first k.
-pub fn find_table(text: &[u8], ws: &[usize; TABLE_CELLS], k: usize, line: &[u8], i: usize) -> Found
+pub fn find_table(
+    text: &[u8],
+    ws: &[usize; TABLE_CELLS],
+    k: usize,
+    line: &[u8],
+    i: usize,
+) -> Option<usize>
     ensures { ((ts : List Table) → Tables text.now ws.now k ts → found_as result ≡ find_index (λ x. is_called (word_of line.now i) x.name) ts) × FoundBelow result k }
 {
     find_table_to(text, ws, k, line, i, word_end(line, i))
 }
 
 // The column of the name at i of the line, among those of table t.
-pub fn find_column(text: &[u8], ws: &[usize; TABLE_CELLS], t: usize, line: &[u8], i: usize) -> Found
+pub fn find_column(
+    text: &[u8],
+    ws: &[usize; TABLE_CELLS],
+    t: usize,
+    line: &[u8],
+    i: usize,
+) -> Option<usize>
     ensures { ((k : ℕ) (ts : List Table) → Tables text.now ws.now k ts → t < k → found_as result ≡ column_of (columns_in text.now ws.now t) (word_of line.now i)) × FoundBelow result 16 }
 {
     if t < TABLES {
         let n = table_width(ws, t);
         return find_name(text, ws, COLUMN_NAMES + COLUMNS * t, n, line, i);
     }
-    Found::Nothing
+    None
 }

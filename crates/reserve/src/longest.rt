@@ -49,10 +49,8 @@ fn longest(text: &[u8], rows: &[usize; ROW_CELLS], count: usize, k: usize) -> us
     ensures { (rs : List Row) → Rows text.now rows.now count rs → result ≡ greatest (whole_lengths rs k) }
 {
     let mut best = 0;
-    let mut t = 0;
-    while t < k {
+    for t in 0..k {
         best = larger(table_length(text, rows, count, t), best);
-        t += 1;
     }
     best
 }

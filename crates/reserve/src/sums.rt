@@ -33,10 +33,8 @@ fn values_length(text: &[u8], rows: &[usize; ROW_CELLS], r: usize, width: usize)
     ensures { (result ≡ length (spaced (tabulated (value_in text.now rows.now r) width))) × (result ≤ 960016) }
 {
     let mut sum = 0;
-    let mut c = 0;
-    while c < width {
+    for c in 0..width {
         sum += 1 + value_length(text, rows, r, c);
-        c += 1;
     }
     sum
 }
@@ -71,11 +69,9 @@ pub(crate) fn table_sum(text: &[u8], rows: &[usize; ROW_CELLS], count: usize, t:
     ensures { ((rs : List Row) → Rows text.now rows.now count rs → Sums (rows_in t rs) result) × (result.count ≤ 1024) × (result.bytes ≤ 1024 * 960022) }
 {
     let mut s = Sum { count: 0, bytes: 0 };
-    let mut r = 0;
-    while r < count {
+    for r in 0..count {
         let more = with_row(s, text, rows, r, t);
         s = more;
-        r += 1;
     }
     s
 }

@@ -17,7 +17,7 @@ use Rattle.resolving.specs.Resolved.{Resolves}
 use Rattle.text.proofs.OffendingLaws.{missing_here, missing_next, missing_nil}
 use Rattle.text.specs.Offending.{missing}
 use Rattle.text.specs.Words.{Word, word_of}
-use Rattle.text.specs.declared.offending.Offending.TheVariants as offending
+use Rattle.std.specs.Prelude.{None, Some}
 
 -- one of the columns has this name
 abbrev has : List Column → Word → Bool
@@ -36,7 +36,7 @@ pub record Resolving (cs : List Column) (s : List ℕ) (n : ℕ) (places numbers
   pub rest : missing (has cs) (words_at s n places) ≡ missing (has cs) (pending s n places i)
   pub front : take i numbers ≡ map (number cs) (words_at s i places)
 
-pub at_nothing : {p : ℕ} → offending.At p ≡ offending.Nothing → ⊥
+pub at_nothing : {p : ℕ} → Some p ≡ None → ⊥
 at_nothing e = let z : ◌≡◌ {A = ℕ} 0 1 = cc in omega arith
 
 module _ (cs : List Column) (s : List ℕ) (n : ℕ) (places numbers : List ℕ) where
@@ -69,7 +69,7 @@ module _ (cs : List Column) (s : List ℕ) (n : ℕ) (places numbers : List ℕ)
       }
 
       -- it names none
-      pub resolving_stop : none ≡ column_of cs (word_of s (get_or places i 0)) → Resolves cs s n places (offending.At (get_or places i 0)) numbers
+      pub resolving_stop : none ≡ column_of cs (word_of s (get_or places i 0)) → Resolves cs s n places (Some (get_or places i 0)) numbers
       unfolding there
       resolving_stop e = record {
         offends = sym (r.rest ∙ ap (missing (has cs)) (next l fits) ∙ missing_here (has cs) (word_of s (get_or places i 0)) (pending s n places (i + 1)) (ap there (sym e)));
@@ -77,7 +77,7 @@ module _ (cs : List Column) (s : List ℕ) (n : ℕ) (places numbers : List ℕ)
       }
 
     -- all words are resolved
-    pub resolving_done : i ≡ n → n ≤ length places → Resolves cs s n places offending.Nothing numbers
+    pub resolving_done : i ≡ n → n ≤ length places → Resolves cs s n places None numbers
     resolving_done e fits = record {
       offends = sym (r.rest ∙ ap (missing (has cs)) (ap (map (word_of s)) (ap (λ (j : ℕ). drop j (take n places)) (e ∙ sym (length-take-le n places fits)) ∙ drop-length (take n places))) ∙ missing_nil (has cs));
       numbered = λ h. subst (λ (j : ℕ). take j numbers ≡ map (number cs) (words_at s j places)) e r.front;

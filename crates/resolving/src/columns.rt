@@ -6,8 +6,6 @@ ghost use Rattle.relations.specs.Tables.{Tables};
 ghost use Rattle.resolving.specs.Resolved.{Resolves};
 
 use relations::tables::find_column;
-use text::offending::Offending;
-use workspace::found::Found;
 use workspace::layout::TABLE_CELLS;
 
 // How many words of a query can name columns: 16 that are selected, and one in each of 64 comparisons.
@@ -23,26 +21,24 @@ fn resolve_in(
     places: &[usize],
     n: usize,
     columns: &mut [usize],
-) -> Offending
+) -> Option<usize>
     ensures { (d : Policy) (k : ℕ) → Tables text.now tables.now k d.tables → t < k → n ≤ length places.now → n ≤ length columns.old → Resolves (columns_at d t) query.now n places.now result columns.new }
 {
-    let mut i = 0;
-    while i < n {
+    for i in 0..n {
         if i >= places.len() {
-            return Offending::Nothing;
+            return None;
         }
         if i >= columns.len() {
-            return Offending::Nothing;
+            return None;
         }
         let p = places[i];
         let c = find_column(text, tables, t, query, p);
-        let Found::At(m) = c else {
-            return Offending::At(p);
+        let Some(m) = c else {
+            return Some(p);
         };
         columns[i] = m;
-        i += 1;
     }
-    Offending::Nothing
+    None
 }
 
 // The same over arrays, which have room for all that a query names.
@@ -54,7 +50,7 @@ pub fn resolve_columns(
     places: &[usize; NAMED],
     n: usize,
     columns: &mut [usize; NAMED],
-) -> Offending
+) -> Option<usize>
     ensures { (d : Policy) (k : ℕ) → Tables text.now tables.now k d.tables → t < k → n ≤ 80 → Resolves (columns_at d t) query.now n places.now result columns.new }
 {
     resolve_in(text, tables, t, query, places, n, columns)

@@ -13,7 +13,6 @@ use crate::joins::{JOINED, TwoTables};
 use crate::openness::{column_open, table_open};
 use form::lines::Scheme;
 use relations::tables::{table_scheme, table_width};
-use text::offending::Offending;
 use workspace::layout::{TABLE_CELLS, VERDICTS};
 
 // Whether column c of table t is open: only labels by column close one.
@@ -60,18 +59,16 @@ fn first_closed_ref(
     words: &[usize; JOINED],
     n: usize,
     columns: &[usize; JOINED],
-) -> Offending
+) -> Option<usize>
     requires { n ≤ 82 }
     ensures { FirstClosedRefPromise tables.now p said.now words.now n columns.now result }
 {
-    let mut i = 0;
-    while i < n {
+    for i in 0..n {
         if !is_ref_open(tables, p, said, columns[i]) {
-            return Offending::At(words[i]);
+            return Some(words[i]);
         }
-        i += 1;
     }
-    Offending::Nothing
+    None
 }
 
 // The first of a join's tables and of its n columns that is closed.
@@ -82,17 +79,17 @@ pub fn closed_join(
     words: &[usize; JOINED],
     n: usize,
     columns: &[usize; JOINED],
-) -> Offending
+) -> Option<usize>
     ensures { ClosedJoinPromise tables.now p said.now words.now n columns.now result }
 {
     if !table_open(tables, p.first, said) {
-        return Offending::At(p.named);
+        return Some(p.named);
     }
     if !table_open(tables, p.second, said) {
-        return Offending::At(p.joined);
+        return Some(p.joined);
     }
     if JOINED < n {
-        return Offending::Nothing;
+        return None;
     }
     first_closed_ref(tables, p, said, words, n, columns)
 }

@@ -15,7 +15,6 @@ use form::lines::Scheme;
 use relations::labels::opened_at;
 use relations::notes::is_public;
 use relations::tables::{column_label, table_label, table_scheme, table_width};
-use text::offending::Offending;
 use workspace::layout::{TABLE_CELLS, VERDICTS};
 
 // Whether the table is open, as a whole: without labels it is where it is declared public.
@@ -56,23 +55,21 @@ fn first_closed(
     places: &[usize],
     n: usize,
     columns: &[usize],
-) -> Offending
+) -> Option<usize>
     ensures { FirstClosedPromise tables.now t said.now places.now n columns.now result }
 {
-    let mut i = 0;
-    while i < n {
+    for i in 0..n {
         if i >= places.len() {
-            return Offending::Nothing;
+            return None;
         }
         if i >= columns.len() {
-            return Offending::Nothing;
+            return None;
         }
         if !column_open(tables, t, said, columns[i]) {
-            return Offending::At(places[i]);
+            return Some(places[i]);
         }
-        i += 1;
     }
-    Offending::Nothing
+    None
 }
 
 // The first of the n named columns that is closed: only labels by column close one.
@@ -83,17 +80,17 @@ fn closed_column(
     places: &[usize],
     n: usize,
     columns: &[usize],
-) -> Offending
+) -> Option<usize>
     ensures { ClosedColumnPromise tables.now t said.now places.now n columns.now result }
 {
     let scheme = table_scheme(tables, t);
     match scheme {
-        Scheme::Unlabelled => Offending::Nothing,
-        Scheme::ByTable => Offending::Nothing,
+        Scheme::Unlabelled => None,
+        Scheme::ByTable => None,
         Scheme::ByColumn => first_closed(tables, t, said, places, n, columns),
-        Scheme::ByRow => Offending::Nothing,
-        Scheme::ByCell => Offending::Nothing,
-        Scheme::Nested => Offending::Nothing,
+        Scheme::ByRow => None,
+        Scheme::ByCell => None,
+        Scheme::Nested => None,
     }
 }
 
@@ -107,11 +104,11 @@ pub fn closed_part(
     places: &[usize; NAMED],
     n: usize,
     columns: &[usize; NAMED],
-) -> Offending
+) -> Option<usize>
     ensures { ClosedPartPromise tables.now t said.now query.now at places.now n columns.now result }
 {
     if !table_open(tables, t, said) {
-        return Offending::At(at);
+        return Some(at);
     }
     closed_column(tables, t, said, places, n, columns)
 }

@@ -10,19 +10,16 @@ use index::counts::Counts;
 use principals::names::{find_purpose, find_role};
 use principals::users::{find_user, user_named};
 use query::reading::Question;
-use workspace::found::Found;
 use workspace::layout::{PURPOSE_CELLS, ROLE_CELLS, USER_CELLS};
 
-// Who asks: the purpose and the user form by number; or the place of the first word that is unknown; or that no user form gives
-// the user the role.
+// Why nobody asks: the place of the first word that is unknown, or that no user form gives the user the role.
 #[derive(Clone, Copy)]
-pub enum Parties {
-    Known(usize, usize),
+pub enum PartyFault {
     Unknown(usize),
     NotGiven,
 }
 
-// The purpose of the query and the user form that gives its user its role, where the document knows them (12, 13).
+// Who asks: the purpose of the query and the user form that gives its user its role, by number, where the document knows them (12, 13).
 pub fn find_parties(
     text: &[u8],
     purposes: &[usize; PURPOSE_CELLS],
@@ -31,24 +28,24 @@ pub fn find_parties(
     c: Counts,
     query: &[u8],
     q: Question,
-) -> Parties
+) -> Result<(usize, usize), PartyFault>
     ensures { (d : Policy) → Nodes limit text.now purposes.now c.purposes d.purposes → Nodes 64 text.now roles.now c.roles d.roles → Users d text.now users.now c.users d.users → PartiesAre d query.now (form_at query.now q) c result }
 {
     let h = q.head;
     if !user_named(text, users, c.users, query, h.user) {
-        return Parties::Unknown(h.user);
+        return Err(PartyFault::Unknown(h.user));
     }
     let role = find_role(text, roles, c.roles, query, h.role);
-    let Found::At(r) = role else {
-        return Parties::Unknown(h.role);
+    let Some(r) = role else {
+        return Err(PartyFault::Unknown(h.role));
     };
     let purpose = find_purpose(text, purposes, c.purposes, query, h.purpose);
-    let Found::At(p) = purpose else {
-        return Parties::Unknown(h.purpose);
+    let Some(p) = purpose else {
+        return Err(PartyFault::Unknown(h.purpose));
     };
     let user = find_user(text, users, c.users, query, h.user, r);
-    match user {
-        Found::At(u) => Parties::Known(p, u),
-        Found::Nothing => Parties::NotGiven,
-    }
+    let Some(u) = user else {
+        return Err(PartyFault::NotGiven);
+    };
+    Ok((p, u))
 }

@@ -26,15 +26,12 @@ use Rattle.rows.specs.Promises.{DatesJudged, date_verdict}
 use Rattle.form.specs.Form.{Item, Scheme, row}
 use Rattle.stepping.specs.Judged.{ReachesBy, RoomFor, judged}
 use Rattle.stepping.specs.Places.{Near}
-use Rattle.stepping.specs.declared.fault.Verdict.{Verdict}
+use Rattle.std.specs.Prelude as prelude
+use Rattle.std.specs.Prelude.{None, Some, Result}
 use Rattle.relations.proofs.TableLaws.{scheme_read_lem, width_read}
 use Rattle.workspace.specs.Found.{FoundBelow, found_as}
 use Rattle.relations.specs.Tables.{Cut, Tables, column_count_in, column_label_in, column_labels_in, scheme_by, scheme_in, table_label_in}
 use Rattle.workspace.specs.Tabulated.{tabulated}
-use Rattle.workspace.specs.declared.found.Found.{Found}
-use Rattle.workspace.specs.declared.found.Found.TheVariants as found
-use Rattle.text.specs.declared.offending.Offending.{Offending}
-use Rattle.text.specs.declared.offending.Offending.TheVariants as offending
 use Rattle.form.specs.declared.lines.Scheme as coded
 use Rattle.lists.proofs.ListLaws.{holds_of_some}
 use Rattle.lists.specs.Lists.{or_zero, there}
@@ -43,10 +40,11 @@ use Rattle.text.specs.CodeEnds.{offending_of, offending_value}
 use Rattle.text.specs.Offending.{leftmost, missing, unless}
 use Rattle.text.specs.Refusal.{accepted, document, pointing, pointing_all, refused}
 use Rattle.text.specs.Words.{Word, word_of, written_of}
+use Rattle.stepping.specs.declared.fault.Fault.{Fault}
 
 -- a number that was found is below k
-below_at_lem : (r : Found) (x k : ℕ) → r ≡ found.At x → FoundBelow r k → x < k
-below_at_lem r x k e b = subst (λ (f : Found). FoundBelow f k) e b
+below_at_lem : (r : prelude.Option ℕ) (x k : ℕ) → r ≡ Some x → FoundBelow r k → x < k
+below_at_lem r x k e b = subst (λ (f : prelude.Option ℕ). FoundBelow f k) e b
 
 module _ (d : Doc) (line : List ℕ) (w : Word) (is : List Item) (k : ℕ) (counted : k ≡ length d.rows) where
   pub row_over : 1024 ≤ k → check_form d line (row w is) ≡ refused (pointing_all 3 document line)
@@ -139,9 +137,9 @@ module _ (d : Doc) (line : List ℕ) (w : Word) (is : List Item) (k : ℕ) (coun
 
 -- what is read of the labels and of the values by the scheme of the table of number x
 module _ (text tables line : List ℕ) (n k t : ℕ) (is : List Item) (d : Doc) (h : Tables text tables n d.policy.tables) (counted : k ≡ length d.rows) (room : k < 1024)
-    (r : Found) (lookup : found_as r ≡ table_of d.policy (word_of line t)) (below : FoundBelow r n) (x : ℕ) (told : r ≡ found.At x)
+    (r : prelude.Option ℕ) (lookup : found_as r ≡ table_of d.policy (word_of line t)) (below : FoundBelow r n) (x : ℕ) (told : r ≡ Some x)
     (s : coded.Scheme) (reads : x < 8 → scheme_in tables x ≡ scheme_by s (table_label_in tables x) (column_labels_in tables x))
-    (u : Offending) (label : (l : ℕ) (ls : List ℕ) → offending_of line u ≡ missing (λ w. there (label_of d.policy w)) (row_labels (scheme_by s l ls) is)) where
+    (u : prelude.Option ℕ) (label : (l : ℕ) (ls : List ℕ) → offending_of line u ≡ missing (λ w. there (label_of d.policy w)) (row_labels (scheme_by s l ls) is)) where
   abbrev scheme_read : Scheme ℕ
   scheme_read = scheme_by s (table_label_in tables x) (tabulated (column_label_in tables x) (length (columns_at d.policy x)))
 
@@ -157,10 +155,10 @@ module _ (text tables line : List ℕ) (n k t : ℕ) (is : List Item) (d : Doc) 
   label_is : offending_of line u ≡ missing (λ w. there (label_of d.policy w)) (row_labels scheme_read is)
   label_is = label (table_label_in tables x) (tabulated (column_label_in tables x) (length (columns_at d.policy x)))
 
-  pub found_unknown : (p : ℕ) → u ≡ offending.At p → check_form d line (row (word_of line t) is) ≡ refused (pointing 5 document (word_of line p))
+  pub found_unknown : (p : ℕ) → u ≡ Some p → check_form d line (row (word_of line t) is) ≡ refused (pointing 5 document (word_of line p))
   found_unknown p e = row_unknown d line (word_of line t) is k counted room x table_is scheme_read scheme_of_lem (word_of line p) (sym label_is ∙ ap (offending_of line) e)
 
-  module _ (none_unknown : u ≡ offending.Nothing) (width : ℕ) (wide : Cut 16 x 8 (column_count_in tables x) width)
+  module _ (none_unknown : u ≡ None) (width : ℕ) (wide : Cut 16 x 8 (column_count_in tables x) width)
       (b : Bool) (fits : (l : ℕ) (ls : List ℕ) → b ≡ width_fits width (row_values (scheme_by s l ls) is)) where
     labelled_all : missing (λ w. there (label_of d.policy w)) (row_labels scheme_read is) ≡ none
     labelled_all = sym label_is ∙ ap (offending_of line) none_unknown
@@ -174,7 +172,7 @@ module _ (text tables line : List ℕ) (n k t : ℕ) (is : List Item) (d : Doc) 
     found_misfit e = row_misfit d line (word_of line t) is k counted room x table_is scheme_read scheme_of_lem labelled_all (fits_is ∙ e)
 
     module _ (fit : b ≡ true) (start : ℕ) (values : (l : ℕ) (ls : List ℕ) (ws : List Word) → row_values (scheme_by s l ls) is ≡ some ws → values_at line start ≡ ws)
-        (m : Offending) (types : x < n → offending_value line m ≡ mistyped_value (columns_at d.policy x) (values_at line start)) where
+        (m : prelude.Option ℕ) (types : x < n → offending_value line m ≡ mistyped_value (columns_at d.policy x) (values_at line start)) where
       found_values : (ws : List Word) × (row_values scheme_read is ≡ some ws) × (eqb (length ws) (length (columns_at d.policy x)) ≡ true)
       found_values = holds_of_some (λ ws. eqb (length ws) (length (columns_at d.policy x))) (row_values scheme_read is) (fits_is ∙ fit)
 
@@ -184,45 +182,45 @@ module _ (text tables line : List ℕ) (n k t : ℕ) (is : List Item) (d : Doc) 
       types_of : offending_value line m ≡ mistyped_value (columns_at d.policy x) found_values.0
       types_of = types inside ∙ ap (mistyped_value (columns_at d.policy x)) values_are
 
-      pub found_mistyped : (p : ℕ) → m ≡ offending.At p → check_form d line (row (word_of line t) is) ≡ refused (pointing 8 document (written_of line p))
+      pub found_mistyped : (p : ℕ) → m ≡ Some p → check_form d line (row (word_of line t) is) ≡ refused (pointing 8 document (written_of line p))
       found_mistyped p e =
           row_mistyped d line (word_of line t) is k counted room x table_is scheme_read scheme_of_lem labelled_all (fits_is ∙ fit) found_values.0 found_values.1 (written_of line p)
           (sym types_of ∙ ap (offending_value line) e)
 
-      module _ (none_mistyped : m ≡ offending.Nothing) (o : Offending) (order : offending_value line o ≡ first_broken (values_at line start)) where
+      module _ (none_mistyped : m ≡ None) (o : prelude.Option ℕ) (order : offending_value line o ≡ first_broken (values_at line start)) where
         order_of : offending_value line o ≡ first_broken found_values.0
         order_of = order ∙ ap first_broken values_are
 
         typed_all : mistyped_value (columns_at d.policy x) found_values.0 ≡ none
         typed_all = sym types_of ∙ ap (offending_value line) none_mistyped
 
-        pub found_broken : (p : ℕ) → o ≡ offending.At p → check_form d line (row (word_of line t) is) ≡ refused (pointing 28 document (written_of line p))
+        pub found_broken : (p : ℕ) → o ≡ Some p → check_form d line (row (word_of line t) is) ≡ refused (pointing 28 document (written_of line p))
         found_broken p e =
             row_broken d line (word_of line t) is k counted room x table_is scheme_read scheme_of_lem labelled_all (fits_is ∙ fit) found_values.0 found_values.1 typed_all (written_of line p)
             (sym order_of ∙ ap (offending_value line) e)
 
-        pub found_dated : o ≡ offending.Nothing → (r : Verdict) → DatesJudged line start r → check_form d line (row (word_of line t) is) ≡ judged d line (row (word_of line t) is) r
+        pub found_dated : o ≡ None → (r : Result (Unit {0}) Fault) → DatesJudged line start r → check_form d line (row (word_of line t) is) ≡ judged d line (row (word_of line t) is) r
         found_dated e r j = go j.absent (sym (j.is ∙ ap first_unreal values_are)) ∙ ap (judged d line (row (word_of line t) is)) (sym j.told)
           where
-            go : (q : Offending) → first_unreal found_values.0 ≡ offending_value line q → check_form d line (row (word_of line t) is) ≡ judged d line (row (word_of line t) is) (date_verdict q)
-            go (offending.At p) is_at =
+            go : (q : prelude.Option ℕ) → first_unreal found_values.0 ≡ offending_value line q → check_form d line (row (word_of line t) is) ≡ judged d line (row (word_of line t) is) (date_verdict q)
+            go (Some p) is_at =
                 row_unreal d line (word_of line t) is k counted room x table_is scheme_read scheme_of_lem labelled_all (fits_is ∙ fit) found_values.0 found_values.1 typed_all
                 (sym order_of ∙ ap (offending_value line) e) (written_of line p) is_at
-            go offending.Nothing is_none =
+            go None is_none =
                 row_fine d line (word_of line t) is k counted room x table_is scheme_read scheme_of_lem labelled_all (fits_is ∙ fit) found_values.0 found_values.1 typed_all
                 (sym order_of ∙ ap (offending_value line) e) is_none
 
 -- where the dates alone are to be judged: there is room if there was, and what is refused stands in the line
-pub dated_roomy : (line : List ℕ) (at : ℕ) (r : Verdict) (k room : ℕ) → DatesJudged line at r → k < room → RoomFor r k room
-dated_roomy line at r k room j l = subst (λ (v : Verdict). RoomFor v k room) (sym j.told) (go j.absent)
+pub dated_roomy : (line : List ℕ) (at : ℕ) (r : Result (Unit {0}) Fault) (k room : ℕ) → DatesJudged line at r → k < room → RoomFor r k room
+dated_roomy line at r k room j l = subst (λ (v : Result (Unit {0}) Fault). RoomFor v k room) (sym j.told) (go j.absent)
   where
-    go : (q : Offending) → RoomFor (date_verdict q) k room
-    go (offending.At p) = tt
-    go offending.Nothing = l
+    go : (q : prelude.Option ℕ) → RoomFor (date_verdict q) k room
+    go (Some p) = tt
+    go None = l
 
-pub dated_reaches : (line : List ℕ) (at : ℕ) (r : Verdict) → DatesJudged line at r → ReachesBy line r
+pub dated_reaches : (line : List ℕ) (at : ℕ) (r : Result (Unit {0}) Fault) → DatesJudged line at r → ReachesBy line r
 dated_reaches line at r j = subst (ReachesBy line) (sym j.told) (go j.absent j.near)
   where
-    go : (q : Offending) → Near line q → ReachesBy line (date_verdict q)
-    go (offending.At p) n = n
-    go offending.Nothing n = tt
+    go : (q : prelude.Option ℕ) → Near line q → ReachesBy line (date_verdict q)
+    go (Some p) n = n
+    go None n = tt

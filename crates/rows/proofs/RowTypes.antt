@@ -11,7 +11,6 @@ use Rattle.calendar.proofs.DateValues.{written_date}
 use Rattle.calendar.specs.Calendar.{Date, date_rank, day_number, day_of_date, exists, pair_rank}
 use Rattle.calendar.specs.DateText.{date_of, date_text, is_date}
 use Rattle.calendar.specs.Found.{date_read_of, ranked_at}
-use Rattle.calendar.specs.declared.reading.DateRead.TheVariants as date_read
 use Rattle.condition.specs.Kinds.{Kind, dates, has_kind, names, numbers}
 use Rattle.document.specs.AmountFaults.{date_exists, in_order}
 use Rattle.document.specs.TypeFaults.{cell_has_kind}
@@ -26,7 +25,10 @@ use Rattle.text.specs.Names.{is_name}
 use Rattle.text.specs.Numbers.{is_number, is_value}
 use Rattle.text.specs.Reader.{Left, from}
 use Rattle.text.specs.Words.{word_at, written_at}
-use Rattle.text.specs.declared.amounts.Span.TheVariants as span
+use Rattle.lists.proofs.PairLaws.{pair_same, triple_same}
+use Rattle.std.proofs.lemmas.Option.{none-some}
+use Rattle.std.specs.Prelude as prelude
+use Rattle.std.specs.Prelude.{None, Some}
 
 or-false : (b : Bool) → b ≡ (b || false)
 or-false true = refl
@@ -56,23 +58,20 @@ module _ (s : List ℕ) (at : ℕ) where
   bracket_date = refl
 
   -- a range by the ranks of its ends
-  pub order_range : (e l h : ℕ) → end_of_range (range (from s at)) ≡ span.At e l h → in_order (range_of (written_at s at)) ≡ leb l h
+  pub order_range : (e l h : ℕ) → end_of_range (range (from s at)) ≡ Some (e, l, h) → in_order (range_of (written_at s at)) ≡ leb l h
   unfolding in_order
   order_range e l h k = ap in_order (written_range s at) ∙ go (range (from s at)) k
     where
-      go : (o : Option (Range × Left)) → end_of_range o ≡ span.At e l h → in_order (map (λ x. x.0) o) ≡ leb l h
+      go : (o : Option (Range × Left)) → end_of_range o ≡ Some (e, l, h) → in_order (map (λ x. x.0) o) ≡ leb l h
       go none q = let z : ◌≡◌ {A = ℕ} 0 1 = cc in absurd (omega arith)
-      go (some r) q =
-          let a : r.0.low ≡ l = cc in
-          let b : r.0.high ≡ h = cc in
-          λ j. leb (a j) (b j)
+      go (some r) q = let t = triple_same q in λ j. leb (t.1 j) (t.2 j)
 
   -- any other value
-  pub order_none : end_of_range (range (from s at)) ≡ span.Nothing → in_order (range_of (written_at s at)) ≡ true
+  pub order_none : end_of_range (range (from s at)) ≡ None → in_order (range_of (written_at s at)) ≡ true
   unfolding in_order
   order_none k = ap in_order (written_range s at) ∙ go (range (from s at)) k
     where
-      go : (o : Option (Range × Left)) → end_of_range o ≡ span.Nothing → in_order (map (λ x. x.0) o) ≡ true
+      go : (o : Option (Range × Left)) → end_of_range o ≡ None → in_order (map (λ x. x.0) o) ≡ true
       go none q = refl
       go (some r) q = let z : ◌≡◌ {A = ℕ} 0 1 = cc in absurd (omega arith)
 
@@ -87,42 +86,47 @@ rank_there d = go (exists d)
     go true = refl
     go false = refl
 
-ranked : (e : ℕ) (o : Option ℕ) (f r : ℕ) → ranked_at e o ≡ date_read.At f r → there o ≡ true
+ranked : (e : ℕ) (o : Option ℕ) (f r : ℕ) → ranked_at e o ≡ Some (f, Some r) → there o ≡ true
 unfolding there
-ranked e none f r h = absurd (let z : ◌≡◌ {A = ℕ} 0 1 = cc in omega arith)
+ranked e none f r h = absurd (none-some r (pair_same h).1)
 ranked e (some k) f r h = refl
 
-unranked : (e : ℕ) (o : Option ℕ) (f : ℕ) → ranked_at e o ≡ date_read.NoSuchDate f → there o ≡ false
+unranked : (e : ℕ) (o : Option ℕ) (f : ℕ) → ranked_at e o ≡ Some (f, None) → there o ≡ false
 unfolding there
 unranked e none f h = refl
-unranked e (some k) f h = absurd (let z : ◌≡◌ {A = ℕ} 0 1 = cc in omega arith)
+unranked e (some k) f h = absurd (none-some k (sym (pair_same h).1))
 
-undated : (e : ℕ) (o : Option ℕ) → ranked_at e o ≡ date_read.Nothing → ⊥
+undated : (e : ℕ) (o : Option ℕ) → ranked_at e o ≡ None → ⊥
 undated e none h = let z : ◌≡◌ {A = ℕ} 0 1 = cc in omega arith
 undated e (some k) h = let z : ◌≡◌ {A = ℕ} 0 1 = cc in omega arith
 
 module _ (s : List ℕ) (at : ℕ) where
-  pub date_real : (e r : ℕ) → date_read_of (date_text (from s at)) ≡ date_read.At e r → date_exists (date_of (written_at s at)) ≡ true
+  -- what was read, by the rank that was read
+  pub date_read : {e : ℕ} {o p : prelude.Option ℕ} → ◌≡◌ {A = prelude.Option (ℕ × prelude.Option ℕ)} (date_read_of (date_text (from s at))) (Some (e, o)) → o ≡ p
+      → ◌≡◌ {A = prelude.Option (ℕ × prelude.Option ℕ)} (date_read_of (date_text (from s at))) (Some (e, p))
+  date_read {e} {o} {p} h q = h ∙ (λ j. Some (e, q j))
+
+  pub date_real : (e r : ℕ) → date_read_of (date_text (from s at)) ≡ Some (e, Some r) → date_exists (date_of (written_at s at)) ≡ true
   unfolding date_exists
   date_real e r h = ap date_exists (written_date s at) ∙ go (date_text (from s at)) h
     where
-      go : (o : Option (Date × Left)) → date_read_of o ≡ date_read.At e r → date_exists (map (λ x. x.0) o) ≡ true
+      go : (o : Option (Date × Left)) → date_read_of o ≡ Some (e, Some r) → date_exists (map (λ x. x.0) o) ≡ true
       go none q = refl
       go (some x) q = sym (rank_there x.0) ∙ ranked x.1.at (date_rank x.0) e r q
 
-  pub date_unreal : (e : ℕ) → date_read_of (date_text (from s at)) ≡ date_read.NoSuchDate e → date_exists (date_of (written_at s at)) ≡ false
+  pub date_unreal : (e : ℕ) → date_read_of (date_text (from s at)) ≡ Some (e, None) → date_exists (date_of (written_at s at)) ≡ false
   unfolding date_exists
   date_unreal e h = ap date_exists (written_date s at) ∙ go (date_text (from s at)) h
     where
-      go : (o : Option (Date × Left)) → date_read_of o ≡ date_read.NoSuchDate e → date_exists (map (λ x. x.0) o) ≡ false
+      go : (o : Option (Date × Left)) → date_read_of o ≡ Some (e, None) → date_exists (map (λ x. x.0) o) ≡ false
       go none q = let z : ◌≡◌ {A = ℕ} 0 1 = cc in absurd (omega arith)
       go (some x) q = sym (rank_there x.0) ∙ unranked x.1.at (date_rank x.0) e q
 
   -- any other value
-  pub date_none : date_read_of (date_text (from s at)) ≡ date_read.Nothing → date_exists (date_of (written_at s at)) ≡ true
+  pub date_none : date_read_of (date_text (from s at)) ≡ None → date_exists (date_of (written_at s at)) ≡ true
   unfolding date_exists
   date_none h = ap date_exists (written_date s at) ∙ go (date_text (from s at)) h
     where
-      go : (o : Option (Date × Left)) → date_read_of o ≡ date_read.Nothing → date_exists (map (λ x. x.0) o) ≡ true
+      go : (o : Option (Date × Left)) → date_read_of o ≡ None → date_exists (map (λ x. x.0) o) ≡ true
       go none q = refl
       go (some x) q = absurd (undated x.1.at (date_rank x.0) q)

@@ -22,36 +22,33 @@ use Rattle.stepping.specs.Judged.{Judges}
 use Rattle.stepping.specs.Places.{Near}
 use Rattle.stepping.specs.Stored.{LineAt, Passes, RowFilled}
 use Rattle.stepping.specs.declared.fault.Fault.TheVariants.{Value}
-use Rattle.stepping.specs.declared.fault.Verdict.TheVariants.{Faulty, Fine}
-use Rattle.stepping.specs.declared.fault.Verdict.{Verdict}
-use Rattle.stepping.specs.declared.step.Step.{Step}
+use Rattle.std.specs.Prelude.{None, Option, Some, Err, Ok, Result}
 use Rattle.text.specs.CodeEnds.{offending_value}
 use Rattle.text.specs.Offending.{missing}
 use Rattle.text.specs.Words.{Word, word_of}
-use Rattle.text.specs.declared.offending.Offending.TheVariants as offending
-use Rattle.text.specs.declared.offending.Offending.{Offending}
 use Rattle.text.specs.declared.refusals.Reason.TheVariants.{NoSuchDate}
 use Rattle.std.proofs.Math.Option.{some}
+use Rattle.stepping.specs.declared.fault.Fault.{Fault}
 
 -- the verdict on the dates of a row, by the place of the first that does not exist
-abbrev pub date_verdict : Offending → Verdict
-date_verdict offending.Nothing = Fine
-date_verdict (offending.At p) = Faulty (Value NoSuchDate p)
+abbrev pub date_verdict : Option ℕ → Result (Unit {0}) Fault
+date_verdict None = Ok tt
+date_verdict (Some p) = Err (Value NoSuchDate p)
 
 -- faults::date_fault: what is wrong with values that have no other fault
-pub record DatesJudged (line : List ℕ) (at : ℕ) (r : Verdict) : Type 0 where
-  pub absent : Offending
+pub record DatesJudged (line : List ℕ) (at : ℕ) (r : Result (Unit {0}) Fault) : Type 0 where
+  pub absent : Option ℕ
   pub is : offending_value line absent ≡ missing (λ w. date_exists (date_of w.bytes)) (values_at line at)
   pub near : Near line absent
   pub told : r ≡ date_verdict absent
 
 -- faults::row_fault: what is wrong with `(row T item ..)`, the table's name at t and the items from `is` on, where there are k rows already
-abbrev pub RowFaultPromise : (text labels : List ℕ) (labels_count : ℕ) (tables : List ℕ) (tables_count k : ℕ) (line : List ℕ) (t is : ℕ) (r : Verdict) → Type 0
+abbrev pub RowFaultPromise : (text labels : List ℕ) (labels_count : ℕ) (tables : List ℕ) (tables_count k : ℕ) (line : List ℕ) (t is : ℕ) (r : Result (Unit {0}) Fault) → Type 0
 RowFaultPromise text labels labels_count tables tables_count k line t is r =
     Judges (λ d. ((sets : List ℕ) × Labels text labels sets labels_count d.policy.labels) × Tables text tables tables_count d.policy.tables × (k ≡ length d.rows)) ((t ≤ length line) × (is ≤ length line)) line (row (word_of line t) (items_at line is)) k 1024 r
 
 -- steps::step_row: a row of the table whose name stands at t, with its items from a place on
-abbrev pub StepRowPromise : (text : List ℕ) (at : ℕ) (line labels tables rows rows' : List ℕ) (c : Counts) (t items : ℕ) (s : Step) → Type 0
+abbrev pub StepRowPromise : (text : List ℕ) (at : ℕ) (line labels tables rows rows' : List ℕ) (c : Counts) (t items : ℕ) (s : Result Counts Fault) → Type 0
 StepRowPromise text at line labels tables rows rows' c t items s =
     (d : Doc) (ps' rs' bs' us' cs' gs' ms' : List ℕ) → LineAt text at line → ((t ≤ length line) × (items ≤ length line)) →
     Indexed text ps' rs' bs' us' cs' gs' labels ms' tables rows c d →

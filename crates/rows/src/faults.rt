@@ -23,7 +23,7 @@ ghost use Rattle.text.specs.CodeEnds.{offending_of, offending_value};
 ghost use Rattle.rows.specs.Promises.{DatesJudged, RowFaultPromise};
 
 use crate::items::{behind_first, leads, led_values_fit, values_fit};
-use calendar::reading::{DateRead, is_date, read_date};
+use calendar::reading::{is_date, read_date};
 use condition::kinds::{Kind, has_kind};
 use form::lines::Scheme;
 use form::walks::{cell_label, is_labelled, item_end_at, value_place};
@@ -31,13 +31,10 @@ use relations::labels::find_label;
 use relations::tables::{
     column_kind, find_table, has_brackets, leads_label, table_scheme, table_width,
 };
-use stepping::fault::{Fault, Verdict};
-use text::amounts::{Span, range_end, read_range};
+use stepping::fault::Fault;
+use text::amounts::{range_end, read_range};
 use text::bytes::byte_at;
-use text::offending::Offending;
 use text::refusals::Reason;
-use text::words::End;
-use workspace::found::Found;
 use workspace::layout::{LABELS, ROWS, TABLE_CELLS};
 
 // Whether the items from a position on are shaped for the scheme, with as many values as this.
@@ -65,11 +62,7 @@ pub fn values_start(scheme: Scheme, line: &[u8], at: usize) -> usize
 fn is_range(line: &[u8], at: usize) -> bool
     ensures { result ≡ is_range (written_at line.now at) }
 {
-    let k = range_end(line, at);
-    match k {
-        End::At(_) => true,
-        End::Nothing => false,
-    }
+    range_end(line, at).is_some()
 }
 
 // Whether the value at a position is of the type: numbers take a range as well, and dates nothing but a date.
@@ -90,10 +83,9 @@ fn typed(line: &[u8], at: usize, kind: Kind) -> bool
 fn in_order(line: &[u8], at: usize) -> bool
     ensures { result ≡ in_order (range_of (written_at line.now at)) }
 {
-    let k = read_range(line, at);
-    match k {
-        Span::At(_, low, high) => low <= high,
-        Span::Nothing => true,
+    match read_range(line, at) {
+        Some((_, low, high)) => low <= high,
+        None => true,
     }
 }
 
@@ -101,74 +93,69 @@ fn in_order(line: &[u8], at: usize) -> bool
 fn date_exists(line: &[u8], at: usize) -> bool
     ensures { result ≡ date_exists (date_of (written_at line.now at)) }
 {
-    let d = read_date(line, at);
-    match d {
-        DateRead::At(_, _) => true,
-        DateRead::NoSuchDate(_) => false,
-        DateRead::Nothing => true,
-    }
+    let Some((_, rank)) = read_date(line, at) else {
+        return true;
+    };
+    rank.is_some()
 }
 
 // The first value of the items from a position on that is not of its column's type.
-fn first_mistyped(tables: &[usize; TABLE_CELLS], t: usize, line: &[u8], at: usize) -> Offending
+fn first_mistyped(tables: &[usize; TABLE_CELLS], t: usize, line: &[u8], at: usize) -> Option<usize>
     ensures { ((text : List ℕ) (k : ℕ) (d : Policy) → Tables text tables.now k d.tables → t < k → offending_value line.now result ≡ mistyped_value (columns_at d t) (values_at line.now at)) × Near line.now result }
 {
     let n = table_width(tables, t);
-    let mut c = 0;
     let mut i = at;
-    while c < n {
+    for c in 0..n {
         if byte_at(line, i) != b' ' {
-            return Offending::Nothing;
+            return None;
         }
         let v = value_place(line, i + 1);
         let kind = column_kind(tables, t, c);
         if !typed(line, v, kind) {
-            return Offending::At(v);
+            return Some(v);
         }
-        c += 1;
         i = item_end_at(line, i + 1);
     }
-    Offending::Nothing
+    None
 }
 
 // The first value of the items from a position on that is a range with LOW above HIGH.
-fn first_broken(line: &[u8], at: usize) -> Offending
+fn first_broken(line: &[u8], at: usize) -> Option<usize>
     ensures { (offending_value line.now result ≡ missing (λ w. in_order (range_of w.bytes)) (values_at line.now at)) × Near line.now result }
 {
     let mut i = at;
     while byte_at(line, i) == b' ' {
         let v = value_place(line, i + 1);
         if !in_order(line, v) {
-            return Offending::At(v);
+            return Some(v);
         }
         i = item_end_at(line, i + 1);
     }
-    Offending::Nothing
+    None
 }
 
 // The first value of the items from a position on that is a date that does not exist.
-fn first_missing_date(line: &[u8], at: usize) -> Offending
+fn first_missing_date(line: &[u8], at: usize) -> Option<usize>
     ensures { (offending_value line.now result ≡ missing (λ w. date_exists (date_of w.bytes)) (values_at line.now at)) × Near line.now result }
 {
     let mut i = at;
     while byte_at(line, i) == b' ' {
         let v = value_place(line, i + 1);
         if !date_exists(line, v) {
-            return Offending::At(v);
+            return Some(v);
         }
         i = item_end_at(line, i + 1);
     }
-    Offending::Nothing
+    None
 }
 
 // The verdict on values that have no other fault: one of them may be a date that does not exist.
-fn date_fault(line: &[u8], at: usize) -> Verdict
+fn date_fault(line: &[u8], at: usize) -> Result<(), Fault>
     ensures { DatesJudged line.now at result }
 {
-    let absent = first_missing_date(line, at);
-    match absent {
-        Offending::At(p) => Verdict::Faulty(Fault::Value(Reason::NoSuchDate, p)),
-        Offending::Nothing => Verdict::Fine,
+    match first_missing_date(line, at) {
+        Some(p) => Err(Fault::Value(Reason::NoSuchDate, p)),
+        None => Ok(()),
     }
 }
 
@@ -179,11 +166,7 @@ fn label_known(text: &[u8], labels: &[usize; LABELS], k: usize, line: &[u8], at:
     if !is_labelled(line, at) {
         return true;
     }
-    let f = find_label(text, labels, k, line, cell_label(line, at));
-    match f {
-        Found::At(_) => true,
-        Found::Nothing => false,
-    }
+    find_label(text, labels, k, line, cell_label(line, at)).is_some()
 }
 
 // The first bracket's label, of the items from a position on, that is not known.
@@ -193,17 +176,17 @@ fn first_unknown_label(
     k: usize,
     line: &[u8],
     at: usize,
-) -> Offending
+) -> Option<usize>
     ensures { ((sets : List ℕ) (d : Policy) → Labels text.now labels.now sets k d.labels → offending_of line.now result ≡ missing (λ w. there (label_of d w)) (bracket_labels (items_at line.now at))) × Near line.now result }
 {
     let mut i = at;
     while byte_at(line, i) == b' ' {
         if !label_known(text, labels, k, line, i + 1) {
-            return Offending::At(cell_label(line, i + 1));
+            return Some(cell_label(line, i + 1));
         }
         i = item_end_at(line, i + 1);
     }
-    Offending::Nothing
+    None
 }
 
 // The first item, if it is a name without a bracket and no known label.
@@ -213,17 +196,16 @@ fn leading_unknown(
     k: usize,
     line: &[u8],
     at: usize,
-) -> Offending
+) -> Option<usize>
     ensures { ((sets : List ℕ) (d : Policy) → Labels text.now labels.now sets k d.labels → offending_of line.now result ≡ missing (λ w. there (label_of d w)) (leading_name (items_at line.now at))) × Near line.now result }
 {
     if !leads(line, at) {
-        return Offending::Nothing;
+        return None;
     }
-    let f = find_label(text, labels, k, line, at + 1);
-    match f {
-        Found::At(_) => Offending::Nothing,
-        Found::Nothing => Offending::At(at + 1),
+    if find_label(text, labels, k, line, at + 1).is_some() {
+        return None;
     }
+    Some(at + 1)
 }
 
 // The same where rows of the scheme lead with a label; else nothing.
@@ -234,13 +216,13 @@ fn unknown_lead(
     k: usize,
     line: &[u8],
     at: usize,
-) -> Offending
+) -> Option<usize>
     ensures { ((sets : List ℕ) (d : Policy) (l : ℕ) (ls : List ℕ) → Labels text.now labels.now sets k d.labels → offending_of line.now result ≡ missing (λ w. there (label_of d w)) (cond (leads_label (scheme_by scheme l ls)) (leading_name (items_at line.now at)) [])) × Near line.now result }
 {
     if leads_label(scheme) {
         return leading_unknown(text, labels, k, line, at);
     }
-    Offending::Nothing
+    None
 }
 
 // The first bracket's label that is not known, where rows of the scheme have brackets; else nothing.
@@ -251,13 +233,13 @@ fn unknown_bracket(
     k: usize,
     line: &[u8],
     at: usize,
-) -> Offending
+) -> Option<usize>
     ensures { ((sets : List ℕ) (d : Policy) (l : ℕ) (ls : List ℕ) → Labels text.now labels.now sets k d.labels → offending_of line.now result ≡ missing (λ w. there (label_of d w)) (cond (has_brackets (scheme_by scheme l ls)) (bracket_labels (items_at line.now at)) [])) × Near line.now result }
 {
     if has_brackets(scheme) {
         return first_unknown_label(text, labels, k, line, at);
     }
-    Offending::Nothing
+    None
 }
 
 // The first label that the items from a position on use by the scheme, and that is not known.
@@ -268,13 +250,12 @@ fn unknown_label(
     k: usize,
     line: &[u8],
     at: usize,
-) -> Offending
+) -> Option<usize>
     ensures { ((sets : List ℕ) (d : Policy) (l : ℕ) (ls : List ℕ) → Labels text.now labels.now sets k d.labels → offending_of line.now result ≡ missing (λ w. there (label_of d w)) (row_labels (scheme_by scheme l ls) (items_at line.now at))) × Near line.now result }
 {
-    let first = unknown_lead(scheme, text, labels, k, line, at);
-    match first {
-        Offending::At(p) => Offending::At(p),
-        Offending::Nothing => unknown_bracket(scheme, text, labels, k, line, at),
+    match unknown_lead(scheme, text, labels, k, line, at) {
+        Some(p) => Some(p),
+        None => unknown_bracket(scheme, text, labels, k, line, at),
     }
 }
 
@@ -289,32 +270,28 @@ pub fn row_fault(
     line: &[u8],
     t: usize,
     is: usize,
-) -> Verdict
+) -> Result<(), Fault>
     ensures { RowFaultPromise text.now labels.now labels_count tables.now tables_count k line.now t is result }
 {
     if ROWS <= k {
-        return Verdict::Faulty(Fault::Whole(Reason::OverBound));
+        return Err(Fault::Whole(Reason::OverBound));
     }
-    let found = find_table(text, tables, tables_count, line, t);
-    let Found::At(x) = found else {
-        return Verdict::Faulty(Fault::Item(Reason::NameUnknown, t));
+    let Some(x) = find_table(text, tables, tables_count, line, t) else {
+        return Err(Fault::Item(Reason::NameUnknown, t));
     };
     let scheme = table_scheme(tables, x);
-    let unknown = unknown_label(scheme, text, labels, labels_count, line, is);
-    if let Offending::At(p) = unknown {
-        return Verdict::Faulty(Fault::Item(Reason::NameUnknown, p));
+    if let Some(p) = unknown_label(scheme, text, labels, labels_count, line, is) {
+        return Err(Fault::Item(Reason::NameUnknown, p));
     }
     if !row_fits(scheme, line, is, table_width(tables, x)) {
-        return Verdict::Faulty(Fault::Whole(Reason::WrongValues));
+        return Err(Fault::Whole(Reason::WrongValues));
     }
     let start = values_start(scheme, line, is);
-    let wrong = first_mistyped(tables, x, line, start);
-    if let Offending::At(p) = wrong {
-        return Verdict::Faulty(Fault::Value(Reason::WrongType, p));
+    if let Some(p) = first_mistyped(tables, x, line, start) {
+        return Err(Fault::Value(Reason::WrongType, p));
     }
-    let broken = first_broken(line, start);
-    match broken {
-        Offending::At(p) => Verdict::Faulty(Fault::Value(Reason::RangeReversed, p)),
-        Offending::Nothing => date_fault(line, start),
+    if let Some(p) = first_broken(line, start) {
+        return Err(Fault::Value(Reason::RangeReversed, p));
     }
+    date_fault(line, start)
 }

@@ -12,7 +12,7 @@ ghost use Rattle.text.specs.Words.{Word, word_at};
 
 use form::walks::{is_labelled, item_end_at};
 use text::bytes::byte_at;
-use text::words::{End, name_end, word_end};
+use text::words::{name_end, word_end};
 
 // Whether the item at a position is `(v L)`, where such are wanted, and else is none.
 fn item_fits(line: &[u8], at: usize, bracketed: bool) -> bool
@@ -51,11 +51,7 @@ pub(crate) fn leads(line: &[u8], at: usize) -> bool
     if byte_at(line, at + 1) == b'(' {
         return false;
     }
-    let n = name_end(line, at + 1);
-    match n {
-        End::At(_) => true,
-        End::Nothing => false,
-    }
+    name_end(line, at + 1).is_some()
 }
 
 // Whether the first item is a name without a bracket, and those behind it are all shaped so, and as many as this.

@@ -4,8 +4,7 @@ ghost use Rattle.rows.specs.Promises.{StepRowPromise};
 use crate::faults::row_fault;
 use crate::storing::store_row;
 use index::counts::Counts;
-use stepping::fault::Verdict;
-use stepping::step::Step;
+use stepping::fault::Fault;
 use workspace::layout::{LABELS, ROW_CELLS, TABLE_CELLS};
 
 // A row of the table whose name stands at t, with its items from a place on.
@@ -19,18 +18,15 @@ pub fn step_row(
     c: Counts,
     t: usize,
     items: usize,
-) -> Step
+) -> Result<Counts, Fault>
     ensures { StepRowPromise text.now at line.now labels.now tables.now rows.old rows.new c t items result }
 {
     let k = c.rows;
-    let f = row_fault(text, labels, c.labels, tables, c.tables, k, line, t, items);
-    if let Verdict::Faulty(wrong) = f {
-        return Step::Fails(wrong);
-    }
+    row_fault(text, labels, c.labels, tables, c.tables, k, line, t, items)?;
     store_row(
         text, labels, c.labels, tables, c.tables, rows, k, at, line, t, items,
     );
     let mut next = c;
     next.rows = k + 1;
-    Step::Goes(next)
+    Ok(next)
 }

@@ -23,12 +23,10 @@ use Rattle.stages.specs.Figures.{answered_as, figures_of, in_figures}
 use Rattle.stages.specs.Tails.{Gives, after_fitting, answer_under, if_acting, if_dated, if_granted, if_known, if_open, if_parties, if_plain, if_read, if_timed, if_typed, refused_at, refused_written}
 use Rattle.answering.specs.declared.answers.Measured.{Measured}
 use Rattle.index.specs.declared.counts.Counts.{Counts}
-use Rattle.workspace.specs.declared.found.Found.{Found}
-use Rattle.workspace.specs.declared.found.Found.TheVariants as found
-use Rattle.text.specs.declared.offending.Offending.{Offending}
-use Rattle.text.specs.declared.offending.Offending.TheVariants as offending
-use Rattle.stages.specs.declared.answered.Answered as code
-use Rattle.stages.specs.declared.answered.Answered.TheVariants as answered
+use Rattle.std.specs.Prelude as prelude
+use Rattle.std.specs.Prelude.{None, Some, Ok, Result}
+use Rattle.stages.specs.declared.answered.Figures.{Figures}
+use Rattle.text.specs.declared.refusals.Refusal as refusals
 
 -- ---- one step
 
@@ -42,17 +40,17 @@ unfolding refuse_at ◌>>◌
 passes n rest e = rw (sym e)
 
 -- the code's answer names an offending word, or none
-named_word : (s : List ℕ) {x : Offending} {at : ℕ} {o : Option Word} → x ≡ offending.At at → offending_of s x ≡ o → some (word_of s at) ≡ o
+named_word : (s : List ℕ) {x : prelude.Option ℕ} {at : ℕ} {o : Option Word} → x ≡ Some at → offending_of s x ≡ o → some (word_of s at) ≡ o
 named_word s e h = ap (offending_of s) (sym e) ∙ h
 
-pub no_word : (s : List ℕ) {x : Offending} {o : Option Word} → x ≡ offending.Nothing → offending_of s x ≡ o → none ≡ o
+pub no_word : (s : List ℕ) {x : prelude.Option ℕ} {o : Option Word} → x ≡ None → offending_of s x ≡ o → none ≡ o
 no_word s e h = ap (offending_of s) (sym e) ∙ h
 
 -- the same of a value as it is written
-named_value : (s : List ℕ) {x : Offending} {at : ℕ} {o : Option Word} → x ≡ offending.At at → offending_value s x ≡ o → some (written_of s at) ≡ o
+named_value : (s : List ℕ) {x : prelude.Option ℕ} {at : ℕ} {o : Option Word} → x ≡ Some at → offending_value s x ≡ o → some (written_of s at) ≡ o
 named_value s e h = ap (offending_value s) (sym e) ∙ h
 
-pub no_value_lem : (s : List ℕ) {x : Offending} {o : Option Word} → x ≡ offending.Nothing → offending_value s x ≡ o → none ≡ o
+pub no_value_lem : (s : List ℕ) {x : prelude.Option ℕ} {o : Option Word} → x ≡ None → offending_value s x ≡ o → none ≡ o
 no_value_lem s e h = ap (offending_value s) (sym e) ∙ h
 
 -- what is needed is there, or refused
@@ -65,52 +63,52 @@ unfolding need ◌>>=◌
 has r f e = rw (sym e)
 
 -- the code's answer names a number, or none
-pub number_found : {x : Found} {n : ℕ} {o : Option ℕ} → x ≡ found.At n → found_as x ≡ o → some n ≡ o
+pub number_found : {x : prelude.Option ℕ} {n : ℕ} {o : Option ℕ} → x ≡ Some n → found_as x ≡ o → some n ≡ o
 number_found e h = ap found_as (sym e) ∙ h
 
-pub nothing_found : {x : Found} {o : Option ℕ} → x ≡ found.Nothing → found_as x ≡ o → none ≡ o
+pub nothing_found : {x : prelude.Option ℕ} {o : Option ℕ} → x ≡ None → found_as x ≡ o → none ≡ o
 nothing_found e h = ap found_as (sym e) ∙ h
 
 -- ---- the tails, each by its first step
 
-module _ (d : Doc) (q : QueryForm) (g : ℕ) (s : List ℕ) {x : Offending} where
-  pub open_refused : {at : ℕ} → x ≡ offending.At at → offending_of s x ≡ closed_part d.policy q → if_open d q g ≡ refused (refused_at 17 s at)
+module _ (d : Doc) (q : QueryForm) (g : ℕ) (s : List ℕ) {x : prelude.Option ℕ} where
+  pub open_refused : {at : ℕ} → x ≡ Some at → offending_of s x ≡ closed_part d.policy q → if_open d q g ≡ refused (refused_at 17 s at)
   unfolding if_open refused_at
   open_refused e h = offends 17 (accepted (answer_under d q g)) (named_word s e h)
 
-  pub open_passes : x ≡ offending.Nothing → offending_of s x ≡ closed_part d.policy q → if_open d q g ≡ accepted (answer_under d q g)
+  pub open_passes : x ≡ None → offending_of s x ≡ closed_part d.policy q → if_open d q g ≡ accepted (answer_under d q g)
   unfolding if_open
   open_passes e h = passes 17 (accepted (answer_under d q g)) (no_word s e h)
 
-  pub dated_refused : {at : ℕ} → x ≡ offending.At at → offending_value s x ≡ missing_date q → if_dated d q g ≡ refused (refused_written 31 s at)
+  pub dated_refused : {at : ℕ} → x ≡ Some at → offending_value s x ≡ missing_date q → if_dated d q g ≡ refused (refused_written 31 s at)
   unfolding if_dated refused_written
   dated_refused e h = offends 31 (if_open d q g) (named_value s e h)
 
-  pub dated_passes : x ≡ offending.Nothing → offending_value s x ≡ missing_date q → if_dated d q g ≡ if_open d q g
+  pub dated_passes : x ≡ None → offending_value s x ≡ missing_date q → if_dated d q g ≡ if_open d q g
   unfolding if_dated
   dated_passes e h = passes 31 (if_open d q g) (no_value_lem s e h)
 
-  pub plain_refused : {at : ℕ} → x ≡ offending.At at → offending_of s x ≡ ranged_column d q → if_plain d q g ≡ refused (refused_at 27 s at)
+  pub plain_refused : {at : ℕ} → x ≡ Some at → offending_of s x ≡ ranged_column d q → if_plain d q g ≡ refused (refused_at 27 s at)
   unfolding if_plain refused_at
   plain_refused e h = offends 27 (if_dated d q g) (named_word s e h)
 
-  pub plain_passes : x ≡ offending.Nothing → offending_of s x ≡ ranged_column d q → if_plain d q g ≡ if_dated d q g
+  pub plain_passes : x ≡ None → offending_of s x ≡ ranged_column d q → if_plain d q g ≡ if_dated d q g
   unfolding if_plain
   plain_passes e h = passes 27 (if_dated d q g) (no_word s e h)
 
-  pub typed_refused : {at : ℕ} → x ≡ offending.At at → offending_value s x ≡ mistyped_query d.policy q → if_typed d q g ≡ refused (refused_written 16 s at)
+  pub typed_refused : {at : ℕ} → x ≡ Some at → offending_value s x ≡ mistyped_query d.policy q → if_typed d q g ≡ refused (refused_written 16 s at)
   unfolding if_typed refused_written
   typed_refused e h = offends 16 (if_plain d q g) (named_value s e h)
 
-  pub typed_passes : x ≡ offending.Nothing → offending_value s x ≡ mistyped_query d.policy q → if_typed d q g ≡ if_plain d q g
+  pub typed_passes : x ≡ None → offending_value s x ≡ mistyped_query d.policy q → if_typed d q g ≡ if_plain d q g
   unfolding if_typed
   typed_passes e h = passes 16 (if_plain d q g) (no_value_lem s e h)
 
-  pub known_refused : {at : ℕ} → x ≡ offending.At at → offending_of s x ≡ unknown_column d.policy q → if_known d q g ≡ refused (refused_at 15 s at)
+  pub known_refused : {at : ℕ} → x ≡ Some at → offending_of s x ≡ unknown_column d.policy q → if_known d q g ≡ refused (refused_at 15 s at)
   unfolding if_known refused_at
   known_refused e h = offends 15 (if_typed d q g) (named_word s e h)
 
-  pub known_passes : x ≡ offending.Nothing → offending_of s x ≡ unknown_column d.policy q → if_known d q g ≡ if_typed d q g
+  pub known_passes : x ≡ None → offending_of s x ≡ unknown_column d.policy q → if_known d q g ≡ if_typed d q g
   unfolding if_known
   known_passes e h = passes 15 (if_typed d q g) (no_word s e h)
 
@@ -169,16 +167,16 @@ module _ (d : Doc) (c : Clock) (text : List ℕ) where
 -- ---- what the code's answer stands for
 
 -- a refusal leaves the buffer
-pub gives_refused : {o : Outcome} {r : Refusal} {x : code.Answered} {buffer : List ℕ} → o ≡ refused r → answered_as x ≡ refused r → Gives o buffer buffer x
+pub gives_refused : {o : Outcome} {r : Refusal} {x : Result Figures refusals.Refusal} {buffer : List ℕ} → o ≡ refused r → answered_as x ≡ refused r → Gives o buffer buffer x
 unfolding in_figures after_fitting
 gives_refused {buffer} e h = record { is = h ∙ sym (ap in_figures e); buffer = sym (ap (λ o. after_fitting o buffer) e) }
 
-pub gives_same : {o p : Outcome} {before after' : List ℕ} {r : code.Answered} → o ≡ p → Gives p before after' r → Gives o before after' r
+pub gives_same : {o p : Outcome} {before after' : List ℕ} {r : Result Figures refusals.Refusal} → o ≡ p → Gives p before after' r → Gives o before after' r
 gives_same {before} {after'} {r} e h = subst (λ o. Gives o before after' r) (sym e) h
 
 -- the answer of answer_rows, under the grant of number g
 pub gives_written : (a : Answer) (g : ℕ) {before after' : List ℕ} {x : Measured} → Writes a before after' x
-    → Gives (accepted (record { answer = a; grant = g })) before after' (answered.Given (record { len = x.len; grant = g; passed = x.tally.passed; withheld = x.tally.withheld; unmatched = x.tally.unmatched }))
+    → Gives (accepted (record { answer = a; grant = g })) before after' (Ok (record { len = x.len; grant = g; passed = x.tally.passed; withheld = x.tally.withheld; unmatched = x.tally.unmatched }))
 unfolding answered_as figures_of in_figures after_fitting measured_of
 gives_written a g w = record {
   is = ap (λ (y : Measured). accepted (record { len = y.len; grant = g; passed = y.tally.passed; withheld = y.tally.withheld; unmatched = y.tally.unmatched })) w.is;

@@ -4,11 +4,8 @@ use borrow.Author.Tests.{lt-ltb}
 use lib.ListN.{length, length-map}
 use mathlib.Core.Bool.{Bool, true}
 use mathlib.Core.List.{List}
-use mathlib.Core.Logic.{◌⊎◌, inl, inr}
 use mathlib.Core.Option.{Option, none, some}
 use mathlib.Core.Path.{◌∙◌, ◌≡◌, ap, refl, subst, sym}
-use native.Mathlib.Omega.{arith}
-use denote.Enum.Declared.{tag_of}
 use Rattle.authority.specs.Authorities.{Authorities}
 use Rattle.document.specs.Lookup.{purpose_of}
 use Rattle.document.specs.Policy.{Doc, Node, Policy, tree_of}
@@ -26,12 +23,11 @@ use Rattle.query.specs.QueryForm.{QueryForm}
 use Rattle.text.specs.Words.{word_of}
 use Rattle.stages.specs.Stages.{Granted, Standing}
 use Rattle.index.specs.declared.counts.Counts.{Counts}
-use Rattle.query.specs.declared.reading.Asked.{Asked}
-use Rattle.query.specs.declared.reading.Asked.TheVariants as asked
+use Rattle.std.specs.Prelude as prelude
+use Rattle.std.specs.Prelude.{Err, None, Ok, Result, Some}
 use Rattle.query.specs.declared.reading.Question.{Question}
-use Rattle.resolving.specs.contracts.parties.Parties.{the_type}
-use Rattle.resolving.specs.declared.parties.Parties as who
-use Rattle.resolving.specs.declared.parties.Parties.TheVariants as parties
+use Rattle.resolving.specs.declared.parties.PartyFault.{PartyFault}
+use Rattle.resolving.specs.declared.parties.PartyFault.TheVariants as fault
 
 module _ {text ps rs bs us cs gs ms ts ws : List ℕ} {c : Counts} {d : Doc} (h : Standing text ps rs bs us cs gs ms ts ws c d) where
   -- so much of a document as authority needs
@@ -55,30 +51,30 @@ purpose_number e = sym (ap or_zero e)
 
 -- ---- what reading and looking up answered
 
-module _ (s : List ℕ) {a : Asked} (r : ReadsQuery s a) where
-  pub wrong_read : a ≡ asked.Wrong → query_of s ≡ none
+module _ (s : List ℕ) {a : prelude.Option Question} (r : ReadsQuery s a) where
+  pub wrong_read : a ≡ None → query_of s ≡ none
   unfolding ReadsQuery
   wrong_read e = subst (ReadsQuery s) e r
 
-  pub query_read : {q : Question} → a ≡ asked.Query q → IsQuery s q
+  pub query_read : {q : Question} → a ≡ Some q → IsQuery s q
   unfolding ReadsQuery
   query_read e = subst (ReadsQuery s) e r
 
-module _ (d : Policy) (s : List ℕ) (q : QueryForm) (c : Counts) {x : who.Parties} (h : PartiesAre d s q c x) where
-  pub party_unknown : {at : ℕ} → x ≡ parties.Unknown at → unknown_party d q ≡ some (word_of s at)
+module _ (d : Policy) (s : List ℕ) (q : QueryForm) (c : Counts) {x : Result (ℕ × ℕ) PartyFault} (h : PartiesAre d s q c x) where
+  pub party_unknown : {at : ℕ} → x ≡ Err (fault.Unknown at) → unknown_party d q ≡ some (word_of s at)
   unfolding PartiesAre
   party_unknown e = subst (PartiesAre d s q c) e h
 
-  pub role_missing : x ≡ parties.NotGiven → RoleMissing d q
+  pub role_missing : x ≡ Err fault.NotGiven → RoleMissing d q
   unfolding PartiesAre
   role_missing e = subst (PartiesAre d s q c) e h
 
-  pub parties_known : {p u : ℕ} → x ≡ parties.Known p u → PartiesKnown d q c p u
+  pub parties_known : {p u : ℕ} → x ≡ Ok (p, u) → PartiesKnown d q c p u
   unfolding PartiesAre
   parties_known e = subst (PartiesAre d s q c) e h
 
 -- who is neither known nor unknown has no such role
-pub not_given : (x : who.Parties) → ((at : ℕ) → x ≡ parties.Unknown at → ⊥) → ((p u : ℕ) → x ≡ parties.Known p u → ⊥) → x ≡ parties.NotGiven
-not_given parties.NotGiven g h = refl
-not_given (parties.Known p u) g h = absurd (h p u refl)
-not_given (parties.Unknown at) g h = absurd (g at refl)
+pub not_given : (x : Result (ℕ × ℕ) PartyFault) → ((at : ℕ) → x ≡ Err (fault.Unknown at) → ⊥) → ((p u : ℕ) → x ≡ Ok (p, u) → ⊥) → x ≡ Err fault.NotGiven
+not_given (Err fault.NotGiven) g h = refl
+not_given (Ok (p, u)) g h = absurd (h p u refl)
+not_given (Err (fault.Unknown at)) g h = absurd (g at refl)

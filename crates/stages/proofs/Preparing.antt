@@ -38,11 +38,9 @@ use Rattle.text.proofs.OffendingLaws.{leftmost_only, missing_none}
 use Rattle.text.specs.CodeEnds.{offending_of, offending_value}
 use Rattle.text.specs.Offending.{leftmost, missing, unless}
 use Rattle.text.specs.Words.{Word, word_of}
-use Rattle.text.specs.declared.offending.Offending.TheVariants as offending
-use Rattle.text.specs.declared.offending.Offending.{Offending}
+use Rattle.std.specs.Prelude as prelude
+use Rattle.std.specs.Prelude.{None, Some}
 use Rattle.workspace.specs.Found.{FoundBelow, found_as}
-use Rattle.workspace.specs.declared.found.Found.TheVariants as found
-use Rattle.workspace.specs.declared.found.Found.{Found}
 use lib.ListN.{drop, length, length-append, length-map, take, take-append-drop}
 use lib.Seq.{drop_at, take_at}
 use mathlib.Core.Bool.{Bool, cond, false, not, true}
@@ -81,7 +79,7 @@ pub table_unknown : (d : Policy) (q : QueryForm) → none ≡ table_of d q.table
 unfolding unknown_column leftmost unless there
 table_unknown d q e = rw (sym e)
 
-pub table_found : (d : Policy) (q : QueryForm) {x : Found} {t k : ℕ} → x ≡ found.At t → found_as x ≡ table_of d q.table → FoundBelow x k → InTable d q t k
+pub table_found : (d : Policy) (q : QueryForm) {x : prelude.Option ℕ} {t k : ℕ} → x ≡ Some t → found_as x ≡ table_of d q.table → FoundBelow x k → InTable d q t k
 table_found d q {k} e h b = record { is = sym (number_found e h); inside = subst (λ r. FoundBelow r k) e b }
 
 module _ {d : Policy} {q : QueryForm} {t k : ℕ} (table : InTable d q t k) where
@@ -106,12 +104,12 @@ module _ {d : Policy} {q : QueryForm} {t k : ℕ} (table : InTable d q t k) wher
       ∙ leftmost_only (missing (λ w. there (column_of (columns_at d t) w)) (named_words q))
 
 -- the named columns were looked for: 15, or their numbers
-module _ {d : Policy} {s : List ℕ} (q : Question) {t k n : ℕ} {places ops numbers : List ℕ} {x : Offending} (table : InTable d (form_at s q) t k)
+module _ {d : Policy} {s : List ℕ} (q : Question) {t k n : ℕ} {places ops numbers : List ℕ} {x : prelude.Option ℕ} (table : InTable d (form_at s q) t k)
     (placed : NamesPlaced s q n places ops) (r : Resolves (columns_at d t) s n places x numbers) where
   pub resolves_unknown : offending_of s x ≡ unknown_column d (form_at s q)
   resolves_unknown = r.offends ∙ ap (missing (λ w. there (column_of (columns_at d t) w))) placed.words ∙ sym (column_unknown table)
 
-  pub resolves_known : x ≡ offending.Nothing → ColumnsKnown d (form_at s q) t numbers
+  pub resolves_known : x ≡ None → ColumnsKnown d (form_at s q) t numbers
   resolves_known e = record {
     number = n;
     numbered = r.numbered e ∙ ap (map (λ w. or_zero (column_of (columns_at d t) w))) placed.words;
@@ -133,13 +131,13 @@ module _ {d : Policy} {s : List ℕ} (q : Question) {t k n : ℕ} {places ops nu
       ∙ ap (λ y. closed purpose_of_lem y (columns_of d (word_of s q.head.table)) (named_words (form_at s q))) (sym (labelling_is table))
 
   -- 17: what is closed is what the definition says
-  pub parts_judged : x ≡ offending.Nothing → (y : Offending) {os : List Bool} → Said d purpose_of_lem os
+  pub parts_judged : x ≡ None → (y : prelude.Option ℕ) {os : List Bool} → Said d purpose_of_lem os
       → (n ≤ 80 → Said d purpose_of_lem os → take n numbers ≡ map (λ w. or_zero (column_of (columns_at d t) w)) (words_at s n places) → offending_of s y ≡ closed purpose_of_lem (labelling_at d t) (columns_at d t) (words_at s n places))
       → offending_of s y ≡ closed_part d (form_at s q)
   parts_judged e y o f = f placed.small o (r.numbered e) ∙ parts_are
 
 -- 27: what has ranges is what the definition says
-module _ (d : Doc) {s : List ℕ} (q : Question) {t k n : ℕ} {places ops numbers : List ℕ} {x : Offending} (table : InTable d.policy (form_at s q) t k)
+module _ (d : Doc) {s : List ℕ} (q : Question) {t k n : ℕ} {places ops numbers : List ℕ} {x : prelude.Option ℕ} (table : InTable d.policy (form_at s q) t k)
     (placed : NamesPlaced s q n places ops) (r : Resolves (columns_at d.policy t) s n places x numbers) where
   admits : admits_ranges (form_at s q).wanted ≡ takes_ranges (verb_of (verb_in q.wanted))
   unfolding form_at
@@ -152,7 +150,7 @@ module _ (d : Doc) {s : List ℕ} (q : Question) {t k n : ℕ} {places ops numbe
       ∙ ap (λ b. cond b none (missing (plain_at d t) (named_words (form_at s q)))) (sym admits)
       ∙ (λ i. cond (admits_ranges (form_at s q).wanted) none (missing (λ w. not (has_range d (sym (number_is table) i) (or_zero (column_of (sym (columns_are table) i) w)))) (named_words (form_at s q))))
 
-  pub ranges_judged : x ≡ offending.Nothing → (y : Offending) (b : Bool) → b ≡ takes_ranges (verb_of (verb_in q.wanted))
+  pub ranges_judged : x ≡ None → (y : prelude.Option ℕ) (b : Bool) → b ≡ takes_ranges (verb_of (verb_in q.wanted))
       → (n ≤ 80 → take n numbers ≡ map (λ w. or_zero (column_of (columns_at d.policy t) w)) (words_at s n places) → offending_of s y ≡ cond b none (missing (plain_at d t) (words_at s n places)))
       → offending_of s y ≡ ranged_column d (form_at s q)
   ranges_judged e y b is f = f placed.small (r.numbered e) ∙ ap (λ (z : Bool). cond z none (missing (plain_at d t) (words_at s n places))) is ∙ ranged_are
@@ -240,7 +238,7 @@ module _ {d : Policy} {s : List ℕ} (q : Question) {t k : ℕ} {numbers ops : L
   unfolding mistyped_query form_at
   types_are = ap (λ ys. leftmost (map (λ x. mistyped (column_kind ys x.of) x) comparisons)) (sym (columns_are table))
 
-  pub types_judged : {g : Sought} {ws : List ℕ} (x : Offending) (m : Marking) → g ≡ sought_in q t m → TestsRead s g ws (columns_at d g.table) → (g.tests ≤ 64 → offending_value s x ≡ first_wrong s ws g.tests) → offending_value s x ≡ mistyped_query d (form_at s q)
+  pub types_judged : {g : Sought} {ws : List ℕ} (x : prelude.Option ℕ) (m : Marking) → g ≡ sought_in q t m → TestsRead s g ws (columns_at d g.table) → (g.tests ≤ 64 → offending_value s x ≡ first_wrong s ws g.tests) → offending_value s x ≡ mistyped_query d (form_at s q)
   unfolding sought_in
   types_judged {ws} x m e r h =
       subst (λ g. g.tests ≤ 64 → offending_value s x ≡ first_wrong s ws g.tests) e h tests.few
@@ -248,7 +246,7 @@ module _ {d : Policy} {s : List ℕ} (q : Question) {t k : ℕ} {numbers ops : L
       ∙ types_are
 
   -- 31: which date does not exist is what the definition says
-  pub dates_judged : {g : Sought} {ws : List ℕ} (x : Offending) (m : Marking) → g ≡ sought_in q t m → TestsRead s g ws (columns_at d g.table) → (g.tests ≤ 64 → offending_value s x ≡ first_missing s ws g.tests) → offending_value s x ≡ missing_date (form_at s q)
+  pub dates_judged : {g : Sought} {ws : List ℕ} (x : prelude.Option ℕ) (m : Marking) → g ≡ sought_in q t m → TestsRead s g ws (columns_at d g.table) → (g.tests ≤ 64 → offending_value s x ≡ first_missing s ws g.tests) → offending_value s x ≡ missing_date (form_at s q)
   unfolding sought_in missing_date form_at
   dates_judged {ws} x m e r h =
       subst (λ g. g.tests ≤ 64 → offending_value s x ≡ first_missing s ws g.tests) e h tests.few
@@ -286,8 +284,8 @@ module _ {d : Policy} {s : List ℕ} (q : Question) {t k : ℕ} {numbers ops : L
   condition_is = ap (λ ys. Option.map (map_cond (column_comparison ys)) (condition_at s q.test)) (columns_are table)
 
 -- what was judged with 15 and 17 is known and open
-pub parts_known : {d : Policy} (s : List ℕ) (q : Question) {x y : Offending} → x ≡ offending.Nothing → offending_of s x ≡ unknown_column d (form_at s q)
-    → y ≡ offending.Nothing → offending_of s y ≡ closed_part d (form_at s q) → PartsOpen d (resolved d (form_at s q))
+pub parts_known : {d : Policy} (s : List ℕ) (q : Question) {x y : prelude.Option ℕ} → x ≡ None → offending_of s x ≡ unknown_column d (form_at s q)
+    → y ≡ None → offending_of s y ≡ closed_part d (form_at s q) → PartsOpen d (resolved d (form_at s q))
 parts_known {d} s q e known f opens = parts_open d (form_at s q) (sym (no_word s e known)) (sym (no_word s f opens))
 
 -- rows pass as the verb says
@@ -320,7 +318,7 @@ module _ {text ts ws : List ℕ} {c : Counts} {os : List Bool} {s : List ℕ} (q
   }
 
   -- by what is sought as the code finds it, x being what was judged with 16
-  pub prepared : {g : Sought} {x : Offending} (m : Marking) → MarkingOf ts t os m → g ≡ sought_in q t m → TestsRead s g rs (columns_at d.policy g.table) → x ≡ offending.Nothing → (g.tests ≤ 64 → offending_value s x ≡ first_wrong s rs g.tests)
+  pub prepared : {g : Sought} {x : prelude.Option ℕ} (m : Marking) → MarkingOf ts t os m → g ≡ sought_in q t m → TestsRead s g rs (columns_at d.policy g.table) → x ≡ None → (g.tests ≤ 64 → offending_value s x ≡ first_wrong s rs g.tests)
       → Prepared text ts ws c.rows os s g rs numbers d (resolved d.policy (form_at s q))
   unfolding sought_in
   prepared {x} m told e r n h =

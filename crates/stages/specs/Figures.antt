@@ -3,9 +3,10 @@ use Rattle.std.specs.Prelude.{ℕ, length}
 use Rattle.answer.specs.Ask.{Outcome}
 use Rattle.text.specs.Reasons.{refusal_of}
 use Rattle.text.specs.Refusal.{Result, accepted, refused}
-use Rattle.stages.specs.declared.answered.Answered.{Answered}
-use Rattle.stages.specs.declared.answered.Answered.TheVariants as answered
+use Rattle.std.specs.Prelude.{Err, Ok}
 use Rattle.stages.specs.declared.answered.Figures as code
+use Rattle.text.specs.declared.refusals.Refusal.{Refusal}
+use Rattle.std.specs.Prelude as prelude
 
 -- an accepted answer in figures: its length, the grant and the three counts
 pub record Figures : Type 0 where
@@ -20,9 +21,9 @@ unfoldable pub figures_of : code.Figures → Figures
 figures_of x = record { len = x.len; grant = x.grant; passed = x.passed; withheld = x.withheld; unmatched = x.unmatched }
 
 -- what the code's answer stands for: a refusal, or the figures of an answer
-unfoldable pub answered_as : Answered → Result Figures
-answered_as (answered.Given x) = accepted (figures_of x)
-answered_as (answered.Refused r) = refused (refusal_of r)
+unfoldable pub answered_as : prelude.Result code.Figures Refusal → Result Figures
+answered_as (Ok x) = accepted (figures_of x)
+answered_as (Err r) = refused (refusal_of r)
 
 -- the outcome of asking in figures
 unfoldable pub in_figures : Outcome → Result Figures

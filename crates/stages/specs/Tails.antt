@@ -14,7 +14,9 @@ use Rattle.query.specs.Query.{closed_part, missing_date, mistyped_query, resolve
 use Rattle.query.specs.QueryForm.{QueryForm, query_of}
 use Rattle.text.specs.Refusal.{Refusal, ◌>>=◌, ◌>>◌, accepted, need, pointing, pointing_all, pointing_nowhere, query, refuse_at, refuse_if, refused}
 use Rattle.text.specs.Words.{word_of, written_of}
-use Rattle.stages.specs.declared.answered.Answered as code
+use Rattle.std.specs.Prelude.{Result}
+use Rattle.stages.specs.declared.answered.Figures.{Figures}
+use Rattle.text.specs.declared.refusals.Refusal as refusals
 
 -- the answer to the query, under the grant of number g
 unfoldable pub answer_under : Doc → QueryForm → ℕ → Answered
@@ -95,6 +97,6 @@ after_fitting (refused r) buffer = buffer
 after_fitting (accepted a) buffer = buffer_after a.answer buffer
 
 -- the code's answer r stands for the outcome o, 18 aside, and the lent buffer afterwards is what o says
-pub record Gives (o : Outcome) (before after' : List ℕ) (r : code.Answered) : Type 0 where
+pub record Gives (o : Outcome) (before after' : List ℕ) (r : Result Figures refusals.Refusal) : Type 0 where
   pub is : answered_as r ≡ in_figures o
   pub buffer : after' ≡ after_fitting o before

@@ -4,18 +4,17 @@ ghost use Rattle.query.specs.HostClock.{clock_of};
 ghost use Rattle.stages.specs.Stages.{Standing};
 ghost use Rattle.stages.specs.Tails.{Gives, if_timed};
 
-use crate::answered::Answered;
+use crate::answered::Figures;
 use crate::granted::ask_granted;
 use crate::refusing::refused_at;
 use authority::grants::authorising_grant;
 use authority::purposes::purpose_closure;
 use index::counts::Counts;
 use query::clock::{Clock, in_range};
-use query::reading::{Asked, read_query};
+use query::reading::read_query;
 use relations::labels::say_labels;
-use resolving::parties::{Parties, find_parties};
+use resolving::parties::{PartyFault, find_parties};
 use text::refusals::{Reason, Refusal, Source};
-use workspace::found::Found;
 use workspace::layout::{
     ATTRIBUTE_CELLS, COND_ROLE_CELLS, GRANT_CELLS, PURPOSE_CELLS, ROLE_CELLS, ROW_CELLS, SET_WORDS,
     TABLE_CELLS, USER_CELLS, VERDICTS,
@@ -37,20 +36,19 @@ pub fn ask_accepted(
     clock: Clock,
     query: &[u8],
     out: &mut [u8],
-) -> Answered
+) -> Result<Figures, Refusal>
     ensures { (d : Doc) → Standing text.now purposes.now roles.now attributes.now users.now conds.now grants.now sets.now tables.now rows.now c d → Gives (if_timed d (clock_of clock) query.now) out.old out.new result }
 {
     if !in_range(clock) {
-        return Answered::Refused(Refusal {
+        return Err(Refusal {
             reason: Reason::ClockOutOfRange,
             source: Source::Query,
             start: 0,
             len: 0,
         });
     }
-    let a = read_query(query);
-    let Asked::Query(q) = a else {
-        return Answered::Refused(Refusal {
+    let Some(q) = read_query(query) else {
+        return Err(Refusal {
             reason: Reason::NotAQuery,
             source: Source::Query,
             start: 0,
@@ -58,18 +56,16 @@ pub fn ask_accepted(
         });
     };
     let h = q.head;
-    let who = find_parties(text, purposes, roles, users, c, query, q);
-    if let Parties::Unknown(at) = who {
-        return refused_at(query, Reason::UnknownParty, at);
-    }
-    let Parties::Known(purpose, user) = who else {
-        return refused_at(query, Reason::RoleNotGiven, h.role);
+    let (purpose, user) = match find_parties(text, purposes, roles, users, c, query, q) {
+        Ok(who) => who,
+        Err(PartyFault::Unknown(at)) => return refused_at(query, Reason::UnknownParty, at),
+        Err(PartyFault::NotGiven) => return refused_at(query, Reason::RoleNotGiven, h.role),
     };
     let closure = purpose_closure(purposes, c.purposes, purpose);
     let found = authorising_grant(
         text, closure, roles, attributes, users, conds, grants, c, clock, user,
     );
-    let Found::At(grant) = found else {
+    let Some(grant) = found else {
         return refused_at(query, Reason::NotAuthorised, h.purpose);
     };
     let mut said = [false; VERDICTS];

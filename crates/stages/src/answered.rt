@@ -10,10 +10,3 @@ pub struct Figures {
     pub withheld: usize,
     pub unmatched: usize,
 }
-
-// An answer, or a refusal.
-#[derive(Clone, Copy)]
-pub enum Answered {
-    Given(Figures),
-    Refused(Refusal),
-}

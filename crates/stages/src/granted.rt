@@ -9,7 +9,7 @@ ghost use Rattle.stages.specs.Stages.{Granted, sought_in};
 ghost use Rattle.stages.specs.Tails.{Gives, answer_under, if_known};
 ghost use Rattle.text.specs.Refusal.{accepted};
 
-use crate::answered::{Answered, Figures};
+use crate::answered::Figures;
 use crate::refusing::{refused_at, refused_written};
 use answering::answers::answer_rows;
 use index::counts::Counts;
@@ -23,9 +23,7 @@ use ranging::ranged::ranged_column;
 use relations::tables::find_table;
 use resolving::columns::{NAMED, resolve_columns};
 use resolving::openness::closed_part;
-use text::offending::Offending;
-use text::refusals::Reason;
-use workspace::found::Found;
+use text::refusals::{Reason, Refusal};
 use workspace::layout::{ROW_CELLS, TABLE_CELLS, VERDICTS};
 
 // What a query asks of the rows of table t, which is marked so.
@@ -62,13 +60,13 @@ fn ask_rows(
     columns: &[usize; NAMED],
     grant: usize,
     out: &mut [u8],
-) -> Answered
+) -> Result<Figures, Refusal>
     ensures { (d : Doc) (q : QueryForm) → Prepared text.now tables.now rows.now count said.now query.now s tests.now columns.now d (resolved d.policy q) → Gives (accepted (answer_under d q grant)) out.old out.new result }
 {
     let x = answer_rows(
         text, tables, rows, count, said, query, s, tests, columns, out,
     );
-    Answered::Given(Figures {
+    Ok(Figures {
         len: x.len,
         grant,
         passed: x.tally.passed,
@@ -88,12 +86,12 @@ pub(crate) fn ask_granted(
     q: Question,
     grant: usize,
     out: &mut [u8],
-) -> Answered
+) -> Result<Figures, Refusal>
     ensures { (d : Doc) → Granted text.now tables.now rows.now c said.now query.now q d → Gives (if_known d (form_at query.now q) grant) out.old out.new result }
 {
     let h = q.head;
     let table = find_table(text, tables, c.tables, query, h.table);
-    let Found::At(t) = table else {
+    let Some(t) = table else {
         return refused_at(query, Reason::UnknownColumn, h.table);
     };
     let mut places = [0usize; NAMED];
@@ -101,28 +99,28 @@ pub(crate) fn ask_granted(
     let n = named_places(query, q, &mut places, &mut ops);
     let mut columns = [0usize; NAMED];
     let unknown = resolve_columns(text, tables, t, query, &places, n, &mut columns);
-    if let Offending::At(at) = unknown {
+    if let Some(at) = unknown {
         return refused_at(query, Reason::UnknownColumn, at);
     }
     let s = sought_in(q, t, marking_of(tables, t, said));
     let mut tests = [0usize; TEST_CELLS];
     read_tests(tables, query, s, &ops, &columns, &mut tests);
     let wrong = mistyped_test(&tests, s.tests);
-    if let Offending::At(at) = wrong {
+    if let Some(at) = wrong {
         return refused_written(query, Reason::MistypedQuery, at);
     }
     let verb = s.verb;
     let taken = takes_ranges(verb);
     let ranged = ranged_column(taken, text, rows, c.rows, t, &places, n, &columns);
-    if let Offending::At(at) = ranged {
+    if let Some(at) = ranged {
         return refused_at(query, Reason::RangeNotTaken, at);
     }
     let absent = missing_date(query, &tests, s.tests);
-    if let Offending::At(at) = absent {
+    if let Some(at) = absent {
         return refused_written(query, Reason::NoSuchDate, at);
     }
     let closed = closed_part(tables, t, said, query, h.table, &places, n, &columns);
-    if let Offending::At(at) = closed {
+    if let Some(at) = closed {
         return refused_at(query, Reason::Closed, at);
     }
     ask_rows(

@@ -5,8 +5,8 @@ use Rattle.stepping.specs.Judged.{Reaches, refusal_in}
 use Rattle.text.specs.Refusal.{Result, accepted, refused}
 use Rattle.stepping.specs.declared.fault.Fault.{Fault}
 use Rattle.index.specs.declared.counts.Counts.{Counts}
-use Rattle.stepping.specs.declared.step.Step.{Step}
-use Rattle.stepping.specs.declared.step.Step.TheVariants.{Fails, Goes}
+use Rattle.std.specs.Prelude.{Err, Ok}
+use Rattle.std.specs.Prelude as prelude
 
 -- a line is refused: its outcome is the refusal that the fault stands for
 pub record Refuses (line : List ℕ) (o : Result Doc) (f : Fault) : Type 0 where
@@ -20,6 +20,6 @@ pub record Grows (Held : Counts → Doc → Type 0) (o : Result Doc) (c : Counts
   pub held : Held c doc
 
 -- the answer s to a line stands for its outcome o, and the workspace holds what it says (Held)
-pub record Follows (Held : Counts → Doc → Type 0) (line : List ℕ) (o : Result Doc) (s : Step) : Type 0 where
-  pub fails : (f : Fault) → s ≡ Fails f → Refuses line o f
-  pub goes : (c : Counts) → s ≡ Goes c → Grows Held o c
+pub record Follows (Held : Counts → Doc → Type 0) (line : List ℕ) (o : Result Doc) (s : prelude.Result Counts Fault) : Type 0 where
+  pub fails : (f : Fault) → s ≡ Err f → Refuses line o f
+  pub goes : (c : Counts) → s ≡ Ok c → Grows Held o c

@@ -8,10 +8,3 @@ pub enum Fault {
     Item(Reason, usize),
     Value(Reason, usize),
 }
-
-// What a fault finder gives: nothing is wrong, or a fault.
-#[derive(Clone, Copy)]
-pub enum Verdict {
-    Fine,
-    Faulty(Fault),
-}

@@ -3,8 +3,6 @@ ghost use Rattle.std.specs.Prelude.{◌+◌, ◌≤◌, length, ◌≡◌};
 ghost use Rattle.workspace.specs.Found.{found_as};
 ghost use Rattle.lists.specs.Lists.{or_zero};
 
-use workspace::found::Found;
-
 // The position in the text of place p of a line that starts at a position; 0 where it would lie behind the text's end.
 pub fn place(text: &[u8], at: usize, p: usize) -> usize
     ensures { at + p ≤ length text.now → result ≡ at + p }
@@ -19,11 +17,11 @@ pub fn place(text: &[u8], at: usize, p: usize) -> usize
 }
 
 // The number that was found; 0 where there is none.
-pub fn number(f: Found) -> usize
+pub fn number(f: Option<usize>) -> usize
     ensures { result ≡ or_zero (found_as f) }
 {
     match f {
-        Found::At(n) => n,
-        Found::Nothing => 0,
+        Some(n) => n,
+        None => 0,
     }
 }

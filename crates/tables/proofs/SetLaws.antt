@@ -15,8 +15,7 @@ use Rattle.form.specs.Walks.{deny_place, names_at}
 use Rattle.relations.proofs.LabelLaws.{holds_insert_behind, holds_none, labels_long}
 use Rattle.workspace.specs.Found.{FoundBelow, found_as}
 use Rattle.relations.specs.Labels.{Labels, SetHolds, denied_at, label_at}
-use Rattle.workspace.specs.declared.found.Found.{Found}
-use Rattle.workspace.specs.declared.found.Found.TheVariants as found
+use Rattle.std.specs.Prelude.{None, Option, Some}
 use Rattle.lists.specs.Lists.{or_zero}
 use Rattle.purpose.specs.Compliance.{Same}
 use Rattle.purpose.specs.Members.{including, limit, members}
@@ -53,10 +52,10 @@ module _ (f : Word → ℕ) (line : List ℕ) (at : ℕ) where
   gathered_all j ws g h = subst (SetHolds ws) (sym (g.all ∙ ap (λ x. g.taken ++ map f x) (names_stop line j h) ∙ append-nil g.taken)) g.holds
 
 -- a number that was found is one that a tree may have
-pub found_small : (r : Found) (k : ℕ) → FoundBelow r k → k ≤ limit → or_zero (found_as r) < limit
+pub found_small : (r : Option ℕ) (k : ℕ) → FoundBelow r k → k ≤ limit → or_zero (found_as r) < limit
 unfolding or_zero
-found_small found.Nothing k b l = omega arith
-found_small (found.At n) k b l = omega (arith, b, l)
+found_small None k b l = omega arith
+found_small (Some n) k b l = omega (arith, b, l)
 
 -- the label that is stored is what the line adds
 pub label_stored : {text : List ℕ} {at : ℕ} {line : List ℕ} {ws ws' sets sets' : List ℕ} {k : ℕ} (l : LineAt text at line) (d : Doc) (n pos : ℕ) → n ≤ length line → (at + n ≤ length text → pos ≡ at + n)

@@ -29,7 +29,7 @@ use Rattle.text.proofs.WalkingLaws.{next_within, past_within}
 use Rattle.text.specs.Offending.{leftmost, missing, offending_if, repeated, repeated_after}
 use Rattle.text.specs.Words.{Word, is_called, word_of}
 use Rattle.stepping.specs.declared.fault.Fault.{Fault}
-use Rattle.stepping.specs.declared.fault.Verdict.TheVariants.{Faulty, Fine}
+use Rattle.std.specs.Prelude.{Err, Ok, Result}
 use Rattle.form.specs.TableWords.{column_words, labels_columns, scheme_words, table_line}
 use Rattle.form.specs.declared.lines.Scheme as coded
 use Rattle.form.specs.declared.lines.Scheme.TheVariants as code
@@ -214,7 +214,7 @@ module _ (s : List ℕ) (at : ℕ) (h : at < length s) where
 -- ---- the check of the line
 
 -- where there is a fault, not all is fine
-pub fine_apart : (x : Fault) {A : Type 0} → Faulty x ≡ Fine → A
+pub fine_apart : (x : Fault) {A : Type 0} → ◌≡◌ {A = Result (Unit {0}) Fault} (Err x) (Ok tt) → A
 fine_apart x {A} h = let z : ◌≡◌ {A = ℕ} 0 1 = cc in absurd (omega arith)
 
 module _ (d : Doc) (line : List ℕ) (t : ℕ) (scheme : coded.Scheme) (l cs : ℕ) where

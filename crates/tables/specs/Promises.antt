@@ -20,11 +20,11 @@ use Rattle.stepping.specs.Stored.{ColumnsFilled, LineAt, Passes}
 use Rattle.text.specs.Words.{word_of}
 use Rattle.form.specs.declared.lines.Scheme as coded
 use Rattle.index.specs.declared.counts.Counts.{Counts}
-use Rattle.stepping.specs.declared.fault.Verdict.{Verdict}
-use Rattle.stepping.specs.declared.step.Step.{Step}
+use Rattle.std.specs.Prelude.{Result}
+use Rattle.stepping.specs.declared.fault.Fault.{Fault}
 
 -- label_faults::label_fault: the label whose name stands at l of the line, behind k labels
-abbrev pub LabelFaultPromise : (text purposes : List ℕ) (purposes_count : ℕ) (labels : List ℕ) (k : ℕ) (line : List ℕ) (l allowed denied : ℕ) (r : Verdict) → Type 0
+abbrev pub LabelFaultPromise : (text purposes : List ℕ) (purposes_count : ℕ) (labels : List ℕ) (k : ℕ) (line : List ℕ) (l allowed denied : ℕ) (r : Result (Unit {0}) Fault) → Type 0
 LabelFaultPromise text purposes purposes_count labels k line l allowed denied r =
     Judges (λ d. Nodes limit text purposes purposes_count d.policy.purposes × ((sets : List ℕ) × Labels text labels sets k d.policy.labels)) (l ≤ length line) line (label (word_of line l) (names_at line allowed) (names_at line denied)) k 64 r
 
@@ -36,14 +36,14 @@ StoreLabelPromise text purposes purposes_count labels labels' sets sets' k at li
     Labels text labels' sets' (k + 1) (add d (label (word_of line l) (names_at line allowed) (names_at line denied))).policy.labels
 
 -- steps::step_label: a label, whose name stands at l, with the purposes from two places on
-abbrev pub StepLabelPromise : (text : List ℕ) (at : ℕ) (line purposes labels labels' sets sets' : List ℕ) (c : Counts) (l allowed denied : ℕ) (s : Step) → Type 0
+abbrev pub StepLabelPromise : (text : List ℕ) (at : ℕ) (line purposes labels labels' sets sets' : List ℕ) (c : Counts) (l allowed denied : ℕ) (s : Result Counts Fault) → Type 0
 StepLabelPromise text at line purposes labels labels' sets sets' c l allowed denied s =
     (d : Doc) (rs' bs' us' cs' gs' ts' ws' : List ℕ) → LineAt text at line → (l ≤ length line) → names_at line denied ≡ names_at line (deny_place line l) →
     Indexed text purposes rs' bs' us' cs' gs' labels sets ts' ws' c d →
     Follows (Indexed text purposes rs' bs' us' cs' gs' labels' sets' ts' ws') line (check_form d line (label (word_of line l) (names_at line allowed) (names_at line denied))) s
 
 -- steps::step_table: a table, whose name stands at t, of this scheme, with its label at l, if it has one, and its columns from cs on
-abbrev pub StepTablePromise : (text : List ℕ) (at : ℕ) (line labels tables tables' : List ℕ) (c : Counts) (t : ℕ) (scheme : coded.Scheme) (l cs : ℕ) (s : Step) → Type 0
+abbrev pub StepTablePromise : (text : List ℕ) (at : ℕ) (line labels tables tables' : List ℕ) (c : Counts) (t : ℕ) (scheme : coded.Scheme) (l cs : ℕ) (s : Result Counts Fault) → Type 0
 StepTablePromise text at line labels tables tables' c t scheme l cs s =
     (d : Doc) (ps' rs' bs' us' cs' gs' ms' ws' : List ℕ) → LineAt text at line → ((t ≤ length line) × (l ≤ length line) × (cs ≤ length line)) →
     Indexed text ps' rs' bs' us' cs' gs' labels ms' tables ws' c d →

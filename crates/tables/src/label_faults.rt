@@ -3,10 +3,8 @@ ghost use Rattle.tables.specs.Promises.{LabelFaultPromise};
 
 use crate::words::{first_repeat, first_unknown_purpose};
 use relations::labels::find_label;
-use stepping::fault::{Fault, Verdict};
-use text::offending::Offending;
+use stepping::fault::Fault;
 use text::refusals::Reason;
-use workspace::found::Found;
 use workspace::layout::{LABELS, PURPOSE_CELLS};
 
 // The label whose name stands at l of the line, behind k labels; its sets of purposes stand from `allowed` and from `denied` on.
@@ -20,26 +18,26 @@ pub fn label_fault(
     l: usize,
     allowed: usize,
     denied: usize,
-) -> Verdict
+) -> Result<(), Fault>
     ensures { LabelFaultPromise text.now purposes.now purposes_count labels.now k line.now l allowed denied result }
 {
     if LABELS <= k {
-        return Verdict::Faulty(Fault::Whole(Reason::OverBound));
+        return Err(Fault::Whole(Reason::OverBound));
     }
-    if let Found::At(_) = find_label(text, labels, k, line, l) {
-        return Verdict::Faulty(Fault::Item(Reason::NameTaken, l));
+    if find_label(text, labels, k, line, l).is_some() {
+        return Err(Fault::Item(Reason::NameTaken, l));
     }
-    if let Offending::At(v) = first_repeat(line, allowed) {
-        return Verdict::Faulty(Fault::Item(Reason::NameTaken, v));
+    if let Some(v) = first_repeat(line, allowed) {
+        return Err(Fault::Item(Reason::NameTaken, v));
     }
-    if let Offending::At(v) = first_repeat(line, denied) {
-        return Verdict::Faulty(Fault::Item(Reason::NameTaken, v));
+    if let Some(v) = first_repeat(line, denied) {
+        return Err(Fault::Item(Reason::NameTaken, v));
     }
-    if let Offending::At(v) = first_unknown_purpose(text, purposes, purposes_count, line, allowed) {
-        return Verdict::Faulty(Fault::Item(Reason::NameUnknown, v));
+    if let Some(v) = first_unknown_purpose(text, purposes, purposes_count, line, allowed) {
+        return Err(Fault::Item(Reason::NameUnknown, v));
     }
-    if let Offending::At(v) = first_unknown_purpose(text, purposes, purposes_count, line, denied) {
-        return Verdict::Faulty(Fault::Item(Reason::NameUnknown, v));
+    if let Some(v) = first_unknown_purpose(text, purposes, purposes_count, line, denied) {
+        return Err(Fault::Item(Reason::NameUnknown, v));
     }
-    Verdict::Fine
+    Ok(())
 }

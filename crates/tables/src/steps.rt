@@ -7,8 +7,7 @@ use crate::table_faults::table_fault;
 use crate::table_storing::store_table;
 use form::lines::Scheme;
 use index::counts::Counts;
-use stepping::fault::Verdict;
-use stepping::step::Step;
+use stepping::fault::Fault;
 use workspace::layout::{LABELS, PURPOSE_CELLS, SET_WORDS, TABLE_CELLS};
 
 // A label, whose name stands at l, with the purposes from two places on.
@@ -23,22 +22,19 @@ pub fn step_label(
     l: usize,
     allowed: usize,
     denied: usize,
-) -> Step
+) -> Result<Counts, Fault>
     ensures { StepLabelPromise text.now at line.now purposes.now labels.old labels.new sets.old sets.new c l allowed denied result }
 {
     let k = c.labels;
-    let f = label_fault(
+    label_fault(
         text, purposes, c.purposes, labels, k, line, l, allowed, denied,
-    );
-    if let Verdict::Faulty(wrong) = f {
-        return Step::Fails(wrong);
-    }
+    )?;
     store_label(
         text, purposes, c.purposes, labels, sets, k, at, line, l, allowed, denied,
     );
     let mut next = c;
     next.labels = k + 1;
-    Step::Goes(next)
+    Ok(next)
 }
 
 // A table, whose name stands at t, of this scheme, with its label at l, if it has one, and its columns from cs on.
@@ -53,18 +49,15 @@ pub fn step_table(
     scheme: Scheme,
     l: usize,
     cs: usize,
-) -> Step
+) -> Result<Counts, Fault>
     ensures { StepTablePromise text.now at line.now labels.now tables.old tables.new c t scheme l cs result }
 {
     let k = c.tables;
-    let f = table_fault(text, labels, c.labels, tables, k, line, t, scheme, l, cs);
-    if let Verdict::Faulty(wrong) = f {
-        return Step::Fails(wrong);
-    }
+    table_fault(text, labels, c.labels, tables, k, line, t, scheme, l, cs)?;
     store_table(
         text, labels, c.labels, tables, k, at, line, t, scheme, l, cs,
     );
     let mut next = c;
     next.tables = k + 1;
-    Step::Goes(next)
+    Ok(next)
 }

@@ -17,12 +17,10 @@ use form::lines::{Scheme, labels_columns};
 use form::walks::{first_in, pair_end, third_in, triple_end};
 use relations::labels::find_label;
 use relations::tables::find_table;
-use stepping::fault::{Fault, Verdict};
+use stepping::fault::Fault;
 use text::bytes::byte_at;
-use text::offending::Offending;
 use text::refusals::Reason;
 use text::words::same_name;
-use workspace::found::Found;
 use workspace::layout::{COLUMNS, LABELS, MET_WORDS, TABLE_CELLS, TABLES};
 use workspace::met::{LONG_LINE, is_new};
 
@@ -69,7 +67,7 @@ fn stands_among(s: &[u8], at: usize, n: usize, triple: bool, p: usize) -> bool
 }
 
 // The first of the columns from a position on whose name stood before. A name that is surely new is compared with none.
-fn first_repeat_by(s: &[u8], at: usize, triple: bool, met: &mut [u64]) -> Offending
+fn first_repeat_by(s: &[u8], at: usize, triple: bool, met: &mut [u64]) -> Option<usize>
     ensures { (offending_of s.now result ≡ repeated (map (λ x. x.name) (columns_by triple s.now at))) × Near s.now result }
 {
     let mut j = at;
@@ -78,17 +76,17 @@ fn first_repeat_by(s: &[u8], at: usize, triple: bool, met: &mut [u64]) -> Offend
         let p = first_in(s, j + 1);
         if !is_new(met, s, p) {
             if stands_among(s, at, n, triple, p) {
-                return Offending::At(p);
+                return Some(p);
             }
         }
         j = bracket_end(s, j + 1, triple);
         n += 1;
     }
-    Offending::Nothing
+    None
 }
 
 // The first of the columns from a position on whose name stood before.
-fn first_repeat(s: &[u8], at: usize, triple: bool) -> Offending
+fn first_repeat(s: &[u8], at: usize, triple: bool) -> Option<usize>
     ensures { (offending_of s.now result ≡ repeated (map (λ x. x.name) (columns_by triple s.now at))) × Near s.now result }
 {
     if s.len() < LONG_LINE {
@@ -103,11 +101,7 @@ fn first_repeat(s: &[u8], at: usize, triple: bool) -> Offending
 fn is_label(text: &[u8], labels: &[usize; LABELS], m: usize, line: &[u8], p: usize) -> bool
     ensures { (sets : List ℕ) (ls : List Label) → Labels text.now labels.now sets m ls → result ≡ there (find_index (λ x. is_called (word_of line.now p) x.name) ls) }
 {
-    let f = find_label(text, labels, m, line, p);
-    match f {
-        Found::At(_) => true,
-        Found::Nothing => false,
-    }
+    find_label(text, labels, m, line, p).is_some()
 }
 
 // The first of the columns' labels from a position on that is not known.
@@ -117,18 +111,18 @@ fn first_unknown_label(
     m: usize,
     line: &[u8],
     at: usize,
-) -> Offending
+) -> Option<usize>
     ensures { ((sets : List ℕ) (ls : List Label) → Labels text.now labels.now sets m ls → offending_of line.now result ≡ missing (λ w. there (find_index (λ x. is_called w x.name) ls)) (column_labels_at line.now at)) × Near line.now result }
 {
     let mut j = at;
     while byte_at(line, j) == b' ' {
         let third = third_in(line, j + 1);
         if !is_label(text, labels, m, line, third) {
-            return Offending::At(third);
+            return Some(third);
         }
         j = bracket_end(line, j + 1, true);
     }
-    Offending::Nothing
+    None
 }
 
 // The label of the table, if it is not known.
@@ -138,13 +132,13 @@ fn unknown_table_label(
     m: usize,
     line: &[u8],
     l: usize,
-) -> Offending
+) -> Option<usize>
     ensures { ((sets : List ℕ) (ls : List Label) → Labels text.now labels.now sets m ls → offending_of line.now result ≡ missing (λ w. there (find_index (λ x. is_called w x.name) ls)) (word_of line.now l ∷ [])) × (l ≤ length line.now → Near line.now result) }
 {
     if is_label(text, labels, m, line, l) {
-        return Offending::Nothing;
+        return None;
     }
-    Offending::At(l)
+    Some(l)
 }
 
 // The first of the labels that the scheme names that is not known.
@@ -156,16 +150,16 @@ fn unknown_label(
     scheme: Scheme,
     l: usize,
     cs: usize,
-) -> Offending
+) -> Option<usize>
     ensures { ((sets : List ℕ) (ls : List Label) → Labels text.now labels.now sets m ls → offending_of line.now result ≡ missing (λ w. there (find_index (λ x. is_called w x.name) ls)) (scheme_labels (scheme_words line.now scheme l cs))) × (l ≤ length line.now → Near line.now result) }
 {
     match scheme {
-        Scheme::Unlabelled => Offending::Nothing,
+        Scheme::Unlabelled => None,
         Scheme::ByTable => unknown_table_label(text, labels, m, line, l),
         Scheme::ByColumn => first_unknown_label(text, labels, m, line, cs),
-        Scheme::ByRow => Offending::Nothing,
-        Scheme::ByCell => Offending::Nothing,
-        Scheme::Nested => Offending::Nothing,
+        Scheme::ByRow => None,
+        Scheme::ByCell => None,
+        Scheme::Nested => None,
     }
 }
 
@@ -182,27 +176,24 @@ pub fn table_fault(
     scheme: Scheme,
     l: usize,
     cs: usize,
-) -> Verdict
+) -> Result<(), Fault>
     ensures { JudgesTable (λ (d : Doc). ((sets : List ℕ) × Labels text.now labels.now sets m d.policy.labels) × Tables text.now tables.now k d.policy.tables) ((t ≤ length line.now) × (l ≤ length line.now) × (cs ≤ length line.now)) line.now t scheme l cs k result }
 {
     if TABLES <= k {
-        return Verdict::Faulty(Fault::Whole(Reason::OverBound));
+        return Err(Fault::Whole(Reason::OverBound));
     }
     let triple = labels_columns(scheme);
     if COLUMNS < count_columns(line, cs, triple) {
-        return Verdict::Faulty(Fault::Whole(Reason::OverBound));
+        return Err(Fault::Whole(Reason::OverBound));
     }
-    let before = find_table(text, tables, k, line, t);
-    if let Found::At(_) = before {
-        return Verdict::Faulty(Fault::Item(Reason::NameTaken, t));
+    if find_table(text, tables, k, line, t).is_some() {
+        return Err(Fault::Item(Reason::NameTaken, t));
     }
-    let again = first_repeat(line, cs, triple);
-    if let Offending::At(p) = again {
-        return Verdict::Faulty(Fault::Item(Reason::NameTaken, p));
+    if let Some(p) = first_repeat(line, cs, triple) {
+        return Err(Fault::Item(Reason::NameTaken, p));
     }
-    let unknown = unknown_label(text, labels, m, line, scheme, l, cs);
-    if let Offending::At(p) = unknown {
-        return Verdict::Faulty(Fault::Item(Reason::NameUnknown, p));
+    if let Some(p) = unknown_label(text, labels, m, line, scheme, l, cs) {
+        return Err(Fault::Item(Reason::NameUnknown, p));
     }
-    Verdict::Fine
+    Ok(())
 }

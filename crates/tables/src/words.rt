@@ -12,9 +12,7 @@ ghost use Rattle.text.specs.CodeEnds.{offending_of};
 
 use principals::names::find_purpose;
 use text::bytes::byte_at;
-use text::offending::Offending;
 use text::words::{same_name, word_end};
-use workspace::found::Found;
 use workspace::layout::{MET_WORDS, PURPOSE_CELLS};
 use workspace::met::{LONG_LINE, is_new};
 
@@ -39,7 +37,7 @@ pub fn among_first(line: &[u8], at: usize, k: usize, w: usize) -> bool
 }
 
 // The first name from `at` on that stands earlier among them. A name that is surely new is compared with none.
-fn first_repeat_by(line: &[u8], at: usize, met: &mut [u64]) -> Offending
+fn first_repeat_by(line: &[u8], at: usize, met: &mut [u64]) -> Option<usize>
     ensures { (offending_of line.now result ≡ repeated (names_at line.now «at»)) × Near line.now result }
 {
     let mut j = at;
@@ -48,17 +46,17 @@ fn first_repeat_by(line: &[u8], at: usize, met: &mut [u64]) -> Offending
         let v = j + 1;
         if !is_new(met, line, v) {
             if among_first(line, at, k, v) {
-                return Offending::At(v);
+                return Some(v);
             }
         }
         j = word_end(line, v);
         k += 1;
     }
-    Offending::Nothing
+    None
 }
 
 // The first name from `at` on that stands earlier among them.
-pub fn first_repeat(line: &[u8], at: usize) -> Offending
+pub fn first_repeat(line: &[u8], at: usize) -> Option<usize>
     ensures { (offending_of line.now result ≡ repeated (names_at line.now «at»)) × Near line.now result }
 {
     if line.len() < LONG_LINE {
@@ -76,16 +74,16 @@ pub fn first_unknown_purpose(
     k: usize,
     line: &[u8],
     at: usize,
-) -> Offending
+) -> Option<usize>
     ensures { ((ns : List Node) → Nodes limit text.now purposes.now k ns → offending_of line.now result ≡ missing (λ w. there (find_index (λ x. is_called w x.name) ns)) (names_at line.now «at»)) × Near line.now result }
 {
     let mut j = at;
     while byte_at(line, j) == b' ' {
         let v = j + 1;
-        if let Found::Nothing = find_purpose(text, purposes, k, line, v) {
-            return Offending::At(v);
+        if find_purpose(text, purposes, k, line, v).is_none() {
+            return Some(v);
         }
         j = word_end(line, v);
     }
-    Offending::Nothing
+    None
 }

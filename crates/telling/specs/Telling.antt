@@ -3,13 +3,14 @@ use Rattle.std.specs.Prelude.{◌≤◌, ℕ, drop, length, List, ◌++◌, ◌�
 use Rattle.answer.specs.Why.{Reason, reason_text}
 use Rattle.text.specs.Reasons.{refusal_of}
 use Rattle.text.specs.Refusal.{Result, accepted, refused}
-use Rattle.telling.specs.declared.texts.Told.{Told}
-use Rattle.telling.specs.declared.texts.Told.TheVariants as told
+use Rattle.std.specs.Prelude.{Err, Ok}
+use Rattle.text.specs.declared.refusals.Refusal.{Refusal}
+use Rattle.std.specs.Prelude as prelude
 
 -- what the code's answer stands for: the length of a line, or a refusal
-unfoldable pub told_as : Told → Result ℕ
-told_as (told.Line n) = accepted n
-told_as (told.Refused r) = refused (refusal_of r)
+unfoldable pub told_as : prelude.Result ℕ Refusal → Result ℕ
+told_as (Ok n) = accepted n
+told_as (Err r) = refused (refusal_of r)
 
 -- the length of the line that is printed for what was found
 unfoldable pub line_length : Result Reason → Result ℕ
@@ -22,7 +23,7 @@ after_line (refused r) buffer = buffer
 after_line (accepted e) buffer = reason_text e ++ drop (length (reason_text e)) buffer
 
 -- THE TOLD LINE: the answer r and the buffer are those of what was found
-pub record Tells (found : Result Reason) (before after : List ℕ) (r : Told) : Type 0 where
+pub record Tells (found : Result Reason) (before after : List ℕ) (r : prelude.Result ℕ Refusal) : Type 0 where
   pub gives : told_as r ≡ line_length found
   pub buffer : after ≡ after_line found before
 

@@ -4,8 +4,8 @@ ghost use Rattle.reasons.specs.Explaining.{explained_as};
 ghost use Rattle.telling.specs.Telling.{Fitting, Tells};
 
 use crate::lines::put_reason;
-use checker::loading::{Loaded, load};
-use reasons::explained::Explained;
+use checker::loading::load;
+use reasons::explained::Cause;
 use reasons::lines::explain_line;
 use text::refusals::Refusal;
 use workspace::layout::{
@@ -16,25 +16,20 @@ use workspace::layout::{
 // The most bytes of a line: `(closed deny `, a name, `)` and a line feed.
 pub const LINE_BYTES: usize = 39;
 
-// What a host gets: the line's length, or a refusal.
-#[derive(Clone, Copy)]
-pub enum Told {
-    Line(usize),
-    Refused(Refusal),
-}
-
 // What was found, told: a reason's line fills the first bytes of the lent buffer, a refusal leaves it.
-pub fn tell(doc: &[u8], e: Explained, out: &mut [u8; LINE_BYTES]) -> Told
+pub fn tell(
+    doc: &[u8],
+    e: Result<Cause, Refusal>,
+    out: &mut [u8; LINE_BYTES],
+) -> Result<usize, Refusal>
     ensures { Fitting (explained_as doc.now e) → Tells (explained_as doc.now e) out.old out.new result }
 {
-    match e {
-        Explained::Given(x) => Told::Line(put_reason(out, doc, x)),
-        Explained::Refused(r) => Told::Refused(r),
-    }
+    let x = e?;
+    Ok(put_reason(out, doc, x))
 }
 
 // Why a cell of the document is open or closed: the line of the reason in the lent buffer, or a refusal.
-pub fn why(doc: &[u8], line: &[u8], out: &mut [u8; LINE_BYTES]) -> Told
+pub fn why(doc: &[u8], line: &[u8], out: &mut [u8; LINE_BYTES]) -> Result<usize, Refusal>
     ensures { Tells (why doc.now line.now) out.old out.new result }
 {
     let mut purposes = [0usize; PURPOSE_CELLS];
@@ -47,7 +42,7 @@ pub fn why(doc: &[u8], line: &[u8], out: &mut [u8; LINE_BYTES]) -> Told
     let mut sets = [0u64; SET_WORDS];
     let mut tables = [0usize; TABLE_CELLS];
     let mut rows = [0usize; ROW_CELLS];
-    let r = load(
+    let (c, _) = load(
         doc,
         &mut purposes,
         &mut roles,
@@ -59,12 +54,7 @@ pub fn why(doc: &[u8], line: &[u8], out: &mut [u8; LINE_BYTES]) -> Told
         &mut sets,
         &mut tables,
         &mut rows,
-    );
-    match r {
-        Loaded::Refused(x) => Told::Refused(x),
-        Loaded::Accepted(c, _) => {
-            let e = explain_line(doc, &purposes, &labels, &sets, &tables, &rows, c, line);
-            tell(doc, e, out)
-        }
-    }
+    )?;
+    let e = explain_line(doc, &purposes, &labels, &sets, &tables, &rows, c, line);
+    tell(doc, e, out)
 }

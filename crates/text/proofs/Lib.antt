@@ -1,4 +1,5 @@
 -- Laws of the definitions, which the proofs of this crate and of the crates above cite. Assumes nothing.
+pub mod ScanEnds
 pub mod Samples
 pub mod NameLaws
 pub mod RefusalLaws
@@ -27,3 +28,4 @@ pub mod CellValues
 pub mod Enclosed
 pub mod CodeLaws
 pub mod EndLaws
+pub mod ItemLaws

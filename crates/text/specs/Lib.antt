@@ -12,5 +12,6 @@ pub mod Offending
 pub mod Ends
 pub mod Walking
 pub mod CodeEnds
+pub mod Items
 pub mod Reasons
 pub mod Computing

@@ -5,47 +5,30 @@ ghost use Rattle.text.specs.CodeEnds.{end_of_range, word_end};
 ghost use Rattle.text.specs.Reader.{from};
 
 use crate::bytes::byte_at;
-use crate::numbers::{Number, read_number};
-use crate::words::End;
-
-// Where a range ends, and the ranks of LOW and HIGH.
-#[derive(Clone, Copy)]
-pub enum Span {
-    At(usize, u64, u64),
-    Nothing,
-}
+use crate::numbers::read_number;
 
 // The end of the range at a position, and the ranks of its ends.
-pub fn read_range(s: &[u8], at: usize) -> Span
+pub fn read_range(s: &[u8], at: usize) -> Option<(usize, u64, u64)>
     ensures { result ≡ end_of_range (range (from s.now at)) }
 {
     if byte_at(s, at) != b'(' {
-        return Span::Nothing;
+        return None;
     }
-    let l = read_number(s, at + 1);
-    let Number::At(e, low) = l else {
-        return Span::Nothing;
-    };
+    let (e, low) = read_number(s, at + 1)?;
     if byte_at(s, e) != b' ' {
-        return Span::Nothing;
+        return None;
     }
-    let h = read_number(s, e + 1);
-    let Number::At(f, high) = h else {
-        return Span::Nothing;
-    };
+    let (f, high) = read_number(s, e + 1)?;
     if byte_at(s, f) != b')' {
-        return Span::Nothing;
+        return None;
     }
-    Span::At(f + 1, low, high)
+    Some((f + 1, low, high))
 }
 
 // The end of the range at a position.
-pub fn range_end(s: &[u8], at: usize) -> End
+pub fn range_end(s: &[u8], at: usize) -> Option<usize>
     ensures { result ≡ word_end (range (from s.now at)) }
 {
-    let k = read_range(s, at);
-    match k {
-        Span::At(e, _, _) => End::At(e),
-        Span::Nothing => End::Nothing,
-    }
+    let (e, _, _) = read_range(s, at)?;
+    Some(e)
 }

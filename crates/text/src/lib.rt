@@ -6,7 +6,6 @@ pub mod brackets;
 pub mod bytes;
 pub mod lines;
 pub mod numbers;
-pub mod offending;
 pub mod refusals;
 pub mod walking;
 pub mod words;

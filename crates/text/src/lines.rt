@@ -5,12 +5,10 @@ ghost use Rattle.text.specs.Lines.{LineEnd};
 pub fn line_end(s: &[u8], at: usize) -> usize
     ensures { LineEnd s.now at result }
 {
-    let mut i = at;
-    while i < s.len() {
+    for i in at..s.len() {
         if s[i] == b'\n' {
             return i;
         }
-        i += 1;
     }
-    i
+    at.max(s.len())
 }

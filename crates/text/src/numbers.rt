@@ -7,20 +7,6 @@ ghost use Rattle.text.specs.CodeEnds.{limited, ended_at, amount_of, end_of_numbe
 
 use crate::bytes::{byte_at, is_digit, is_name_byte};
 
-// A number, where there is one.
-#[derive(Clone, Copy)]
-pub enum Amount {
-    Is(u64),
-    Nothing,
-}
-
-// Where a number ends, and its rank.
-#[derive(Clone, Copy)]
-pub enum Number {
-    At(usize, u64),
-    Nothing,
-}
-
 // Whether the word at a position has no leading zero.
 pub fn is_canonical(s: &[u8], at: usize) -> bool
     ensures { result ≡ no_leading_zero (word_at s.now at) }
@@ -36,88 +22,69 @@ pub fn is_canonical(s: &[u8], at: usize) -> bool
 }
 
 // The end of the digits at a position, and the number that they spell, if it is at most 2^63.
-fn read_digits(s: &[u8], at: usize) -> Number
+fn read_digits(s: &[u8], at: usize) -> Option<(usize, u64)>
     ensures { result ≡ ended_at (at + length (word_at s.now at)) (limited (digits_from 0 (word_at s.now at))) }
 {
     let mut i = at;
     let mut n: u64 = 0;
     while is_digit(byte_at(s, i)) {
         if n > 922337203685477580 {
-            return Number::Nothing;
+            return None;
         }
         n = n * 10 + ((byte_at(s, i) - 48) as u64);
         i += 1;
     }
     if is_name_byte(byte_at(s, i)) {
-        return Number::Nothing;
+        return None;
     }
     if n <= 9223372036854775808 {
-        Number::At(i, n)
+        Some((i, n))
     } else {
-        Number::Nothing
+        None
     }
 }
 
 // The same, if they have no leading zero.
-fn read_magnitude(s: &[u8], at: usize) -> Number
+fn read_magnitude(s: &[u8], at: usize) -> Option<(usize, u64)>
     ensures { result ≡ ended_at (at + length (word_at s.now at)) (limited (magnitude (word_at s.now at))) }
 {
     if is_canonical(s, at) {
         read_digits(s, at)
     } else {
-        Number::Nothing
+        None
     }
 }
 
 // The number alone.
-pub fn magnitude_at(s: &[u8], at: usize) -> Amount
+pub fn magnitude_at(s: &[u8], at: usize) -> Option<u64>
     ensures { result ≡ limited (magnitude (word_at s.now at)) }
 {
-    let m = read_magnitude(s, at);
-    match m {
-        Number::At(_, n) => Amount::Is(n),
-        Number::Nothing => Amount::Nothing,
-    }
+    let (_, n) = read_magnitude(s, at)?;
+    Some(n)
 }
 
 // The end of the number at a position, and its rank.
-pub fn read_number(s: &[u8], at: usize) -> Number
+pub fn read_number(s: &[u8], at: usize) -> Option<(usize, u64)>
     ensures { result ≡ end_of_number (read_number (from s.now at)) }
 {
     if byte_at(s, at) == b'-' {
-        let m = read_magnitude(s, at + 1);
-        match m {
-            Number::At(end, n) => {
-                if n == 0 {
-                    Number::Nothing
-                } else {
-                    Number::At(end, 9223372036854775808 - n)
-                }
-            }
-            Number::Nothing => Number::Nothing,
+        let (end, n) = read_magnitude(s, at + 1)?;
+        if n == 0 {
+            return None;
         }
-    } else {
-        let m = read_magnitude(s, at);
-        match m {
-            Number::At(end, n) => {
-                if n < 9223372036854775808 {
-                    Number::At(end, 9223372036854775808 + n)
-                } else {
-                    Number::Nothing
-                }
-            }
-            Number::Nothing => Number::Nothing,
-        }
+        return Some((end, 9223372036854775808 - n));
     }
+    let (end, n) = read_magnitude(s, at)?;
+    if n >= 9223372036854775808 {
+        return None;
+    }
+    Some((end, 9223372036854775808 + n))
 }
 
 // The rank of the number that the word at a position spells.
-pub fn rank_at(s: &[u8], at: usize) -> Amount
+pub fn rank_at(s: &[u8], at: usize) -> Option<u64>
     ensures { result ≡ amount_of (rank (word_at s.now at)) }
 {
-    let k = read_number(s, at);
-    match k {
-        Number::At(_, n) => Amount::Is(n),
-        Number::Nothing => Amount::Nothing,
-    }
+    let (_, n) = read_number(s, at)?;
+    Some(n)
 }

@@ -6,41 +6,33 @@ ghost use Rattle.text.specs.Names.{same_byte, same_name};
 ghost use Rattle.text.specs.CodeEnds.{word_end};
 
 use crate::bytes::{byte_at, is_letter, is_name_byte, lower};
-use crate::numbers::{Number, read_number};
-
-// Where a reader ends, or that it refuses.
-#[derive(Clone, Copy)]
-pub enum End {
-    At(usize),
-    Nothing,
-}
+use crate::numbers::read_number;
 
 // The end of the name bytes that stand at a position.
 pub fn word_end(s: &[u8], at: usize) -> usize
     ensures { result ≡ at + length (word_at s.now at) }
 {
-    let mut i = at;
-    while is_name_byte(byte_at(s, i)) {
-        i += 1;
+    for i in at..s.len() {
+        if !is_name_byte(s[i]) {
+            return i;
+        }
     }
-    i
+    at.max(s.len())
 }
 
 // The position behind the first closing bracket from a position on, or the line's end where there is none.
 fn closing_end(s: &[u8], at: usize) -> usize
     ensures { result ≡ at + length (to_closing (drop at s.now)) }
 {
-    let mut i = at;
-    while i < s.len() {
+    for i in at..s.len() {
         if s[i] == b'\n' {
             return i;
         }
         if s[i] == b')' {
             return i + 1;
         }
-        i += 1;
     }
-    i
+    at.max(s.len())
 }
 
 // The end of the value of a cell that stands at a position.
@@ -54,33 +46,27 @@ pub fn written_end(s: &[u8], at: usize) -> usize
 }
 
 // The end of the name that stands at a position.
-pub fn name_end(s: &[u8], at: usize) -> End
+pub fn name_end(s: &[u8], at: usize) -> Option<usize>
     ensures { result ≡ word_end (name (from s.now at)) }
 {
     if is_letter(byte_at(s, at)) {
         let end = word_end(s, at);
         if end - at <= 24 {
-            return End::At(end);
+            return Some(end);
         }
     }
-    End::Nothing
+    None
 }
 
 // The end of the name or number that stands at a position.
-pub fn value_end(s: &[u8], at: usize) -> End
+pub fn value_end(s: &[u8], at: usize) -> Option<usize>
     ensures { result ≡ word_end (value (from s.now at)) }
 {
-    let n = name_end(s, at);
-    match n {
-        End::At(e) => End::At(e),
-        End::Nothing => {
-            let k = read_number(s, at);
-            match k {
-                Number::At(e, _) => End::At(e),
-                Number::Nothing => End::Nothing,
-            }
-        }
+    if let Some(e) = name_end(s, at) {
+        return Some(e);
     }
+    let (e, _) = read_number(s, at)?;
+    Some(e)
 }
 
 // Whether two bytes are the same in a name. Most that are the same are equal: only others are lowered.
@@ -114,8 +100,7 @@ pub fn is_word(s: &[u8], at: usize, w: &[u8]) -> bool
     ensures { result ≡ same_name (word_at s.now at) w.now }
 {
     let mut x = at;
-    let mut k = 0;
-    while k < w.len() {
+    for k in 0..w.len() {
         if !is_name_byte(byte_at(s, x)) {
             return false;
         }
@@ -123,7 +108,6 @@ pub fn is_word(s: &[u8], at: usize, w: &[u8]) -> bool
             return false;
         }
         x += 1;
-        k += 1;
     }
     !is_name_byte(byte_at(s, x))
 }

@@ -43,12 +43,11 @@ use Rattle.text.specs.Offending.{missing}
 use Rattle.text.specs.Reader.{Left, from}
 use Rattle.text.specs.Walking.{past, word_end_at, written_end_at}
 use Rattle.text.specs.Words.{Word, name, word_at, word_of, written_at}
-use Rattle.text.specs.declared.words.End.{End}
-use Rattle.text.specs.declared.words.End.TheVariants.{At}
+use Rattle.std.specs.Prelude.{Option, Some}
 
 -- ---- the label of a known name behind a space
 
-pub label_taken : {before after line : List ℕ} {d : Policy} {k m at e y : ℕ} → get_or line at 0 ≡ 32 → word_end (name (from line (at + 1))) ≡ At e
+pub label_taken : {before after line : List ℕ} {d : Policy} {k m at e y : ℕ} → get_or line at 0 ≡ 32 → word_end (name (from line (at + 1))) ≡ Some e
     → (e ≡ at + 1 + length (word_at line (at + 1)) → some y ≡ label_of d (word_of line (at + 1))) → LabelStored before after k m y → LabelTaken before after line d k m at e
 unfolding word_end_at there or_zero
 label_taken {before} {after} {line} {d} {k} {m} {at} {e} {y} space read to s =
@@ -63,7 +62,7 @@ label_taken {before} {after} {line} {d} {k} {m} {at} {e} {y} space read to s =
     }
 
 -- the code says where it ends
-pub label_at : {before after line : List ℕ} {d : Policy} {k m at e : ℕ} {r : End} → r ≡ At e → LabelWalked before after line d k m at r → LabelTaken before after line d k m at e
+pub label_at : {before after line : List ℕ} {d : Policy} {k m at e : ℕ} {r : Option ℕ} → r ≡ Some e → LabelWalked before after line d k m at r → LabelTaken before after line d k m at e
 label_at {before} {after} {line} {d} {k} {m} {at} q h = subst (λ z. LabelWalked before after line d k m at z) q h
 
 -- ---- what the walk keeps
@@ -105,13 +104,13 @@ module _ (line : List ℕ) (j e f : ℕ) (opened : get_or line (j + 1) 0 ≡ 40)
   pair_at = sym (past_here 41 line f (λ z. absurd (omega arith)) closed) ∙ ap (past 41 line) (second ∙ ap (word_end_at line) second_at)
 
   module _ (type : Kind) (v : cell_has_kind type (written_at line (j + 2)) ≡ true) (n : is_name (word_at line (e + 1)) ≡ true) where
-    pair_read : word_end (labelled_item (from line (j + 1))) ≡ At (f + 1)
+    pair_read : word_end (labelled_item (from line (j + 1))) ≡ Some (f + 1)
     unfolding labelled_item word_end_at
     pair_read =
         let two : j + 1 + 1 ≡ j + 2 = omega arith in
-        sym (held_end cell_value (next name) labelled forward_cell_value line (j + 1) refl (ap word_end (byte_at_read line (j + 1) 40 opened) ∙ ap At two)
-        refl (typed_value line (j + 2) type v ∙ ap At (sym first))
-        refl (forward_next name (forward_word_that is_name)) (ap word_end (next_here name line e gap ∙ word_read line (e + 1) is_name n) ∙ ap At (sym second))
+        sym (held_end cell_value (next name) labelled forward_cell_value line (j + 1) refl (ap word_end (byte_at_read line (j + 1) 40 opened) ∙ ap Some two)
+        refl (typed_value line (j + 2) type v ∙ ap Some (sym first))
+        refl (forward_next name (forward_word_that is_name)) (ap word_end (next_here name line e gap ∙ word_read line (e + 1) is_name n) ∙ ap Some (sym second))
         (sym (ap word_end (byte_at_read line f 41 closed))))
 
     is_pair : (r : Item × Left) × (labelled_item (from line (j + 1)) ≡ some r)
@@ -127,7 +126,7 @@ module _ (line : List ℕ) (j e f : ℕ) (opened : get_or line (j + 1) 0 ≡ 40)
     unfolding first_in
     value_at_lem = first_at ∙ sym (place_bracket line (j + 1) cell_labelled)
 
-    cell_read : word_end (item (from line (j + 1))) ≡ At (f + 1)
+    cell_read : word_end (item (from line (j + 1))) ≡ Some (f + 1)
     cell_read = ap word_end (labelled_item_lem (from line (j + 1)) is_pair.0.0 is_pair.0.1 is_pair.1) ∙ ap word_end (sym is_pair.1) ∙ pair_read
 
   cell_stored : {text : List ℕ} {at : ℕ} (l : LineAt text at line) {before ws mid after : List ℕ} {k c m : ℕ} (ls : List ℕ) (d : Policy) (is pos : ℕ) → get_or line j 0 ≡ 32 → (at + (j + 2) ≤ length text → pos ≡ at + (j + 2))
@@ -151,7 +150,7 @@ module _ (line : List ℕ) (j e f : ℕ) (opened : get_or line (j + 1) 0 ≡ 40)
 
 module _ {text tables : List ℕ} {count x : ℕ} (d : Policy) (T : Tables text tables count d.tables) (b : x < count) {n : ℕ} (wide : n ≡ length (columns_at d x)) where
   pub cells_turn : {before ws mid after line : List ℕ} {k c m at e f pos : ℕ} (ls : List ℕ) (is j : ℕ) (type : Kind) → LineAt text at line → k < 1024 → m ≤ 1 → c < n → get_or line j 0 ≡ 32 → get_or line (j + 1) 0 ≡ 40
-      → (x < 8 → c < 16 → type ≡ column_kind_in tables x c) → typed_end line (j + 2) type ≡ At e
+      → (x < 8 → c < 16 → type ≡ column_kind_in tables x c) → typed_end line (j + 2) type ≡ Some e
       → (at + (j + 2) ≤ length text → pos ≡ at + (j + 2)) → ValueStored ws mid k c pos → LabelTaken mid after line d k (m + c) e f → get_or line f 0 ≡ 41
       → CellsPassed text before ws line k n m ls c d (columns_at d x) is j → CellsPassed text before after line k n m ls (c + 1) d (columns_at d x) is (f + 1)
   cells_turn {before} {ws} {mid} {after} {line} {k} {c} {m} {at} {e} {f} {pos} ls is j type stands small one inside space opened kind ends placed s t closed p =

@@ -22,8 +22,7 @@ use Rattle.text.specs.Names.{Name, is_name, lower, same_byte, same_name}
 use Rattle.text.specs.Reader.{from}
 use Rattle.text.specs.Walking.{word_end_at}
 use Rattle.text.specs.Words.{is_called, name, word_at}
-use Rattle.text.specs.declared.words.End.TheVariants.{At, Nothing}
-use Rattle.text.specs.declared.words.End.{End}
+use Rattle.std.specs.Prelude.{None, Option, Some}
 use Rattle.walks.specs.Taken.{ItemsClose, TakesItems, TakesRow, closes_at, row_at, table_end}
 use borrow.Author.Tests.{eqb-true}
 use lib.Dec.{eqb}
@@ -49,7 +48,7 @@ module _ (line : List ℕ) (e : ℕ) (h : closes_at line e ≡ true) where
   pub no_space : get_or line e 0 ≡ 32 → ⊥
   no_space z = omega (arith, closes_here, z)
 
-  pub no_items : word_end (many item (from line e)) ≡ At e
+  pub no_items : word_end (many item (from line e)) ≡ Some e
   no_items = sym (list_stop item forward_item line e refl no_space refl)
 
 -- ---- the keyword
@@ -65,12 +64,12 @@ row_keyword line h =
 -- ---- the line
 
 -- an answer that there is says that the test holds
-told : (t : Bool) (x : End) (e : ℕ) → cond t x Nothing ≡ At e → (t ≡ true) × (x ≡ At e)
+told : (t : Bool) (x : Option ℕ) (e : ℕ) → cond t x None ≡ Some e → (t ≡ true) × (x ≡ Some e)
 told true x e h = (refl, h)
 told false x e h = let z : ◌≡◌ {A = ℕ} 0 1 = cc in absurd (omega arith)
 
-module _ (line : List ℕ) (is : ℕ) (h : table_end line ≡ At is) where
-  tests : ((eqb (get_or line 0 0) 40 && same_name (word_at line 1) (ascii "row") && eqb (get_or line 4 0) 32) ≡ true) × (word_end (name (from line 5)) ≡ At is)
+module _ (line : List ℕ) (is : ℕ) (h : table_end line ≡ Some is) where
+  tests : ((eqb (get_or line 0 0) 40 && same_name (word_at line 1) (ascii "row") && eqb (get_or line 4 0) 32) ≡ true) × (word_end (name (from line 5)) ≡ Some is)
   unfolding table_end
   tests = told (eqb (get_or line 0 0) 40 && same_name (word_at line 1) (ascii "row") && eqb (get_or line 4 0) 32) (word_end (name (from line 5))) is h
 
@@ -84,7 +83,7 @@ module _ (line : List ℕ) (is : ℕ) (h : table_end line ≡ At is) where
   space = eqb-true _ _ (and_right (eqb (get_or line 0 0) 40 && same_name (word_at line 1) (ascii "row")) (eqb (get_or line 4 0) 32) tests.0)
 
   -- the table's name and the items, up to their end
-  body : (e : ℕ) → word_end (many item (from line is)) ≡ At e → keyword line_forms (from line 1) ≡ map (λ (f : Form). (f, from line e)) (some (row_at line is))
+  body : (e : ℕ) → word_end (many item (from line is)) ≡ Some e → keyword line_forms (from line 1) ≡ map (λ (f : Form). (f, from line e)) (some (row_at line is))
   unfolding row_form
   body e k =
       row_keyword line (and_right (eqb (get_or line 0 0) 40) (same_name (word_at line 1) (ascii "row")) begins)

@@ -43,15 +43,13 @@ use Rattle.text.specs.Offending.{missing}
 use Rattle.text.specs.Reader.{from}
 use Rattle.text.specs.Walking.{word_end_at}
 use Rattle.text.specs.Words.{Word, word_of, written_at}
-use Rattle.text.specs.declared.words.End.TheVariants.{At}
+use Rattle.std.specs.Prelude.{Option, Some}
 use Rattle.walks.proofs.RowLines.{no_items, no_space}
 use Rattle.walks.proofs.Typed.{typed_plain}
 use Rattle.walks.specs.Taken.{ItemsClose, ItemsTaken, closes_at, row_at}
 use Rattle.walks.specs.Walked.{CellsTaken, ItemsWalked, LabelTaken, ValuesTaken}
 use Rattle.workspace.specs.Found.{FoundBelow, found_as}
 use Rattle.workspace.specs.Tabulated.{tabulated}
-use Rattle.workspace.specs.declared.found.Found.TheVariants as found
-use Rattle.workspace.specs.declared.found.Found.{Found}
 use borrow.Author.Tests.{eqb-true}
 use lib.Dec.{eqb}
 use lib.ListN.{drop, get_or, length}
@@ -129,7 +127,7 @@ module _ {before marked line : List ℕ} {d : Policy} {k is j : ℕ} (l : LabelT
   is_typed = sym (word_kind line (is + 1) names bare) ∙ l.named
 
   led_ends : word_end (many item (from line is)) ≡ word_end (many item (from line j))
-  led_ends = sym (list_more item forward_item line is refl l.space refl (typed_plain line (is + 1) names is_typed ∙ ap At (written_end line (is + 1) bare ∙ sym l.end)) refl)
+  led_ends = sym (list_more item forward_item line is refl l.space refl (typed_plain line (is + 1) names is_typed ∙ ap Some (written_end line (is + 1) bare ∙ sym l.end)) refl)
 
   led_labelled : (us : List Word) → missing (λ v. there (label_of d v)) us ≡ none → missing (λ v. there (label_of d v)) (leading_name (items_at line is) ++ us) ≡ none
   led_labelled us h =
@@ -209,10 +207,10 @@ pub record TableTold (tables : List ℕ) (count x : ℕ) (s : coded.Scheme) (w :
   pub inside : x < count
   pub scheme : scheme_at d x ≡ scheme_by s (table_label_in tables x) (tabulated (column_label_in tables x) (length (columns_at d x)))
 
-pub table_told : {text tables : List ℕ} {count x : ℕ} {r : Found} {q s : coded.Scheme} (w : Word) (d : Policy) → Tables text tables count d.tables → r ≡ found.At x → found_as r ≡ table_of d w → FoundBelow r count
+pub table_told : {text tables : List ℕ} {count x : ℕ} {r : Option ℕ} {q s : coded.Scheme} (w : Word) (d : Policy) → Tables text tables count d.tables → r ≡ Some x → found_as r ≡ table_of d w → FoundBelow r count
     → q ≡ s → (x < 8 → scheme_in tables x ≡ scheme_by q (table_label_in tables x) (column_labels_in tables x)) → TableTold tables count x s w d
 table_told {text} {tables} {count} {x} {r} {q} {s} w d T at lookup below told reads =
-    let inside : x < count = subst (λ (f : Found). FoundBelow f count) at below in
+    let inside : x < count = subst (λ (f : Option ℕ). FoundBelow f count) at below in
     record {
       table = sym lookup ∙ ap found_as at;
       inside = inside;

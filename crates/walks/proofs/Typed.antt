@@ -52,10 +52,8 @@ use Rattle.text.specs.Numbers.{is_number, is_value, rank}
 use Rattle.text.specs.Reader.{Left, from}
 use Rattle.text.specs.Walking.{word_end_at, written_end_at}
 use Rattle.text.specs.Words.{name, read_number, word_at, written_at}
-use Rattle.text.specs.declared.numbers.Number.{Number}
-use Rattle.text.specs.declared.numbers.Number.TheVariants as number
-use Rattle.text.specs.declared.words.End.{End}
-use Rattle.text.specs.declared.words.End.TheVariants.{At, Nothing}
+use Rattle.std.specs.Prelude as prelude
+use Rattle.std.specs.Prelude.{None, Some}
 
 -- ---- what is of a type is a value, and it is read as an item without a label
 
@@ -69,12 +67,12 @@ kind_cell numbers bs h =
 kind_cell dates bs h = or_right (is_name bs || is_number bs) (is_range bs || is_date bs) (or_right (is_range bs) (is_date bs) h)
 
 -- an end: something was read
-pub end_some : {A : Type 0} (o : Option (A × Left)) {e : ℕ} → word_end o ≡ At e → (r : A × Left) × (o ≡ some r)
+pub end_some : {A : Type 0} (o : Option (A × Left)) {e : ℕ} → word_end o ≡ Some e → (r : A × Left) × (o ≡ some r)
 end_some none h = let z : ◌≡◌ {A = ℕ} 0 1 = cc in absurd (omega arith)
 end_some (some r) h = (r, refl)
 
 module _ (line : List ℕ) (v : ℕ) (type : Kind) (h : cell_has_kind type (written_at line v) ≡ true) where
-  pub typed_value : word_end (cell_value (from line v)) ≡ At (written_end_at line v)
+  pub typed_value : word_end (cell_value (from line v)) ≡ Some (written_end_at line v)
   typed_value = written_cell line v (kind_cell type (written_at line v) h)
 
   pub typed_bare : is_labelled_at line v ≡ false
@@ -82,41 +80,41 @@ module _ (line : List ℕ) (v : ℕ) (type : Kind) (h : cell_has_kind type (writ
   typed_bare = value_unlabelled line v (ap there (end_some (cell_value (from line v)) typed_value).1)
 
   -- it is read as an item
-  pub typed_plain : word_end (item (from line v)) ≡ At (written_end_at line v)
+  pub typed_plain : word_end (item (from line v)) ≡ Some (written_end_at line v)
   typed_plain = sym (item_ends line v (written_end_at line v) typed_value)
 
 -- ---- where the value of a type ends, as the code finds it
 
 -- the end of a number, without its rank
-abbrev pub number_end : Number → End
-number_end (number.At e k) = At e
-number_end number.Nothing = Nothing
+abbrev pub number_end : prelude.Option (ℕ × ℕ) → prelude.Option ℕ
+number_end (Some (e, k)) = Some e
+number_end None = None
 
 and-true : (b : Bool) → (b && true) ≡ b
 and-true true = refl
 and-true false = refl
 
 module _ (line : List ℕ) (v : ℕ) where
-  typed_yes : (type : Kind) → is_taken type (written_at line v) ≡ true → typed_end line v type ≡ At (written_end_at line v)
+  typed_yes : (type : Kind) → is_taken type (written_at line v) ≡ true → typed_end line v type ≡ Some (written_end_at line v)
   unfolding typed_end
-  typed_yes type h = ap (λ t. cond t (At (written_end_at line v)) Nothing) h
+  typed_yes type h = ap (λ t. cond t (Some (written_end_at line v)) None) h
 
-  typed_no : (type : Kind) → is_taken type (written_at line v) ≡ false → typed_end line v type ≡ Nothing
+  typed_no : (type : Kind) → is_taken type (written_at line v) ≡ false → typed_end line v type ≡ None
   unfolding typed_end
-  typed_no type h = ap (λ t. cond t (At (written_end_at line v)) Nothing) h
+  typed_no type h = ap (λ t. cond t (Some (written_end_at line v)) None) h
 
   -- an end: the value is of the type, ends there, and is sound
-  pub typed_at : (type : Kind) (e : ℕ) → typed_end line v type ≡ At e → (cell_has_kind type (written_at line v) ≡ true) × (e ≡ written_end_at line v) × (is_sound (written_at line v) ≡ true)
+  pub typed_at : (type : Kind) (e : ℕ) → typed_end line v type ≡ Some e → (cell_has_kind type (written_at line v) ≡ true) × (e ≡ written_end_at line v) × (is_sound (written_at line v) ≡ true)
   unfolding is_taken
   typed_at type e h = go (is_taken type (written_at line v)) refl
     where
       go : (t : Bool) → is_taken type (written_at line v) ≡ t → (cell_has_kind type (written_at line v) ≡ true) × (e ≡ written_end_at line v) × (is_sound (written_at line v) ≡ true)
       go true k =
-          let q : At (written_end_at line v) ≡ At e = sym (typed_yes type k) ∙ h in
+          let q : Some (written_end_at line v) ≡ Some e = sym (typed_yes type k) ∙ h in
           let r : e ≡ written_end_at line v = cc in
           (and_left (cell_has_kind type (written_at line v)) _ k, r, and_right (cell_has_kind type (written_at line v)) _ k)
       go false k =
-          let q : Nothing ≡ At e = sym (typed_no type k) ∙ h in
+          let q : None ≡ Some e = sym (typed_no type k) ∙ h in
           let z : ◌≡◌ {A = ℕ} 0 1 = cc in
           absurd (omega arith)
 
@@ -139,7 +137,7 @@ module _ (line : List ℕ) (v : ℕ) where
   typed_name = opened (eqb (get_or line v 0) 40) refl
     where
       named : (get_or line v 0 ≡ 40 → ⊥) → (t : Bool) → is_name (word_at line v) ≡ t → word_end (name (from line v)) ≡ typed_end line v names
-      named n true k = ap word_end (word_read line v is_name k) ∙ ap At (sym (written_end line v n)) ∙ sym (typed_yes names (taken_word names n ∙ k))
+      named n true k = ap word_end (word_read line v is_name k) ∙ ap Some (sym (written_end line v n)) ∙ sym (typed_yes names (taken_word names n ∙ k))
       named n false k = ap word_end (word_refused line v is_name k) ∙ sym (typed_no names (taken_word names n ∙ k))
 
       opened : (t : Bool) → eqb (get_or line v 0) 40 ≡ t → word_end (name (from line v)) ≡ typed_end line v names
@@ -154,7 +152,7 @@ module _ (line : List ℕ) (v : ℕ) where
   typed_number n = go (rank (word_at line v)) refl
     where
       go : (o : Option ℕ) → rank (word_at line v) ≡ o → number_end (end_of_number (read_number (from line v))) ≡ typed_end line v numbers
-      go (some k) e = ap (λ x. number_end (end_of_number x)) (number_read line v k e) ∙ ap At (sym (written_end line v n)) ∙ sym (typed_yes numbers (taken_word numbers n ∙ ap there e))
+      go (some k) e = ap (λ x. number_end (end_of_number x)) (number_read line v k e) ∙ ap Some (sym (written_end line v n)) ∙ sym (typed_yes numbers (taken_word numbers n ∙ ap there e))
       go none e = ap (λ x. number_end (end_of_number x)) (number_refused line v e) ∙ sym (typed_no numbers (taken_word numbers n ∙ ap there e))
 
   -- what is read as a date is no range, and what is read as a range no date
@@ -179,17 +177,17 @@ module _ (line : List ℕ) (v : ℕ) where
       is_number_lem : (t : Bool) → there (range (from line v)) ≡ t → cell_has_kind numbers (written_at line v) ≡ t
       is_number_lem t k = bracket_number line v b ∙ is_range_lem line v ∙ k
 
-      go : (o : Option (Range × Left)) → range (from line v) ≡ o → ordered_end (end_of_range (range (from line v))) ≡ cond (is_taken numbers (written_at line v)) (At (written_end_at line v)) Nothing
+      go : (o : Option (Range × Left)) → range (from line v) ≡ o → ordered_end (end_of_range (range (from line v))) ≡ cond (is_taken numbers (written_at line v)) (Some (written_end_at line v)) None
       go none e =
           ap (λ x. ordered_end (end_of_range x)) e
-          ∙ sym (ap (λ (t : Bool). cond (t && is_sound (written_at line v)) (At (written_end_at line v)) Nothing) (is_number_lem false (ap there e)))
+          ∙ sym (ap (λ (t : Bool). cond (t && is_sound (written_at line v)) (Some (written_end_at line v)) None) (is_number_lem false (ap there e)))
       go (some x) e =
           let a = range_at line v x.0 x.1 e in
           ap (λ y. ordered_end (end_of_range y)) a.read
-          ∙ sym (ap (λ (t : Bool). cond (t && is_sound (written_at line v)) (At (written_end_at line v)) Nothing) (is_number_lem true (ap there e))
-          ∙ ap (λ (t : Bool). cond (in_order (range_of (written_at line v)) && t) (At (written_end_at line v)) Nothing) (range_undated x e)
-          ∙ ap (λ (t : Bool). cond t (At (written_end_at line v)) Nothing) (and-true (in_order (range_of (written_at line v))))
-          ∙ ap (λ (o : Option Range). cond (in_order o) (At (written_end_at line v)) Nothing) (range_whole a.text))
+          ∙ sym (ap (λ (t : Bool). cond (t && is_sound (written_at line v)) (Some (written_end_at line v)) None) (is_number_lem true (ap there e))
+          ∙ ap (λ (t : Bool). cond (in_order (range_of (written_at line v)) && t) (Some (written_end_at line v)) None) (range_undated x e)
+          ∙ ap (λ (t : Bool). cond t (Some (written_end_at line v)) None) (and-true (in_order (range_of (written_at line v))))
+          ∙ ap (λ (o : Option Range). cond (in_order o) (Some (written_end_at line v)) None) (range_whole a.text))
 
   -- that of dates
   pub typed_date : existing_end (date_read_of (date_text (from line v))) ≡ typed_end line v dates
@@ -199,22 +197,22 @@ module _ (line : List ℕ) (v : ℕ) where
       is_dated : (t : Bool) → there (date_text (from line v)) ≡ t → cell_has_kind dates (written_at line v) ≡ t
       is_dated t k = bracket_date line v ∙ is_date_lem line v ∙ k
 
-      existing : (e : ℕ) (o : Option ℕ) → existing_end (ranked_at e o) ≡ cond (there o) (At e) Nothing
+      existing : (e : ℕ) (o : Option ℕ) → existing_end (ranked_at e o) ≡ cond (there o) (Some e) None
       existing e none = refl
       existing e (some r) = refl
 
-      go : (o : Option (Date × Left)) → date_text (from line v) ≡ o → existing_end (date_read_of (date_text (from line v))) ≡ cond (is_taken dates (written_at line v)) (At (written_end_at line v)) Nothing
+      go : (o : Option (Date × Left)) → date_text (from line v) ≡ o → existing_end (date_read_of (date_text (from line v))) ≡ cond (is_taken dates (written_at line v)) (Some (written_end_at line v)) None
       go none e =
           ap (λ x. existing_end (date_read_of x)) e
-          ∙ sym (ap (λ (t : Bool). cond (t && is_sound (written_at line v)) (At (written_end_at line v)) Nothing) (is_dated false (ap there e)))
+          ∙ sym (ap (λ (t : Bool). cond (t && is_sound (written_at line v)) (Some (written_end_at line v)) None) (is_dated false (ap there e)))
       go (some x) e =
           let a = enclosed_at DateShape date_text enclosed_date line v x.0 x.1 e in
           ap (λ y. existing_end (date_read_of y)) a.read
           ∙ existing (written_end_at line v) (date_rank x.0)
-          ∙ ap (λ (t : Bool). cond t (At (written_end_at line v)) Nothing) (rank_there x.0)
-          ∙ sym (ap (λ (t : Bool). cond (t && is_sound (written_at line v)) (At (written_end_at line v)) Nothing) (is_dated true (ap there e))
-          ∙ ap (λ (o : Option Range). cond (in_order o && date_exists (date_of (written_at line v))) (At (written_end_at line v)) Nothing) (written_range line v ∙ ap (map (λ y. y.0)) (date_unranged x e))
-          ∙ ap (λ (o : Option Date). cond (date_exists o) (At (written_end_at line v)) Nothing) (written_date line v ∙ ap (map (λ y. y.0)) e))
+          ∙ ap (λ (t : Bool). cond t (Some (written_end_at line v)) None) (rank_there x.0)
+          ∙ sym (ap (λ (t : Bool). cond (t && is_sound (written_at line v)) (Some (written_end_at line v)) None) (is_dated true (ap there e))
+          ∙ ap (λ (o : Option Range). cond (in_order o && date_exists (date_of (written_at line v))) (Some (written_end_at line v)) None) (written_range line v ∙ ap (map (λ y. y.0)) (date_unranged x e))
+          ∙ ap (λ (o : Option Date). cond (date_exists o) (Some (written_end_at line v)) None) (written_date line v ∙ ap (map (λ y. y.0)) e))
 
 -- ---- a walk over items, each with a value of its column's type
 
@@ -241,7 +239,7 @@ module _ {text tables : List ℕ} {count x : ℕ} (d : Policy) (T : Tables text 
   -- one item more: it stands at j + 1 and ends at e, and its value stands at v
   pub items_turn : (b : Bool) (line : List ℕ) (c is j e v : ℕ) (type : Kind) → c < n → get_or line j 0 ≡ 32 → is_labelled_at line (j + 1) ≡ b
       → (x < 8 → c < 16 → type ≡ column_kind_in tables x c) → v ≡ value_place line (j + 1) → cell_has_kind type (written_at line v) ≡ true → is_sound (written_at line v) ≡ true
-      → word_end (item (from line (j + 1))) ≡ At e → e ≡ item_end_at line (j + 1)
+      → word_end (item (from line (j + 1))) ≡ Some e → e ≡ item_end_at line (j + 1)
       → ItemsPassed b line n c (columns_at d x) is j → ItemsPassed b line n (c + 1) (columns_at d x) is e
   unfolding is_sound
   items_turn b line c is j e v type small space shape kind place is_typed sound_so read end p = record {

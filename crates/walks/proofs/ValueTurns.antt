@@ -19,7 +19,7 @@ use Rattle.stepping.proofs.PlaceLaws.{written_placed}
 use Rattle.rows.proofs.RowTurns.{Rowed, rowed_all, rowed_marked, value_added}
 use Rattle.stepping.specs.Stored.{LineAt}
 use Rattle.text.specs.Words.{Word, written_at, written_of}
-use Rattle.text.specs.declared.words.End.TheVariants.{At}
+use Rattle.std.specs.Prelude.{Some}
 
 -- c values, of which n are wanted, stand from `is` to j and are stored as those of row k, which has m labels already
 pub record ValuesPassed (text before after line : List ℕ) (k n c m : ℕ) (ls : List ℕ) (cs : List Column) (is j : ℕ) : Type 0 where
@@ -36,7 +36,7 @@ all_values_passed {text} {before} {after} {line} {k} {n} {c} {m} {ls} {cs} {is} 
 
 module _ {text tables : List ℕ} {count x : ℕ} (d : Policy) (T : Tables text tables count d.tables) (l : x < count) {n : ℕ} (wide : n ≡ length (columns_at d x)) where
   pub values_turn : {before ws after line : List ℕ} {k c m at e pos : ℕ} {ls : List ℕ} (is j : ℕ) (type : Kind) → LineAt text at line → k < 1024 → c < n → (get_or line j 0 ≡ 32) × (j < length line)
-      → (x < 8 → c < 16 → type ≡ column_kind_in tables x c) → typed_end line (j + 1) type ≡ At e
+      → (x < 8 → c < 16 → type ≡ column_kind_in tables x c) → typed_end line (j + 1) type ≡ Some e
       → (at + (j + 1) ≤ length text → pos ≡ at + (j + 1)) → ValueStored ws after k c pos
       → ValuesPassed text before ws line k n c m ls (columns_at d x) is j → ValuesPassed text before after line k n (c + 1) m ls (columns_at d x) is e
   values_turn {before} {ws} {after} {line} {k} {c} {m} {at} {e} {pos} {ls} is j type stands small inside space kind ends placed s p =
@@ -45,7 +45,7 @@ module _ {text tables : List ℕ} {count x : ℕ} (d : Policy) (T : Tables text 
       record {
         items =
             items_turn d T l wide false line c is j e (j + 1) type inside space.0 bare kind (sym (place_plain line (j + 1) bare)) v.0 v.2
-            (typed_plain line (j + 1) type v.0 ∙ ap At (sym v.1)) (v.1 ∙ sym (item_plain_end line (j + 1) bare)) p.items;
+            (typed_plain line (j + 1) type v.0 ∙ ap Some (sym v.1)) (v.1 ∙ sym (item_plain_end line (j + 1) bare)) p.items;
         rowed =
             value_added (written_at line (j + 1))
             (subst (λ (xs : List Word). Rowed text before ws k c m (map (λ w. w.bytes) (plain_at line is)) (map (λ w. w.bytes) xs) ls [])

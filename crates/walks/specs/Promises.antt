@@ -11,16 +11,16 @@ use Rattle.stepping.specs.Stored.{LineAt}
 use Rattle.text.specs.Words.{word_of}
 use Rattle.walks.specs.Taken.{TakesItems, TakesRow}
 use Rattle.walks.specs.Walked.{CellsWalked, KeepsRows, ValuesWalked}
-use Rattle.text.specs.declared.words.End.{End}
+use Rattle.std.specs.Prelude.{Option}
 
 -- cells::take_values: stores the n values from a place of the line on as those of row k, where they are of the types of the columns of table x, and gives their end
-abbrev pub TakeValuesPromise : (text : List ℕ) (at : ℕ) (line tables : List ℕ) (x n : ℕ) (rows rows' : List ℕ) (k is : ℕ) (r : End) → Type 0
+abbrev pub TakeValuesPromise : (text : List ℕ) (at : ℕ) (line tables : List ℕ) (x n : ℕ) (rows rows' : List ℕ) (k is : ℕ) (r : Option ℕ) → Type 0
 TakeValuesPromise text at line tables x n rows rows' k is r =
     KeepsRows text rows rows' k × ((d : Policy) (count m : ℕ) (ls : List ℕ) → LineAt text at line → Tables text tables count d.tables → x < count → n ≡ length (columns_at d x) → k < 1024 → FillingRow text rows k 0 m [] ls → ValuesWalked text rows rows' line k n m ls (columns_at d x) is r)
 
 -- cells::take_cells: stores the n cells `(v L)` from a place of the line on as the values of row k and its labels behind m of them, likewise, and gives
 -- their end
-abbrev pub TakeCellsPromise : (text : List ℕ) (at : ℕ) (line labels : List ℕ) (labels_count : ℕ) (tables : List ℕ) (x n : ℕ) (rows rows' : List ℕ) (k is m : ℕ) (r : End) → Type 0
+abbrev pub TakeCellsPromise : (text : List ℕ) (at : ℕ) (line labels : List ℕ) (labels_count : ℕ) (tables : List ℕ) (x n : ℕ) (rows rows' : List ℕ) (k is m : ℕ) (r : Option ℕ) → Type 0
 TakeCellsPromise text at line labels labels_count tables x n rows rows' k is m r =
     KeepsRows text rows rows' k × ((d : Policy) (count : ℕ) (sets ls : List ℕ) → LineAt text at line → Labels text labels sets labels_count d.labels → Tables text tables count d.tables → x < count → n ≡ length (columns_at d x) → k < 1024 → FillingRow text rows k 0 m [] ls → CellsWalked text rows rows' line k n m ls d (columns_at d x) is r)
 

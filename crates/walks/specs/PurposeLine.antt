@@ -14,8 +14,7 @@ use Rattle.stepping.specs.Stored.{Passes}
 use Rattle.text.specs.Bytes.{ascii}
 use Rattle.text.specs.Names.{same_name}
 use Rattle.text.specs.Words.{is_called, word_at, word_of}
-use Rattle.walks.specs.declared.purposes.Below.{Below}
-use Rattle.walks.specs.declared.purposes.Below.TheVariants.{At, Other}
+use Rattle.std.specs.Prelude.{None, Option, Some}
 
 -- the purpose whose name stands behind `(purpose `, below the one whose name stands at v
 abbrev pub below_at : List ℕ → ℕ → Form
@@ -47,6 +46,6 @@ pub record BelowAt (text ws : List ℕ) (k : ℕ) (line : List ℕ) (h v p : ℕ
   pub known : (ns : List Node) → Nodes limit text ws k ns → some p ≡ find_index (λ x. is_called (word_of line v) x.name) ns
 
 -- what the reader's answer stands for
-abbrev pub ReadsBelow : (text ws : List ℕ) → ℕ → List ℕ → Below → Type 0
-ReadsBelow text ws k line (At h v p) = BelowAt text ws k line h v p
-ReadsBelow text ws k line Other = Unit {0}
+abbrev pub ReadsBelow : (text ws : List ℕ) → ℕ → List ℕ → Option (ℕ × ℕ × ℕ) → Type 0
+ReadsBelow text ws k line (Some (h, v, p)) = BelowAt text ws k line h v p
+ReadsBelow text ws k line None = Unit {0}

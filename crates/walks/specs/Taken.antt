@@ -15,8 +15,7 @@ use Rattle.text.specs.Names.{same_name}
 use Rattle.text.specs.Reader.{from}
 use Rattle.text.specs.Walking.{word_end_at}
 use Rattle.text.specs.Words.{name, word_at, word_of}
-use Rattle.text.specs.declared.words.End.{End}
-use Rattle.text.specs.declared.words.End.TheVariants.{At, Nothing}
+use Rattle.std.specs.Prelude.{None, Option, Some}
 
 -- the row whose table's name stands behind `(row `, with the items from a place of the line on
 abbrev pub row_at : List ℕ → ℕ → Form
@@ -40,8 +39,8 @@ TakesRow text line after k d false = Rows text after k d.rows
 -- ---- for the functions that are not called from outside
 
 -- where the table's name ends in a line that begins with `(row T`
-unfoldable pub table_end : List ℕ → End
-table_end line = cond (eqb (get_or line 0 0) 40 && same_name (word_at line 1) (ascii "row") && eqb (get_or line 4 0) 32) (word_end (name (from line 5))) Nothing
+unfoldable pub table_end : List ℕ → Option ℕ
+table_end line = cond (eqb (get_or line 0 0) 40 && same_name (word_at line 1) (ascii "row") && eqb (get_or line 4 0) 32) (word_end (name (from line 5))) None
 
 -- a closing bracket stands at the place, and nothing behind it
 unfoldable pub closes_at : List ℕ → ℕ → Bool
@@ -50,7 +49,7 @@ closes_at line at = eqb (get_or line at 0) 41 && eqb (at + 1) (length line)
 -- the items from a place on are read up to the bracket that ends the line
 pub record ItemsClose (line : List ℕ) (is : ℕ) : Type 0 where
   pub end : ℕ
-  pub read : word_end (many item (from line is)) ≡ At end
+  pub read : word_end (many item (from line is)) ≡ Some end
   pub closed : closes_at line end ≡ true
 
 -- the same as RowTaken, of a line whose items begin at a place

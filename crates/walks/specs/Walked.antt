@@ -1,8 +1,6 @@
 -- Contract: what one walk over the items of a row line finds and stores; for the functions that are not called from outside.
 use Rattle.std.specs.Prelude.{◌+◌, ℕ, eqb, leb, drop, get_or, length, Bool, ◌&&◌, cond, false, true, List, [], ◌++◌, map, ◌≡◌}
 use Rattle.calendar.specs.DateText.{date_of}
-use Rattle.calendar.specs.declared.reading.DateRead.{DateRead}
-use Rattle.calendar.specs.declared.reading.DateRead.TheVariants as date_read
 use Rattle.condition.specs.Kinds.{Kind}
 use Rattle.document.specs.AmountFaults.{date_exists, in_order}
 use Rattle.document.specs.Lookup.{label_of}
@@ -25,10 +23,7 @@ use Rattle.text.specs.Offending.{missing}
 use Rattle.text.specs.Reader.{from}
 use Rattle.text.specs.Walking.{word_end_at, written_end_at}
 use Rattle.text.specs.Words.{word_at, word_of, written_at}
-use Rattle.text.specs.declared.amounts.Span.{Span}
-use Rattle.text.specs.declared.amounts.Span.TheVariants as span
-use Rattle.text.specs.declared.words.End.{End}
-use Rattle.text.specs.declared.words.End.TheVariants.{At, Nothing}
+use Rattle.std.specs.Prelude.{None, Option, Some}
 
 -- the value is in order if it is a range, and exists if it is a date
 unfoldable pub is_sound : Value → Bool
@@ -39,19 +34,19 @@ unfoldable pub is_taken : Kind → Value → Bool
 is_taken kind v = cell_has_kind kind v && is_sound v
 
 -- where the value at a place ends, if it is so
-unfoldable pub typed_end : List ℕ → ℕ → Kind → End
-typed_end line at kind = cond (is_taken kind (written_at line at)) (At (written_end_at line at)) Nothing
+unfoldable pub typed_end : List ℕ → ℕ → Kind → Option ℕ
+typed_end line at kind = cond (is_taken kind (written_at line at)) (Some (written_end_at line at)) None
 
 -- where a range ends, if LOW is at most HIGH, by the code's answer for its reader
-abbrev pub ordered_end : Span → End
-ordered_end span.Nothing = Nothing
-ordered_end (span.At e l h) = cond (leb l h) (At e) Nothing
+abbrev pub ordered_end : Option (ℕ × ℕ × ℕ) → Option ℕ
+ordered_end None = None
+ordered_end (Some (e, l, h)) = cond (leb l h) (Some e) None
 
 -- where a date ends, if it exists, by the code's answer for its reader
-abbrev pub existing_end : DateRead → End
-existing_end date_read.Nothing = Nothing
-existing_end (date_read.NoSuchDate e) = Nothing
-existing_end (date_read.At e r) = At e
+abbrev pub existing_end : Option (ℕ × Option ℕ) → Option ℕ
+existing_end None = None
+existing_end (Some (e, None)) = None
+existing_end (Some (e, Some r)) = Some e
 
 -- the first k rows stay
 abbrev pub KeepsRows : (text before after : List ℕ) → ℕ → Type 0
@@ -85,16 +80,16 @@ pub record LabelTaken (before after line : List ℕ) (d : Policy) (k m at e : �
   pub stored : LabelStored before after k m (or_zero (label_of d (word_of line (at + 1))))
 
 -- the code's answer for values: they were taken up to an end, or nothing is said
-abbrev pub ValuesWalked : (text before after line : List ℕ) → ℕ → ℕ → ℕ → List ℕ → List Column → ℕ → End → Type 0
-ValuesWalked text before after line k n m ls cs is Nothing = Unit {0}
-ValuesWalked text before after line k n m ls cs is (At e) = ValuesTaken text before after line k n m ls cs is e
+abbrev pub ValuesWalked : (text before after line : List ℕ) → ℕ → ℕ → ℕ → List ℕ → List Column → ℕ → Option ℕ → Type 0
+ValuesWalked text before after line k n m ls cs is None = Unit {0}
+ValuesWalked text before after line k n m ls cs is (Some e) = ValuesTaken text before after line k n m ls cs is e
 
 -- its answer for cells
-abbrev pub CellsWalked : (text before after line : List ℕ) → ℕ → ℕ → ℕ → List ℕ → Policy → List Column → ℕ → End → Type 0
-CellsWalked text before after line k n m ls d cs is Nothing = Unit {0}
-CellsWalked text before after line k n m ls d cs is (At e) = CellsTaken text before after line k n m ls d cs is e
+abbrev pub CellsWalked : (text before after line : List ℕ) → ℕ → ℕ → ℕ → List ℕ → Policy → List Column → ℕ → Option ℕ → Type 0
+CellsWalked text before after line k n m ls d cs is None = Unit {0}
+CellsWalked text before after line k n m ls d cs is (Some e) = CellsTaken text before after line k n m ls d cs is e
 
 -- its answer for a label
-abbrev pub LabelWalked : (before after line : List ℕ) → Policy → ℕ → ℕ → ℕ → End → Type 0
-LabelWalked before after line d k m at Nothing = Unit {0}
-LabelWalked before after line d k m at (At e) = LabelTaken before after line d k m at e
+abbrev pub LabelWalked : (before after line : List ℕ) → Policy → ℕ → ℕ → ℕ → Option ℕ → Type 0
+LabelWalked before after line d k m at None = Unit {0}
+LabelWalked before after line d k m at (Some e) = LabelTaken before after line d k m at e

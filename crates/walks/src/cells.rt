@@ -10,62 +10,48 @@ ghost use Rattle.text.specs.Reader.{from};
 ghost use Rattle.walks.specs.Walked.{KeepsRows, LabelWalked, ordered_end, typed_end};
 ghost use Rattle.walks.specs.Promises.{TakeCellsPromise, TakeValuesPromise};
 
-use calendar::reading::{DateRead, read_date};
+use calendar::reading::read_date;
 use condition::kinds::Kind;
 use relations::labels::find_label_to;
 use relations::rows::{set_label, set_value};
 use relations::tables::column_kind;
 use stepping::places::place;
-use text::amounts::{Span, read_range};
+use text::amounts::read_range;
 use text::bytes::byte_at;
-use text::numbers::{Number, read_number};
-use text::words::{End, name_end};
-use workspace::found::Found;
+use text::numbers::read_number;
+use text::words::name_end;
 use workspace::layout::{LABELS, ROW_CELLS, TABLE_CELLS};
 
 // The end of the range at a position, if it has LOW at most HIGH.
-fn ordered_end(line: &[u8], at: usize) -> End
+fn ordered_end(line: &[u8], at: usize) -> Option<usize>
     ensures { result ≡ ordered_end (end_of_range (range (from line.now at))) }
 {
-    let k = read_range(line, at);
-    let Span::At(e, low, high) = k else {
-        return End::Nothing;
-    };
-    if low <= high {
-        End::At(e)
-    } else {
-        End::Nothing
-    }
+    let (e, low, high) = read_range(line, at)?;
+    if low <= high { Some(e) } else { None }
 }
 
 // The end of the number at a position, or of the range, if it is in order.
-fn number_end(line: &[u8], at: usize) -> End
+fn number_end(line: &[u8], at: usize) -> Option<usize>
     ensures { result ≡ typed_end line.now at numbers }
 {
     if byte_at(line, at) == b'(' {
         return ordered_end(line, at);
     }
-    let n = read_number(line, at);
-    match n {
-        Number::At(e, _) => End::At(e),
-        Number::Nothing => End::Nothing,
-    }
+    let (e, _) = read_number(line, at)?;
+    Some(e)
 }
 
 // The end of the date at a position, if it exists.
-fn existing_end(line: &[u8], at: usize) -> End
+fn existing_end(line: &[u8], at: usize) -> Option<usize>
     ensures { result ≡ typed_end line.now at dates }
 {
-    let d = read_date(line, at);
-    match d {
-        DateRead::At(e, _) => End::At(e),
-        DateRead::NoSuchDate(_) => End::Nothing,
-        DateRead::Nothing => End::Nothing,
-    }
+    let (e, rank) = read_date(line, at)?;
+    rank?;
+    Some(e)
 }
 
 // The end of the value of the type that stands at a position, if it is in order and exists.
-fn typed_end(line: &[u8], at: usize, kind: Kind) -> End
+fn typed_end(line: &[u8], at: usize, kind: Kind) -> Option<usize>
     ensures { result ≡ typed_end line.now at (kind_of kind) }
 {
     match kind {
@@ -86,27 +72,22 @@ pub(crate) fn take_values(
     rows: &mut [usize; ROW_CELLS],
     k: usize,
     is: usize,
-) -> End
+) -> Option<usize>
     ensures { TakeValuesPromise text.now at line.now tables.now x n rows.old rows.new k is result }
 {
-    let mut m: usize = 0;
     let mut j = is;
-    while m < n {
+    for m in 0..n {
         if byte_at(line, j) != b' ' {
-            return End::Nothing;
+            return None;
         }
         let v = j + 1;
         let kind = column_kind(tables, x, m);
-        let r = typed_end(line, v, kind);
-        let End::At(e) = r else {
-            return End::Nothing;
-        };
+        let e = typed_end(line, v, kind)?;
         let pos = place(text, at, v);
         set_value(rows, k, m, pos);
         j = e;
-        m += 1;
     }
-    End::At(j)
+    Some(j)
 }
 
 // The end of the name of a known label that stands behind a space, which is stored as label m of row k.
@@ -119,22 +100,16 @@ pub(crate) fn take_label(
     k: usize,
     m: usize,
     at: usize,
-) -> End
+) -> Option<usize>
     ensures { KeepsRows text.now rows.old rows.new k × ((d : Policy) (sets : List ℕ) → Labels text.now labels.now sets labels_count d.labels → LabelWalked rows.old rows.new line.now d k m at result) }
 {
     if byte_at(line, at) != b' ' {
-        return End::Nothing;
+        return None;
     }
-    let r = name_end(line, at + 1);
-    let End::At(e) = r else {
-        return End::Nothing;
-    };
-    let found = find_label_to(text, labels, labels_count, line, at + 1, e);
-    let Found::At(y) = found else {
-        return End::Nothing;
-    };
+    let e = name_end(line, at + 1)?;
+    let y = find_label_to(text, labels, labels_count, line, at + 1, e)?;
     set_label(rows, k, m, y);
-    End::At(e)
+    Some(e)
 }
 
 // Stores the n cells `(v L)` from a place of the line on as the values of row k and its labels behind m of them, likewise, and gives their
@@ -152,36 +127,28 @@ pub(crate) fn take_cells(
     k: usize,
     is: usize,
     m: usize,
-) -> End
+) -> Option<usize>
     requires { m ≤ 1 }
     ensures { TakeCellsPromise text.now at line.now labels.now labels_count tables.now x n rows.old rows.new k is m result }
 {
-    let mut c: usize = 0;
     let mut j = is;
-    while c < n {
+    for c in 0..n {
         if byte_at(line, j) != b' ' {
-            return End::Nothing;
+            return None;
         }
         if byte_at(line, j + 1) != b'(' {
-            return End::Nothing;
+            return None;
         }
         let v = j + 2;
         let kind = column_kind(tables, x, c);
-        let r = typed_end(line, v, kind);
-        let End::At(e) = r else {
-            return End::Nothing;
-        };
+        let e = typed_end(line, v, kind)?;
         let pos = place(text, at, v);
         set_value(rows, k, c, pos);
-        let l = take_label(text, line, labels, labels_count, rows, k, m + c, e);
-        let End::At(f) = l else {
-            return End::Nothing;
-        };
+        let f = take_label(text, line, labels, labels_count, rows, k, m + c, e)?;
         if byte_at(line, f) != b')' {
-            return End::Nothing;
+            return None;
         }
         j = f + 1;
-        c += 1;
     }
-    End::At(j)
+    Some(j)
 }

@@ -7,22 +7,21 @@ use crate::cells::{take_cells, take_label, take_values};
 use relations::rows::add_row;
 use relations::tables::{find_table_to, has_brackets, leads_label, table_scheme, table_width};
 use text::bytes::byte_at;
-use text::words::{End, is_word, name_end};
-use workspace::found::Found;
+use text::words::{is_word, name_end};
 use workspace::layout::{LABELS, ROW_CELLS, ROWS, TABLE_CELLS};
 
 // Where the name of the table ends in a line that begins with `(row T`.
-fn table_end(line: &[u8]) -> End
+fn table_end(line: &[u8]) -> Option<usize>
     ensures { result ≡ table_end line.now }
 {
     if byte_at(line, 0) != b'(' {
-        return End::Nothing;
+        return None;
     }
     if !is_word(line, 1, b"row") {
-        return End::Nothing;
+        return None;
     }
     if byte_at(line, 4) != b' ' {
-        return End::Nothing;
+        return None;
     }
     name_end(line, 5)
 }
@@ -51,8 +50,7 @@ fn take_plain(
     ensures { TakePlainPromise text.now at line.now tables.now x rows.old rows.new k is result }
 {
     let n = table_width(tables, x);
-    let r = take_values(text, at, line, tables, x, n, rows, k, is);
-    let End::At(e) = r else {
+    let Some(e) = take_values(text, at, line, tables, x, n, rows, k, is) else {
         return false;
     };
     if !closes(line, e) {
@@ -77,13 +75,11 @@ fn take_led(
 ) -> bool
     ensures { TakeShapedPromise true false text.now at line.now labels.now labels_count tables.now x rows.old rows.new k is result }
 {
-    let l = take_label(text, line, labels, labels_count, rows, k, 0, is);
-    let End::At(j) = l else {
+    let Some(j) = take_label(text, line, labels, labels_count, rows, k, 0, is) else {
         return false;
     };
     let n = table_width(tables, x);
-    let r = take_values(text, at, line, tables, x, n, rows, k, j);
-    let End::At(e) = r else {
+    let Some(e) = take_values(text, at, line, tables, x, n, rows, k, j) else {
         return false;
     };
     if !closes(line, e) {
@@ -109,7 +105,7 @@ fn take_labelled(
     ensures { TakeShapedPromise false true text.now at line.now labels.now labels_count tables.now x rows.old rows.new k is result }
 {
     let n = table_width(tables, x);
-    let r = take_cells(
+    let Some(e) = take_cells(
         text,
         at,
         line,
@@ -122,8 +118,7 @@ fn take_labelled(
         k,
         is,
         0,
-    );
-    let End::At(e) = r else {
+    ) else {
         return false;
     };
     if !closes(line, e) {
@@ -148,12 +143,11 @@ fn take_nested(
 ) -> bool
     ensures { TakeShapedPromise true true text.now at line.now labels.now labels_count tables.now x rows.old rows.new k is result }
 {
-    let l = take_label(text, line, labels, labels_count, rows, k, 0, is);
-    let End::At(j) = l else {
+    let Some(j) = take_label(text, line, labels, labels_count, rows, k, 0, is) else {
         return false;
     };
     let n = table_width(tables, x);
-    let r = take_cells(
+    let Some(e) = take_cells(
         text,
         at,
         line,
@@ -166,8 +160,7 @@ fn take_nested(
         k,
         j,
         1,
-    );
-    let End::At(e) = r else {
+    ) else {
         return false;
     };
     if !closes(line, e) {
@@ -195,12 +188,10 @@ pub fn take_row(
     if ROWS <= k {
         return false;
     }
-    let t = table_end(line);
-    let End::At(is) = t else {
+    let Some(is) = table_end(line) else {
         return false;
     };
-    let found = find_table_to(text, tables, tables_count, line, 5, is);
-    let Found::At(x) = found else {
+    let Some(x) = find_table_to(text, tables, tables_count, line, 5, is) else {
         return false;
     };
     let scheme = table_scheme(tables, x);

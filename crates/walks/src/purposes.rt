@@ -14,15 +14,7 @@ use principals::names::{add_purpose, seek_purpose};
 use stepping::places::place;
 use text::bytes::{byte_at, is_letter};
 use text::words::is_word;
-use workspace::found::Found;
 use workspace::layout::{PURPOSE_CELLS, PURPOSES};
-
-// Such a line that the check accepts: the hash of its name, the place of the other's name, and the other's number; or another line.
-#[derive(Clone, Copy)]
-enum Below {
-    At(usize, usize, usize),
-    Other,
-}
 
 // Whether the line begins with `(purpose `.
 fn begins(line: &[u8]) -> bool
@@ -51,38 +43,39 @@ fn is_name_to(line: &[u8], at: usize, e: usize) -> bool
 }
 
 // The names of the line, if it is `(purpose N PARENT)`, N new and PARENT known among the first k.
-fn read_below(text: &[u8], purposes: &[usize; PURPOSE_CELLS], k: usize, line: &[u8]) -> Below
+fn read_below(
+    text: &[u8],
+    purposes: &[usize; PURPOSE_CELLS],
+    k: usize,
+    line: &[u8],
+) -> Option<(usize, usize, usize)>
     ensures { ReadsBelow text.now purposes.now k line.now result }
 {
     if !begins(line) {
-        return Below::Other;
+        return None;
     }
     let n = seek_purpose(text, purposes, k, line, 9);
     let e = n.end;
     if !is_name_to(line, 9, e) {
-        return Below::Other;
+        return None;
     }
     if byte_at(line, e) != b' ' {
-        return Below::Other;
+        return None;
     }
-    let taken = n.found;
-    if let Found::At(_) = taken {
-        return Below::Other;
+    if n.found.is_some() {
+        return None;
     }
     let v = e + 1;
     let p = seek_purpose(text, purposes, k, line, v);
     let f = p.end;
     if !is_name_to(line, v, f) {
-        return Below::Other;
+        return None;
     }
     if !closes(line, f) {
-        return Below::Other;
+        return None;
     }
-    let known = p.found;
-    let Found::At(parent) = known else {
-        return Below::Other;
-    };
-    Below::At(n.hash, v, parent)
+    let parent = p.found?;
+    Some((n.hash, v, parent))
 }
 
 // Stores the purpose of such a line behind k of them, if there is room: h is its name's hash, and v the place of its parent's name.
@@ -117,9 +110,8 @@ pub fn take_purpose(
 ) -> bool
     ensures { ((d : Doc) → LineAt text.now at line.now → Nodes limit text.now purposes.old k d.policy.purposes → TakesPurpose text.now line.now purposes.new k d result) × (result ≡ true → k < limit) }
 {
-    let r = read_below(text, purposes, k, line);
-    match r {
-        Below::At(h, v, parent) => take_below(text, at, line, purposes, k, h, v, parent),
-        Below::Other => false,
-    }
+    let Some((h, v, parent)) = read_below(text, purposes, k, line) else {
+        return false;
+    };
+    take_below(text, at, line, purposes, k, h, v, parent)
 }

@@ -11,13 +11,6 @@ use crate::hashes::print_word;
 use text::bytes::{byte_at, is_name_byte};
 use text::words::{same_byte, word_end};
 
-// A number among names, or that there is none.
-#[derive(Clone, Copy)]
-pub enum Found {
-    At(usize),
-    Nothing,
-}
-
 // Whether the name of len bytes at i of the line is the word at p of the text. Where that word ends is looked at first, and then the
 // bytes from the last on: names that are much alike tend to differ there. A length that does not fit the line is no name's.
 pub fn same_length_name(line: &[u8], i: usize, len: usize, text: &[u8], p: usize) -> bool
@@ -83,27 +76,25 @@ fn seek_name(
     line: &[u8],
     i: usize,
     e: usize,
-) -> Found
+) -> Option<usize>
     requires { base + n ≤ length ws.now }
     ensures { (e ≡ i + length (word_at line.now i) → found_as result ≡ find_index (λ p. is_called (word_of line.now i) (word_at text.now p)) (tabulated (λ k. get_or ws.now (base + k) 0) n)) × FoundBelow result n }
 {
     if e < i {
-        return Found::Nothing;
+        return None;
     }
     let len = e - i;
     let first = byte_at(line, i);
     let last = byte_at(line, before(e));
-    let mut k = 0;
-    while k < n {
+    for k in 0..n {
         let p = ws[base + k];
         if may_be(text, p, len, first, last) {
             if same_length_name(line, i, len, text, p) {
-                return Found::At(k);
+                return Some(k);
             }
         }
-        k += 1;
     }
-    Found::Nothing
+    None
 }
 
 // The same for positions of which some may lie behind the array's end: nothing is found there.
@@ -115,27 +106,41 @@ pub fn find_name_to(
     line: &[u8],
     i: usize,
     e: usize,
-) -> Found
+) -> Option<usize>
     ensures { (base + n ≤ length ws.now → e ≡ i + length (word_at line.now i) → found_as result ≡ find_index (λ p. is_called (word_of line.now i) (word_at text.now p)) (tabulated (λ k. get_or ws.now (base + k) 0) n)) × FoundBelow result n }
 {
     if ws.len() < n {
-        return Found::Nothing;
+        return None;
     }
     if ws.len() - n < base {
-        return Found::Nothing;
+        return None;
     }
     seek_name(text, ws, base, n, line, i, e)
 }
 
 // The same for a name whose end is not known yet.
-pub fn find_name(text: &[u8], ws: &[usize], base: usize, n: usize, line: &[u8], i: usize) -> Found
+pub fn find_name(
+    text: &[u8],
+    ws: &[usize],
+    base: usize,
+    n: usize,
+    line: &[u8],
+    i: usize,
+) -> Option<usize>
     ensures { (base + n ≤ length ws.now → found_as result ≡ find_index (λ p. is_called (word_of line.now i) (word_at text.now p)) (tabulated (λ k. get_or ws.now (base + k) 0) n)) × FoundBelow result n }
 {
     find_name_to(text, ws, base, n, line, i, word_end(line, i))
 }
 
 // The same among the first n positions, where the names' prints stand from `prints` on: a name with another print is another.
-fn seek_printed(text: &[u8], ws: &[usize], prints: usize, n: usize, line: &[u8], i: usize) -> Found
+fn seek_printed(
+    text: &[u8],
+    ws: &[usize],
+    prints: usize,
+    n: usize,
+    line: &[u8],
+    i: usize,
+) -> Option<usize>
     requires { prints + n ≤ length ws.now }
     ensures { (((j : ℕ) → j < n → Printed prints text.now ws.now j) → found_as result ≡ find_index (λ p. is_called (word_of line.now i) (word_at text.now p)) (tabulated (λ k. get_or ws.now (0 + k) 0) n)) × FoundBelow result n }
 {
@@ -143,16 +148,14 @@ fn seek_printed(text: &[u8], ws: &[usize], prints: usize, n: usize, line: &[u8],
     let e = w.end;
     let h = w.hash;
     let len = e - i;
-    let mut k = 0;
-    while k < n {
+    for k in 0..n {
         if ws[prints + k] == h {
             if same_length_name(line, i, len, text, ws[k]) {
-                return Found::At(k);
+                return Some(k);
             }
         }
-        k += 1;
     }
-    Found::Nothing
+    None
 }
 
 // The same where some of them may lie behind the array's end: nothing is found there.
@@ -163,14 +166,14 @@ pub fn find_printed(
     n: usize,
     line: &[u8],
     i: usize,
-) -> Found
+) -> Option<usize>
     ensures { (prints + n ≤ length ws.now → ((j : ℕ) → j < n → Printed prints text.now ws.now j) → found_as result ≡ find_index (λ p. is_called (word_of line.now i) (word_at text.now p)) (tabulated (λ k. get_or ws.now (0 + k) 0) n)) × FoundBelow result n }
 {
     if ws.len() < n {
-        return Found::Nothing;
+        return None;
     }
     if ws.len() - n < prints {
-        return Found::Nothing;
+        return None;
     }
     seek_printed(text, ws, prints, n, line, i)
 }

@@ -31,10 +31,8 @@ pub fn put_bytes(out: &mut [u8], at: usize, s: &[u8]) -> usize
     ensures { Wrote out.old at s.now out.new result }
 {
     let mut to = at;
-    let mut i = 0;
-    while i < s.len() {
+    for i in 0..s.len() {
         to = put_byte(out, to, s[i]);
-        i += 1;
     }
     to
 }
@@ -45,10 +43,8 @@ pub fn put_written(out: &mut [u8], at: usize, text: &[u8], start: usize) -> usiz
 {
     let end = written_end(text, start);
     let mut to = at;
-    let mut i = start;
-    while i < end {
+    for i in start..end {
         to = put_byte(out, to, byte_at(text, i));
-        i += 1;
     }
     to
 }
@@ -71,10 +67,8 @@ fn copy_bytes(out: &mut [u8], at: usize, text: &[u8], start: usize, size: usize)
     requires { (at + size ≤ length out.old) × (start + size ≤ length text.now) }
     ensures { out.new ≡ sets out.old at (take size (drop start text.now)) }
 {
-    let mut k = 0;
-    while k < size {
+    for k in 0..size {
         out[at + k] = text[start + k];
-        k += 1;
     }
 }
 

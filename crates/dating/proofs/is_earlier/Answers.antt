@@ -8,24 +8,24 @@ use Rattle.calendar.specs.Calendar.{date_rank}
 use Rattle.text.proofs.CodeLaws.{amount_is, amount_nothing}
 use Rattle.dating.proofs.is_earlier.Goals as goal
 
-pub returns-in-Is-second : goal.returns-in-Is-second
-returns-in-Is-second c =
+pub returns-in-Some-second : goal.returns-in-Some-second
+returns-in-Some-second c =
     let a = on c.args.y1 c.args.m1 c.args.d1 in
     let b = on c.args.y2 c.args.m2 c.args.d2 in
-    let one : date_rank a ≡ some c.in-Is.r = amount_is (date_rank a) c.in-Is.r (sym c.in-Is.ensures) in
-    let two : date_rank b ≡ some c.in-Is-second.s = amount_is (date_rank b) c.in-Is-second.s (sym c.in-Is-second.ensures) in
-    rw (rank_there a c.in-Is.r one, rank_there b c.in-Is-second.s two) (rank_order a b c.in-Is.r c.in-Is-second.s one two).1
+    let one : date_rank a ≡ some c.in-Some.r = amount_is (date_rank a) c.in-Some.r (sym c.in-Some.ensures) in
+    let two : date_rank b ≡ some c.in-Some-second.s = amount_is (date_rank b) c.in-Some-second.s (sym c.in-Some-second.ensures) in
+    rw (rank_there a c.in-Some.r one, rank_there b c.in-Some-second.s two) (rank_order a b c.in-Some.r c.in-Some-second.s one two).1
 
-pub returns-in-Nothing-second : goal.returns-in-Nothing-second
-returns-in-Nothing-second c =
+pub returns-in-None-second : goal.returns-in-None-second
+returns-in-None-second c =
     let a = on c.args.y1 c.args.m1 c.args.d1 in
     let b = on c.args.y2 c.args.m2 c.args.d2 in
     rw (
-      rank_there a c.in-Is.r (amount_is (date_rank a) c.in-Is.r (sym c.in-Is.ensures)),
-      rank_not_there b (amount_nothing (date_rank b) (sym c.in-Nothing-second.ensures)),
+      rank_there a c.in-Some.r (amount_is (date_rank a) c.in-Some.r (sym c.in-Some.ensures)),
+      rank_not_there b (amount_nothing (date_rank b) (sym c.in-None-second.ensures)),
     )
 
-pub returns-in-Nothing : goal.returns-in-Nothing
-returns-in-Nothing c =
+pub returns-in-None : goal.returns-in-None
+returns-in-None c =
     let a = on c.args.y1 c.args.m1 c.args.d1 in
-    rw (rank_not_there a (amount_nothing (date_rank a) (sym c.in-Nothing.ensures)))
+    rw (rank_not_there a (amount_nothing (date_rank a) (sym c.in-None.ensures)))

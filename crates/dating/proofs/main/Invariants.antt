@@ -4,6 +4,3 @@ use Rattle.dating.proofs.main.Given as goal
 
 abbrev pub invariant-loop-year : goal.invariant-loop-year
 invariant-loop-year l = (l.dates ≤ l.year * 368) × (l.year ≤ 10001)
-
-abbrev pub decreases-loop-year : goal.decreases-loop-year
-decreases-loop-year l = 10001 - l.year

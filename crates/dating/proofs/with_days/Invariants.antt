@@ -4,6 +4,3 @@ use Rattle.dating.proofs.with_days.Given as goal
 
 abbrev pub invariant-loop-day : goal.invariant-loop-day
 invariant-loop-day l = l.day ≤ 368
-
-abbrev pub decreases-loop-day : goal.decreases-loop-day
-decreases-loop-day l = 368 - l.day

@@ -4,6 +4,3 @@ use Rattle.dating.proofs.with_month.Given as goal
 
 abbrev pub invariant-loop-day : goal.invariant-loop-day
 invariant-loop-day l = l.day ≤ 33
-
-abbrev pub decreases-loop-day : goal.decreases-loop-day
-decreases-loop-day l = 33 - l.day

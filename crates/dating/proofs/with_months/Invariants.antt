@@ -4,6 +4,3 @@ use Rattle.dating.proofs.with_months.Given as goal
 
 abbrev pub invariant-loop-month : goal.invariant-loop-month
 invariant-loop-month l = l.month ≤ 14
-
-abbrev pub decreases-loop-month : goal.decreases-loop-month
-decreases-loop-month l = 14 - l.month

@@ -12,11 +12,11 @@ use Rattle.purpose.proofs.tree_of.Goals as goal
 
 pub returns-then-m-eq0 : goal.returns-then-m-eq0
 returns-then-m-eq0 c = let a = c.args in
-    c.no_purposes.ensures ∙ growing_none (take a.count a.parents.now) (length-take a.count a.parents.now ∙ omega (arith, c.smaller-m.ensures, c.if-m-eq0.true))
+    c.no_purposes.ensures ∙ growing_none (take a.count a.parents.now) (length-take a.count a.parents.now ∙ omega (arith, c.min-m.ensures, c.if-m-eq0.true))
 
 pub loop-i-init : goal.loop-i-init
 loop-i-init c = let a = c.args in
-    (omega arith, omega arith, refl, growing_first (take a.count a.parents.now) (omega (arith, length-take a.count a.parents.now, c.smaller-m.ensures, c.if-m-eq0.false)))
+    (omega arith, omega arith, refl, growing_first (take a.count a.parents.now) (omega (arith, length-take a.count a.parents.now, c.min-m.ensures, c.if-m-eq0.false)))
 
 -- where the arms meet, the tree has grown by the entry, or was left
 joined : (c : Joined-n-lt-LIMIT) → (c.if-n-lt-LIMIT.n ≤ limit) × (length c.if-n-lt-LIMIT.ps ≡ limit)
@@ -35,7 +35,7 @@ joined c =
 pub loop-i-preserved : goal.loop-i-preserved
 loop-i-preserved c = let a = c.args in
     let l = c.loop-i in
-    let inside : l.i < length (take a.count a.parents.now) = omega (arith, length-take a.count a.parents.now, c.smaller-m.ensures) in (
+    let inside : l.i < length (take a.count a.parents.now) = omega (arith, length-take a.count a.parents.now, c.min-m.ensures) in (
       (joined c).0,
       omega arith,
       (joined c).1,
@@ -47,5 +47,5 @@ loop-i-preserved c = let a = c.args in
 pub returns : goal.returns
 returns c = let a = c.args in
     let l = c.loop-i in
-    sym (growing_done (take l.n l.ps) (take a.count a.parents.now) l.i (omega (arith, length-take a.count a.parents.now, c.smaller-m.ensures)))
+    sym (growing_done (take l.n l.ps) (take a.count a.parents.now) l.i (omega (arith, length-take a.count a.parents.now, c.min-m.ensures)))
     ∙ l.invariant.3

@@ -1,5 +1,5 @@
 -- `purpose::unite` meets its contract. The loop's invariant: the words passed are or-ed. Assumes nothing.
-use Prim.Native.Nat.{◌≤◌, ◌-◌}
+use Prim.Native.Nat.{◌≤◌}
 use mathlib.Core.Path.{◌≡◌}
 use lib.ListN.{length}
 use Rattle.purpose.specs.Members.{words}
@@ -8,6 +8,3 @@ use Rattle.purpose.proofs.unite.Given as goal
 
 abbrev pub invariant-loop-k : goal.invariant-loop-k
 invariant-loop-k l = (l.k ≤ words) × (length l.r ≡ words) × United l.initial.r l.b l.k l.r
-
-abbrev pub decreases-loop-k : goal.decreases-loop-k
-decreases-loop-k l = words - l.k

@@ -1,6 +1,6 @@
 -- `purpose::upward` meets its contract. The loop's invariant: the rows passed hold their purposes' ancestors. Assumes nothing.
 use Prim.Native.Nat.{◌+◌, ◌<◌}
-use mathlib.Core.Path.{◌≡◌, refl, ◌∙◌}
+use mathlib.Core.Path.{◌≡◌, refl}
 use mathlib.Core.List.{[]}
 use lib.ListN.{length, get_or}
 use native.Mathlib.Omega.{arith}
@@ -23,9 +23,9 @@ joined c =
     let up = c.loop-i.up in
     let inv = c.loop-i.invariant in
     let small : c.loop-i.i < limit = omega arith in
-    let q = c.wide-q.result in
-    let e : c.wide-q.result ≡ parent (tree_held c.args.t) c.loop-i.i =
-    c.wide-q.ensures ∙ parent_read c.args.t.parents c.args.t.count c.loop-i.i (omega (arith, c.size-n.ensures.0)) in
+    let q = get_or c.args.t.parents i 0 in
+    let e : get_or c.args.t.parents c.loop-i.i 0 ≡ parent (tree_held c.args.t) c.loop-i.i =
+    parent_read c.args.t.parents c.args.t.count c.loop-i.i (omega (arith, c.size-n.ensures.0)) in
     elim c.if-q-i.branch [
       | then-q-i w ↦ rows_next tree i up c.if-q-i.up w.insert.result w.up-is small inv.2 inv.3
           (row_child tree i q (get_or up q []) w.insert.result small e w.if-q-i.true (inv.3 q w.if-q-i.true) w.insert.ensures)

@@ -21,12 +21,6 @@ loop-i-init c = (sizes_none _ 16, refl, λ f. w.start _ _ _)
 pub put_cell-to-requires : goal.put_cell-to-requires
 put_cell-to-requires c = c.requires
 
-pub overflow_add-i : goal.overflow_add-i
-overflow_add-i c = omega (arith, c.loop-i-test.true, c.well_formed.1.1.1.1.1.1.1.1)
-
-pub loop-i-smaller : goal.loop-i-smaller
-loop-i-smaller c = omega arith
-
 pub loop-i-preserved : goal.loop-i-preserved
 loop-i-preserved c = let a = c.args in
     let l = c.loop-i in

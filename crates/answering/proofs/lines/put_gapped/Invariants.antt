@@ -13,6 +13,3 @@ use Rattle.answering.proofs.lines.put_gapped.Given as goal
 abbrev pub invariant-loop-i : goal.invariant-loop-i
 invariant-loop-i l = Sizes (values_in l.text l.rows l.r l.width) l.sizes × (length l.out ≡ length l.initial.out)
     × (label_count_in l.rows l.r ≤ label_room → w.Ahead l.initial.out l.at (spaced_values l.columns (with_gaps (open_under l.said l.own (labels_in l.rows l.r)) 0 (values_in l.text l.rows l.r l.width))) l.out l.to (spaced_values (drop l.i l.columns) (with_gaps (open_under l.said l.own (labels_in l.rows l.r)) 0 (values_in l.text l.rows l.r l.width))))
-
-abbrev pub decreases-loop-i : goal.decreases-loop-i
-decreases-loop-i l = length l.columns - l.i

@@ -18,12 +18,6 @@ loop-r-init c = let a = c.args in
 pub put_line-to-requires : goal.put_line-to-requires
 put_line-to-requires c = omega arith
 
-pub overflow_add-r : goal.overflow_add-r
-overflow_add-r c = omega arith
-
-pub loop-r-smaller : goal.loop-r-smaller
-loop-r-smaller c = omega arith
-
 pub loop-r-preserved : goal.loop-r-preserved
 loop-r-preserved c = let a = c.args in
     let l = c.loop-r in

@@ -11,6 +11,3 @@ use Rattle.answering.proofs.lines.put_marked.Given as goal
 
 abbrev pub invariant-loop-r : goal.invariant-loop-r
 invariant-loop-r l = (l.r ≤ l.count) × (length l.out ≡ length l.initial.out) × ((d : Doc) → Rows l.text l.rows l.count d.rows → Wrote l.initial.out 0 (lines_marked (row_shown l.said l.m l.text l.rows l.gaps) l.columns l.marks l.r) l.out l.to)
-
-abbrev pub decreases-loop-r : goal.decreases-loop-r
-decreases-loop-r l = l.count - l.r

@@ -15,12 +15,6 @@ use Rattle.answering.proofs.lines.put_values.Goals as goal
 pub loop-i-init : goal.loop-i-init
 loop-i-init c = (w.start _ _ _, sizes_none _ 16)
 
-pub overflow_add-i : goal.overflow_add-i
-overflow_add-i c = omega arith
-
-pub loop-i-smaller : goal.loop-i-smaller
-loop-i-smaller c = omega arith
-
 pub loop-i-preserved : goal.loop-i-preserved
 loop-i-preserved c = let a = c.args in
     let l = c.loop-i in

@@ -10,6 +10,3 @@ use Rattle.answering.proofs.lines.put_values.Given as goal
 
 abbrev pub invariant-loop-i : goal.invariant-loop-i
 invariant-loop-i l = w.Ahead l.initial.out l.at (spaced_values l.columns (tabulated (value_in l.text l.rows l.r) l.width)) l.out l.to (spaced_values (drop l.i l.columns) (tabulated (value_in l.text l.rows l.r) l.width)) × Sizes (tabulated (value_in l.text l.rows l.r) l.width) l.sizes
-
-abbrev pub decreases-loop-i : goal.decreases-loop-i
-decreases-loop-i l = length l.columns - l.i

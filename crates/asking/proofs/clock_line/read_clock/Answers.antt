@@ -22,16 +22,16 @@ returns-in_default c =
 pub returns-then-byte_at-ne41 : goal.returns-then-byte_at-ne41
 unfolding clock_of
 returns-then-byte_at-ne41 c =
-    line_open c.args.s.now (sym c.byte_at.ensures ∙ c.if-byte_at-ne40.false) (sym c.is_word.ensures ∙ c.if-not-is_word.false) c.word_end.ensures c.in-At.c c.in-At.e c.in-At.ensures (λ z. c.if-byte_at-ne41.true (c.byte_at-2.ensures ∙ z))
+    line_open c.args.s.now (sym c.byte_at.ensures ∙ c.if-byte_at-ne40.false) (sym c.is_word.ensures ∙ c.if-not-is_word.false) c.word_end.ensures c.in-Some.c c.in-Some.e c.in-Some.ensures (λ z. c.if-byte_at-ne41.true (c.byte_at-2.ensures ∙ z))
 
 pub overflow_add-e : goal.overflow_add-e
-overflow_add-e c = omega (arith, closes_before c.args.s.now c.in-At.e (sym c.byte_at-2.ensures ∙ c.if-byte_at-ne41.false))
+overflow_add-e c = omega (arith, closes_before c.args.s.now c.in-Some.e (sym c.byte_at-2.ensures ∙ c.if-byte_at-ne41.false))
 
 pub returns-then-e-s : goal.returns-then-e-s
 unfolding clock_of
 returns-then-e-s c =
-    line_long c.args.s.now (sym c.byte_at.ensures ∙ c.if-byte_at-ne40.false) (sym c.is_word.ensures ∙ c.if-not-is_word.false) c.word_end.ensures c.in-At.c c.in-At.e c.in-At.ensures (sym c.byte_at-2.ensures ∙ c.if-byte_at-ne41.false) c.if-e-s.true
+    line_long c.args.s.now (sym c.byte_at.ensures ∙ c.if-byte_at-ne40.false) (sym c.is_word.ensures ∙ c.if-not-is_word.false) c.word_end.ensures c.in-Some.c c.in-Some.e c.in-Some.ensures (sym c.byte_at-2.ensures ∙ c.if-byte_at-ne41.false) c.if-e-s.true
 
 pub returns : goal.returns
 returns c =
-    line_read c.args.s.now (sym c.byte_at.ensures ∙ c.if-byte_at-ne40.false) (sym c.is_word.ensures ∙ c.if-not-is_word.false) c.word_end.ensures c.in-At.c c.in-At.e c.in-At.ensures (sym c.byte_at-2.ensures ∙ c.if-byte_at-ne41.false) c.if-e-s.false
+    line_read c.args.s.now (sym c.byte_at.ensures ∙ c.if-byte_at-ne40.false) (sym c.is_word.ensures ∙ c.if-not-is_word.false) c.word_end.ensures c.in-Some.c c.in-Some.e c.in-Some.ensures (sym c.byte_at-2.ensures ∙ c.if-byte_at-ne41.false) c.if-e-s.false

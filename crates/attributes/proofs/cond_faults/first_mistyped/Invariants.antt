@@ -15,6 +15,3 @@ use Rattle.attributes.proofs.cond_faults.first_mistyped.Given as goal
 
 abbrev pub invariant-loop-j : goal.invariant-loop-j
 invariant-loop-j l = (l.j ≤ l.count) × ((d : Policy) → Attributes l.text l.attributes l.n d.attributes → (i : ℕ) → i < l.j → mistyped (attribute_kind d (word_of l.line (next_word l.line (get_or l.ops i 0)))) (compared_at l.line (get_or l.ops i 0)) ≡ none)
-
-abbrev pub decreases-loop-j : goal.decreases-loop-j
-decreases-loop-j l = l.count - l.j

@@ -35,12 +35,6 @@ returns-then-not-usable c = let s = c.args.line.now in
           (arith, at, next_within s (get_or c.args.ops.now c.loop-j.j 0) (near c.loop-j.j c.loop-j-test.true))),
     )
 
-pub overflow_add-j : goal.overflow_add-j
-overflow_add-j c = omega (arith, c.loop-j-test.true)
-
-pub loop-j-smaller : goal.loop-j-smaller
-loop-j-smaller c = omega (arith, c.loop-j-test.true)
-
 pub loop-j-preserved : goal.loop-j-preserved
 loop-j-preserved c = let s = c.args.line.now in
     let at : c.next_word-at.result ≡ next_word s (get_or c.args.ops.now c.loop-j.j 0) = c.next_word-at.ensures in (

@@ -13,6 +13,3 @@ use Rattle.attributes.proofs.cond_faults.first_unusable.Given as goal
 
 abbrev pub invariant-loop-j : goal.invariant-loop-j
 invariant-loop-j l = (l.j ≤ l.count) × ((d : Policy) → Nodes 64 l.text l.roles l.m d.roles → Attributes l.text l.attributes l.n d.attributes → (i : ℕ) → i < l.j → usable_for d l.role (word_of l.line (next_word l.line (get_or l.ops i 0))) ≡ true)
-
-abbrev pub decreases-loop-j : goal.decreases-loop-j
-decreases-loop-j l = l.count - l.j

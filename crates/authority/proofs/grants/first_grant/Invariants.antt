@@ -7,7 +7,7 @@ use mathlib.Core.Path.{◌≡◌}
 use Rattle.authority.proofs.GrantingLaws.{Told, passes}
 use Rattle.document.specs.Policy.{Node, tree_of}
 use Rattle.principals.specs.Nodes.{Nodes}
-use Rattle.workspace.specs.declared.found.Found.TheVariants as variant
+use Rattle.std.specs.Prelude.{None}
 use Rattle.purpose.specs.Compliance.{descends}
 use Rattle.authority.proofs.grants.first_grant.Given as goal
 
@@ -18,7 +18,7 @@ abbrev pub decreases-roles : goal.decreases-roles
 decreases-roles l = l.r
 
 abbrev pub invariant-grants : goal.invariant-grants
-invariant-grants l = (l.found ≡ variant.Nothing) × ((t : Told l.closure l.roles l.rcount l.conds l.ccount l.grants l.gcount l.held l.role) (j : ℕ) → j < l.i → passes t j ≡ false)
+invariant-grants l = (l.found ≡ None) × ((t : Told l.closure l.roles l.rcount l.conds l.ccount l.grants l.gcount l.held l.role) (j : ℕ) → j < l.i → passes t j ≡ false)
 
 abbrev pub decreases-grants : goal.decreases-grants
 decreases-grants l = l.gcount - l.i

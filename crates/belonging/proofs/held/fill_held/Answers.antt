@@ -15,9 +15,6 @@ loop-i-init c = (omega arith, search rules, λ d u rs t h short j l. absurd (ome
 pub bounds-held-i : goal.bounds-held-i
 bounds-held-i c = omega (arith, c.requires, c.loop-i.invariant.1)
 
-pub loop-i-smaller : goal.loop-i-smaller
-loop-i-smaller c = omega arith
-
 pub loop-i-preserved : goal.loop-i-preserved
 loop-i-preserved c = let a = c.args in
     let now = c.loop-i in

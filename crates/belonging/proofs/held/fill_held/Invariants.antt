@@ -17,6 +17,3 @@ invariant-loop-i l = (l.i ≤ l.n) × (length l.held ≡ length l.initial.held)
     × ((d : Policy) (u : User) (rs : List CondRole) → Told l.text l.attributes l.acount (clock_of l.clock) l.user l.values d u → CondRoles d l.text l.conds l.n rs
     → ((j : ℕ) (r : CondRole) → get_elem? rs j ≡ some r → length (comparisons r.condition) ≤ 64)
     → (j : ℕ) → j < l.i → get_or l.held j false ≡ condition_holds (clock_of l.clock) u (cond_role_in d l.text l.conds j))
-
-abbrev pub decreases-loop-i : goal.decreases-loop-i
-decreases-loop-i l = l.n - l.i

@@ -19,9 +19,6 @@ bounds-ops-i c = omega (arith, c.requires)
 pub bounds-truths-i : goal.bounds-truths-i
 bounds-truths-i c = omega (arith, c.requires, c.loop-i.invariant.1)
 
-pub loop-i-smaller : goal.loop-i-smaller
-loop-i-smaller c = omega arith
-
 pub loop-i-preserved : goal.loop-i-preserved
 loop-i-preserved c = let a = c.args in
     let now = c.loop-i in

@@ -15,6 +15,3 @@ abbrev pub invariant-loop-i : goal.invariant-loop-i
 invariant-loop-i l = (l.i ≤ l.n) × (length l.truths ≡ length l.initial.truths)
     × ((d : Policy) (u : User) → Told l.text l.attributes l.acount (clock_of l.clock) l.user l.values d u → ((j : ℕ) → j < l.n → there (attribute_of d (compared_at l.line (get_or l.ops j 0)).of) ≡ true)
     → (j : ℕ) → j < l.i → get_or l.truths j false ≡ comparison_holds d (clock_of l.clock) u (compared_at l.line (get_or l.ops j 0)))
-
-abbrev pub decreases-loop-i : goal.decreases-loop-i
-decreases-loop-i l = l.n - l.i

@@ -12,9 +12,6 @@ use Rattle.belonging.proofs.values.clear_places.Goals as goal
 pub loop-i-init : goal.loop-i-init
 loop-i-init c = (omega arith, search rules, fill_none _ 0)
 
-pub loop-i-smaller : goal.loop-i-smaller
-loop-i-smaller c = simp length-set (omega arith)
-
 pub loop-i-preserved : goal.loop-i-preserved
 loop-i-preserved c = let now = c.loop-i in
     (simp length-set (omega arith), simp length-set now.invariant.1, ap (λ l. set l now.i 0) now.invariant.2 ∙ fill_more now.i 0 c.args.places.now (omega arith))

@@ -7,6 +7,3 @@ use Rattle.belonging.proofs.values.clear_places.Given as goal
 
 abbrev pub invariant-loop-i : goal.invariant-loop-i
 invariant-loop-i l = (l.i ≤ length l.places) × (length l.places ≡ length l.initial.places) × (l.places ≡ replicate l.i 0 ++ drop l.i l.initial.places)
-
-abbrev pub decreases-loop-i : goal.decreases-loop-i
-decreases-loop-i l = length l.places - l.i

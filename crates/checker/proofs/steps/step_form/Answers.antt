@@ -1,175 +1,90 @@
 -- `checker::steps::step_form` meets its contract: the line is read, and each form is answered by its own function. Assumes nothing.
-use mathlib.Core.Path.{◌∙◌, ap, subst, sym}
+use Prim.Native.Nat.{ℕ}
+use mathlib.Core.List.{List}
+use mathlib.Core.Path.{◌∙◌, ◌≡◌, ap, subst, sym}
 use Rattle.stepping.proofs.Judgements.{follows_as, follows_fails, line_form, line_none}
-use Rattle.form.specs.Places.{Within, line_at}
+use Rattle.form.specs.FormReader.{form_of}
+use Rattle.form.specs.Places.{FoundWithin, Reads, Within, line_at, line_found}
+use Rattle.form.specs.declared.lines.Line.{Line}
+use Rattle.std.specs.Prelude.{Option, Some}
 use Rattle.checker.proofs.steps.step_form.Goals as goal
 
-pub read_line-form-requires : goal.read_line-form-requires
-read_line-form-requires c = tt
+-- what was read of the line, by the variant that it is
+line_read : {s : List ℕ} {r : Option Line} {l m : Line} → Reads s r → r ≡ Some l → l ≡ m → (form_of s ≡ line_at s m) × Within s m
+unfolding line_found FoundWithin
+line_read {s} R e q = (R.is ∙ ap (line_found s) (e ∙ ap Some q), subst (FoundWithin s) (e ∙ ap Some q) R.within)
 
-pub step_purpose_root-requires : goal.step_purpose_root-requires
-step_purpose_root-requires c = tt
-
-pub step_purpose_below-requires : goal.step_purpose_below-requires
-step_purpose_below-requires c = tt
-
-pub step_role_root-requires : goal.step_role_root-requires
-step_role_root-requires c = tt
-
-pub step_role_below-requires : goal.step_role_below-requires
-step_role_below-requires c = tt
-
-pub step_attr-requires : goal.step_attr-requires
-step_attr-requires c = tt
-
-pub step_user-requires : goal.step_user-requires
-step_user-requires c = tt
-
-pub step_cond-requires : goal.step_cond-requires
-step_cond-requires c = tt
-
-pub step_grant-requires : goal.step_grant-requires
-step_grant-requires c = tt
-
-pub step_label-requires : goal.step_label-requires
-step_label-requires c = tt
-
-pub step_table-requires : goal.step_table-requires
-step_table-requires c = tt
-
-pub step_row-requires : goal.step_row-requires
-step_row-requires c = tt
-
-pub step_public-requires : goal.step_public-requires
-step_public-requires c = tt
-
-pub step_label_note-requires : goal.step_label_note-requires
-step_label_note-requires c = tt
-
-pub step_label_note-requires-in-Strong : goal.step_label_note-requires-in-Strong
-step_label_note-requires-in-Strong c = tt
-
-pub returns-in-Wrong : goal.returns-in-Wrong
-unfolding line_at
-returns-in-Wrong c = let entry = c.args in
-    λ d a I U.
-    follows_fails (record { is = line_none d entry.line.now (c.read_line-form.ensures.is ∙ ap (line_at entry.line.now) c.in-Wrong.is); reaches = tt })
+pub returns-in_default : goal.returns-in_default
+unfolding line_found
+returns-in_default c = let line = c.args.line.now in
+    λ d a I U. follows_fails (record { is = line_none d line (c.read_line.ensures.is ∙ ap (line_found line) c.in_default.is); reaches = tt })
 
 pub returns-in-Purpose : goal.returns-in-Purpose
 unfolding line_at Within
-returns-in-Purpose c = let entry = c.args in λ d a I U. follows_as (sym (line_form d entry.line.now _
-    (c.read_line-form.ensures.is ∙ ap (line_at entry.line.now) c.in-Purpose.is)))
-    (c.step_purpose_root.ensures d _ _ _ _ _ _ _ _ _ a (subst
-    (Within entry.line.now) c.in-Purpose.is
-    c.read_line-form.ensures.within) I)
+returns-in-Purpose c = let t = line_read c.read_line.ensures c.in-Some.is c.in-Purpose.is in
+    λ d a I U. follows_as (sym (line_form d c.args.line.now _ t.0)) (c.step_purpose_root.ensures d _ _ _ _ _ _ _ _ _ a t.1 I)
 
 pub returns-in-PurposeBelow : goal.returns-in-PurposeBelow
 unfolding line_at Within
-returns-in-PurposeBelow c = let entry = c.args in λ d a I U. follows_as (sym (line_form d entry.line.now _
-    (c.read_line-form.ensures.is ∙ ap (line_at entry.line.now) c.in-PurposeBelow.is)))
-    (c.step_purpose_below.ensures d _ _ _ _ _ _ _ _ _ a (subst
-    (Within entry.line.now) c.in-PurposeBelow.is
-    c.read_line-form.ensures.within) I)
+returns-in-PurposeBelow c = let t = line_read c.read_line.ensures c.in-Some.is c.in-PurposeBelow.is in
+    λ d a I U. follows_as (sym (line_form d c.args.line.now _ t.0)) (c.step_purpose_below.ensures d _ _ _ _ _ _ _ _ _ a t.1 I)
 
 pub returns-in-Role : goal.returns-in-Role
 unfolding line_at Within
-returns-in-Role c = let entry = c.args in λ d a I U. follows_as (sym (line_form d entry.line.now _
-    (c.read_line-form.ensures.is ∙ ap (line_at entry.line.now) c.in-Role.is)))
-    (c.step_role_root.ensures d _ _ _ _ _ _ _ _ _ a (subst
-    (Within entry.line.now) c.in-Role.is
-    c.read_line-form.ensures.within) I)
+returns-in-Role c = let t = line_read c.read_line.ensures c.in-Some.is c.in-Role.is in
+    λ d a I U. follows_as (sym (line_form d c.args.line.now _ t.0)) (c.step_role_root.ensures d _ _ _ _ _ _ _ _ _ a t.1 I)
 
 pub returns-in-RoleBelow : goal.returns-in-RoleBelow
 unfolding line_at Within
-returns-in-RoleBelow c = let entry = c.args in λ d a I U. follows_as (sym (line_form d entry.line.now _
-    (c.read_line-form.ensures.is ∙ ap (line_at entry.line.now) c.in-RoleBelow.is)))
-    (c.step_role_below.ensures d _ _ _ _ _ _ _ _ _ a (subst
-    (Within entry.line.now) c.in-RoleBelow.is
-    c.read_line-form.ensures.within) I)
+returns-in-RoleBelow c = let t = line_read c.read_line.ensures c.in-Some.is c.in-RoleBelow.is in
+    λ d a I U. follows_as (sym (line_form d c.args.line.now _ t.0)) (c.step_role_below.ensures d _ _ _ _ _ _ _ _ _ a t.1 I)
 
 pub returns-in-Attr : goal.returns-in-Attr
 unfolding line_at Within
-returns-in-Attr c = let entry = c.args in λ d a I U. follows_as (sym (line_form d entry.line.now _
-    (c.read_line-form.ensures.is ∙ ap (line_at entry.line.now) c.in-Attr.is)))
-    (c.step_attr.ensures d _ _ _ _ _ _ _ _ a (subst
-    (Within entry.line.now)
-    c.in-Attr.is c.read_line-form.ensures.within) I)
+returns-in-Attr c = let t = line_read c.read_line.ensures c.in-Some.is c.in-Attr.is in
+    λ d a I U. follows_as (sym (line_form d c.args.line.now _ t.0)) (c.step_attr.ensures d _ _ _ _ _ _ _ _ a t.1 I)
 
 pub returns-in-User : goal.returns-in-User
 unfolding line_at Within
-returns-in-User c = let entry = c.args in λ d a I U. follows_as (sym (line_form d
-    entry.line.now _
-    (c.read_line-form.ensures.is ∙ ap (line_at entry.line.now) c.in-User.is)))
-    (c.step_user.ensures d _ _ _ _ _ _ _ a (subst
-    (Within entry.line.now)
-    c.in-User.is
-    c.read_line-form.ensures.within) I U)
+returns-in-User c = let t = line_read c.read_line.ensures c.in-Some.is c.in-User.is in
+    λ d a I U. follows_as (sym (line_form d c.args.line.now _ t.0)) (c.step_user.ensures d _ _ _ _ _ _ _ a t.1 I U)
 
 pub returns-in-CondRole : goal.returns-in-CondRole
 unfolding line_at Within
-returns-in-CondRole c = let entry = c.args in λ d a I U. c.step_cond.ensures d _ _ _ _ _ _ _
-    (c.read_line-form.ensures.is ∙ ap (line_at entry.line.now) c.in-CondRole.is) a
-    (subst (Within entry.line.now) c.in-CondRole.is c.read_line-form.ensures.within) I
+returns-in-CondRole c = let t = line_read c.read_line.ensures c.in-Some.is c.in-CondRole.is in
+    λ d a I U. c.step_cond.ensures d _ _ _ _ _ _ _ t.0 a t.1 I
 
 pub returns-in-Grant : goal.returns-in-Grant
 unfolding line_at Within
-returns-in-Grant c = let entry = c.args in λ d a I U. follows_as (sym (line_form d
-    entry.line.now _
-    (c.read_line-form.ensures.is ∙ ap (line_at entry.line.now) c.in-Grant.is)))
-    (c.step_grant.ensures d _ _ _ _ _ _ _ a (subst
-    (Within entry.line.now)
-    c.in-Grant.is
-    c.read_line-form.ensures.within) I)
+returns-in-Grant c = let t = line_read c.read_line.ensures c.in-Some.is c.in-Grant.is in
+    λ d a I U. follows_as (sym (line_form d c.args.line.now _ t.0)) (c.step_grant.ensures d _ _ _ _ _ _ _ a t.1 I)
 
 pub returns-in-Label : goal.returns-in-Label
 unfolding line_at Within
-returns-in-Label c = let entry = c.args in λ d a I U.
-    let w = subst (Within entry.line.now) c.in-Label.is c.read_line-form.ensures.within in
-    follows_as (sym (line_form d entry.line.now _
-    (c.read_line-form.ensures.is ∙ ap (line_at entry.line.now) c.in-Label.is)))
-    (c.step_label.ensures d _ _ _ _ _ _ _ a w.0 w.3 I)
+returns-in-Label c = let t = line_read c.read_line.ensures c.in-Some.is c.in-Label.is in
+    λ d a I U. follows_as (sym (line_form d c.args.line.now _ t.0)) (c.step_label.ensures d _ _ _ _ _ _ _ a t.1.0 t.1.3 I)
 
 pub returns-in-Table : goal.returns-in-Table
 unfolding line_at Within
-returns-in-Table c = let entry = c.args in λ d a I U. follows_as (sym (line_form d entry.line.now _
-    (c.read_line-form.ensures.is ∙ ap (line_at entry.line.now) c.in-Table.is)))
-    (c.step_table.ensures d _ _ _ _ _ _ _ _ a (subst
-    (Within entry.line.now)
-    c.in-Table.is c.read_line-form.ensures.within) I)
+returns-in-Table c = let t = line_read c.read_line.ensures c.in-Some.is c.in-Table.is in
+    λ d a I U. follows_as (sym (line_form d c.args.line.now _ t.0)) (c.step_table.ensures d _ _ _ _ _ _ _ _ a t.1 I)
 
 pub returns-in-Row : goal.returns-in-Row
 unfolding line_at Within
-returns-in-Row c = let entry = c.args in λ d a I U. follows_as (sym (line_form d
-    entry.line.now _
-    (c.read_line-form.ensures.is ∙ ap (line_at entry.line.now) c.in-Row.is)))
-    (c.step_row.ensures d _ _ _ _ _ _ _ a (subst
-    (Within entry.line.now)
-    c.in-Row.is
-    c.read_line-form.ensures.within) I)
+returns-in-Row c = let t = line_read c.read_line.ensures c.in-Some.is c.in-Row.is in
+    λ d a I U. follows_as (sym (line_form d c.args.line.now _ t.0)) (c.step_row.ensures d _ _ _ _ _ _ _ a t.1 I)
 
 pub returns-in-Public : goal.returns-in-Public
 unfolding line_at Within
-returns-in-Public c = let entry = c.args in λ d a I U. follows_as (sym (line_form d entry.line.now _
-    (c.read_line-form.ensures.is ∙ ap (line_at entry.line.now) c.in-Public.is)))
-    (c.step_public.ensures d _ _ _ _ _ _ _ _ _ (subst (Within entry.line.now)
-    c.in-Public.is c.read_line-form.ensures.within) I)
+returns-in-Public c = let t = line_read c.read_line.ensures c.in-Some.is c.in-Public.is in
+    λ d a I U. follows_as (sym (line_form d c.args.line.now _ t.0)) (c.step_public.ensures d _ _ _ _ _ _ _ _ _ t.1 I)
 
 pub returns-in-Weak : goal.returns-in-Weak
 unfolding line_at Within
-returns-in-Weak c = let entry = c.args in λ d a I U. follows_as (sym (line_form d
-    entry.line.now _
-    (c.read_line-form.ensures.is ∙ ap (line_at entry.line.now) c.in-Weak.is)))
-    (c.step_label_note.ensures d _ _ _ _ _ _ _ (subst
-    (Within entry.line.now)
-    c.in-Weak.is
-    c.read_line-form.ensures.within) I)
+returns-in-Weak c = let t = line_read c.read_line.ensures c.in-Some.is c.in-Weak.is in
+    λ d a I U. follows_as (sym (line_form d c.args.line.now _ t.0)) (c.step_label_note.ensures d _ _ _ _ _ _ _ t.1 I)
 
 pub returns-in-Strong : goal.returns-in-Strong
 unfolding line_at Within
-returns-in-Strong c = let entry = c.args in λ d a I U. follows_as (sym (line_form d
-    entry.line.now _
-    (c.read_line-form.ensures.is ∙ ap (line_at entry.line.now) c.in-Strong.is)))
-    (c.step_label_note-in-Strong.ensures d _ _ _ _ _ _ _ (subst
-    (Within entry.line.now)
-    c.in-Strong.is
-    c.read_line-form.ensures.within) I)
+returns-in-Strong c = let t = line_read c.read_line.ensures c.in-Some.is c.in-Strong.is in
+    λ d a I U. follows_as (sym (line_form d c.args.line.now _ t.0)) (c.step_label_note-in-Strong.ensures d _ _ _ _ _ _ _ t.1 I)

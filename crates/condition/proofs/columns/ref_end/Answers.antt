@@ -24,21 +24,21 @@ returns-then-not-is_word c = let x = c.args in
     let b : get_or x.s.now x.at 0 ≡ 40 = sym c.byte_at.ensures ∙ c.if-byte_at-ne40.false in
     ref_unkeyed x.s.now x.at b (sym c.is_word.ensures ∙ c.if-not-is_word.true)
 
-pub returns-in_default : goal.returns-in_default
-returns-in_default c = let x = c.args in
+pub returns-in_err-e : goal.returns-in_err-e
+returns-in_err-e c = let x = c.args in
     let b : get_or x.s.now x.at 0 ≡ 40 = sym c.byte_at.ensures ∙ c.if-byte_at-ne40.false in
     let h : same_name (word_at x.s.now (x.at + 1)) (ascii "of") ≡ true = sym c.is_word.ensures ∙ c.if-not-is_word.false in
-    ref_unnamed x.s.now x.at b h c.word_end.ensures c.ref_body_end-b.ensures c.in_default.is
+    c.from_residual.ensures ∙ ref_unnamed x.s.now x.at b h c.word_end.ensures c.ref_body_end.ensures c.in_err-e.was
 
 pub returns-then-byte_at-ne41 : goal.returns-then-byte_at-ne41
 returns-then-byte_at-ne41 c = let x = c.args in
     let b : get_or x.s.now x.at 0 ≡ 40 = sym c.byte_at.ensures ∙ c.if-byte_at-ne40.false in
     let h : same_name (word_at x.s.now (x.at + 1)) (ascii "of") ≡ true = sym c.is_word.ensures ∙ c.if-not-is_word.false in
-    ref_unclosed x.s.now x.at b h c.word_end.ensures c.ref_body_end-b.ensures c.in-At.is (λ z. c.if-byte_at-ne41.true (c.byte_at-2.ensures ∙ z))
+    ref_unclosed x.s.now x.at b h c.word_end.ensures c.ref_body_end.ensures c.in_ok-e.was (λ z. c.if-byte_at-ne41.true (c.byte_at-2.ensures ∙ z))
 
 pub overflow_add-result : goal.overflow_add-result
 overflow_add-result c = let x = c.args in
-    let e = c.in-At.e in
+    let e = c.in_ok-e.e in
     let z : get_or x.s.now e 0 ≡ 41 = sym c.byte_at-2.ensures ∙ c.if-byte_at-ne41.false in
     omega (arith, before_end x.s.now e (λ y. absurd (omega (arith, z, y))))
 
@@ -46,4 +46,4 @@ pub returns : goal.returns
 returns c = let x = c.args in
     let b : get_or x.s.now x.at 0 ≡ 40 = sym c.byte_at.ensures ∙ c.if-byte_at-ne40.false in
     let h : same_name (word_at x.s.now (x.at + 1)) (ascii "of") ≡ true = sym c.is_word.ensures ∙ c.if-not-is_word.false in
-    ref_closed x.s.now x.at b h c.word_end.ensures c.ref_body_end-b.ensures c.in-At.is (sym c.byte_at-2.ensures ∙ c.if-byte_at-ne41.false)
+    ref_closed x.s.now x.at b h c.word_end.ensures c.ref_body_end.ensures c.in_ok-e.was (sym c.byte_at-2.ensures ∙ c.if-byte_at-ne41.false)

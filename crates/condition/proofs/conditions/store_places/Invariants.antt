@@ -5,6 +5,3 @@ use Rattle.condition.proofs.conditions.store_places.Given as goal
 
 abbrev pub invariant-loop-i : goal.invariant-loop-i
 invariant-loop-i l = Storing l.s l.at l.end (length l.initial.ops) l.ops l.i l.n
-
-abbrev pub decreases-loop-i : goal.decreases-loop-i
-decreases-loop-i l = l.end - l.i

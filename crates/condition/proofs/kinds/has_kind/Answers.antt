@@ -1,34 +1,20 @@
-use mathlib.Core.Path.{◌∙◌, sym}
+use mathlib.Core.Path.{◌∙◌, ap, sym}
 use Rattle.calendar.proofs.DateValues.{word_not_date}
+use Rattle.condition.proofs.FoundLaws.{amount_found, word_found}
 use Rattle.condition.specs.Kinds.{has_kind}
-use Rattle.lists.specs.Lists.{there}
-use Rattle.text.proofs.CodeLaws.{amount_is, amount_nothing, word_at_lem, word_nothing}
+use Rattle.std.specs.Prelude.{is_some}
 use Rattle.text.specs.Names.{is_name}
 use Rattle.text.specs.Numbers.{is_number, rank}
 use Rattle.text.specs.Words.{word_at}
 use Rattle.condition.proofs.kinds.has_kind.Goals as goal
 
-pub returns-in-Is : goal.returns-in-Is
-unfolding has_kind is_number there
-returns-in-Is c = let o = rank (word_at c.args.s.now c.args.at) in
-    rw (c.in-Num.is, amount_is o _ (sym c.rank_at-n.ensures ∙ c.in-Is.is))
+pub returns-in-Num : goal.returns-in-Num
+unfolding has_kind is_number
+returns-in-Num c = rw c.in-Num.is (c.is_some.ensures ∙ ap is_some c.rank_at.ensures ∙ amount_found (rank (word_at c.args.s.now c.args.at)))
 
-pub returns-in-Nothing : goal.returns-in-Nothing
-unfolding has_kind is_number there
-returns-in-Nothing c = let o = rank (word_at c.args.s.now c.args.at) in
-    rw (c.in-Num.is, amount_nothing o (sym c.rank_at-n.ensures ∙ c.in-Nothing.is))
-
-pub returns-in-At : goal.returns-in-At
+pub returns-in-Name : goal.returns-in-Name
 unfolding has_kind
-returns-in-At c = let s = c.args.s.now in
-    let at = c.args.at in
-    rw (c.in-Name.is, (word_at_lem s at is_name _ (sym c.name_end-n.ensures ∙ c.in-At.is)).0)
-
-pub returns-in-Nothing-n : goal.returns-in-Nothing-n
-unfolding has_kind
-returns-in-Nothing-n c = let s = c.args.s.now in
-    let at = c.args.at in
-    rw (c.in-Name.is, word_nothing s at is_name (sym c.name_end-n.ensures ∙ c.in-Nothing-n.is))
+returns-in-Name c = rw c.in-Name.is (c.is_some-in-Name.ensures ∙ ap is_some c.name_end.ensures ∙ word_found is_name c.args.s.now c.args.at)
 
 pub returns-in-Date : goal.returns-in-Date
 unfolding has_kind

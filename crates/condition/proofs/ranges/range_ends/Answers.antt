@@ -2,9 +2,9 @@ use mathlib.Core.Path.{◌∙◌, sym}
 use Rattle.condition.proofs.EndsLaws.{no_ends, span_ends}
 use Rattle.condition.proofs.ranges.range_ends.Goals as goal
 
-pub returns-in-At : goal.returns-in-At
-returns-in-At c = let a = c.args in
-    λ b. span_ends a.s.now a.at _ _ _ (sym c.read_range-k.ensures ∙ c.in-At.is)
+pub returns-in-Some : goal.returns-in-Some
+returns-in-Some c = let a = c.args in
+    λ b. span_ends a.s.now a.at _ _ _ (sym c.read_range.ensures ∙ c.in-Some.is)
 
-pub returns-in-Nothing : goal.returns-in-Nothing
-returns-in-Nothing c = let a = c.args in λ b. no_ends a.s.now a.at (sym c.read_range-k.ensures ∙ c.in-Nothing.is) b
+pub returns-in-None : goal.returns-in-None
+returns-in-None c = let a = c.args in λ b. no_ends a.s.now a.at (sym c.read_range.ensures ∙ c.in-None.is) b

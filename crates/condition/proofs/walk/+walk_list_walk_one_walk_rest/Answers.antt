@@ -18,7 +18,7 @@ use Rattle.text.specs.Bytes.{ascii}
 use Rattle.text.specs.Names.{same_name}
 use Rattle.text.specs.Reader.{Reader, from}
 use Rattle.text.specs.Words.{word_at, word_of}
-use Rattle.condition.specs.declared.walk.Walk.TheVariants as walk
+use Rattle.std.specs.Prelude.{Some}
 use Rattle.condition.proofs.walk.+walk_list_walk_one_walk_rest.Goals as goal
 
 -- ---- lists of conditions
@@ -31,8 +31,8 @@ walk_list-returns-then-byte_at-ne32 t c =
     let way : Naming = naming_by c.args.joined in
     λ one. sym (ap (walked c.args.k) (list_none one (condition way d) (λ x. 2 + size x) (eats_condition way d) s at (λ z. c.if-byte_at-ne32.true (c.byte_at.ensures ∙ z))))
 
-pub walk_list-loop-c-init : goal.walk_list-loop-c-init
-walk_list-loop-c-init t c =
+pub walk_list-loop-i-init : goal.walk_list-loop-i-init
+walk_list-loop-i-init t c =
     let s = c.args.s.now in
     let at = c.args.at in
     let d = c.args.depth in
@@ -44,50 +44,50 @@ walk_list-loop-c-init t c =
       past = omega arith;
     }
 
-pub walk_list-returns-in_default : goal.walk_list-returns-in_default
-walk_list-returns-in_default t c =
+pub walk_list-returns-in_err-e : goal.walk_list-returns-in_err-e
+walk_list-returns-in_err-e t c =
     let s = c.args.s.now in
     let d = c.args.depth in
     let way : Naming = naming_by c.args.joined in
-    let i = c.loop-c.i in
-    let n = c.loop-c.n in
-    let sp : get_or s i 0 ≡ 32 = sym c.byte_at-in-loop-c.ensures ∙ c.loop-c-test.true in
-    let told_of : c.walk_one-c.result ≡ walked n (condition way d (from s (i + 1))) = c.walk_one-c.ensures in
-    let none_there = read_refused walks (condition way d) (walk_of n) (λ x. 2 + size x) (eats_condition way d) s (i + 1) (sym told_of ∙ c.in_default.is) in
-    λ one. sym (ap (answer_of walks (list_of n)) (many_wrong (λ x. 2 + size x) (condition way d) (eats_condition way d) s i sp none_there)) ∙ c.loop-c.invariant.walks one
+    let i = c.loop-i.i in
+    let n = c.loop-i.n in
+    let sp : get_or s i 0 ≡ 32 = sym c.byte_at-in-loop-i.ensures ∙ c.loop-i-test.true in
+    let told_of : c.walk_one.result ≡ walked n (condition way d (from s (i + 1))) = c.walk_one.ensures in
+    let none_there = read_refused walks (condition way d) (walk_of n) (λ x. 2 + size x) (eats_condition way d) s (i + 1) (sym told_of ∙ c.in_err-e.was) in
+    λ one. c.from_residual.ensures ∙ sym (ap (answer_of walks (list_of n)) (many_wrong (λ x. 2 + size x) (condition way d) (eats_condition way d) s i sp none_there)) ∙ c.loop-i.invariant.walks one
 
-pub walk_list-loop-c-smaller : goal.walk_list-loop-c-smaller
-walk_list-loop-c-smaller t c =
+pub walk_list-loop-i-smaller : goal.walk_list-loop-i-smaller
+walk_list-loop-i-smaller t c =
     let s = c.args.s.now in
     let d = c.args.depth in
     let way : Naming = naming_by c.args.joined in
-    let i = c.loop-c.i in
-    let n = c.loop-c.n in
-    let sp : get_or s i 0 ≡ 32 = sym c.byte_at-in-loop-c.ensures ∙ c.loop-c-test.true in
-    let e = c.in-At.e in
-    let told_of : c.walk_one-c.result ≡ walked n (condition way d (from s (i + 1))) = c.walk_one-c.ensures in
-    let r = read_at walks (condition way d) (walk_of n) (λ x. 2 + size x) (eats_condition way d) s (i + 1) e c.in-At.next (sym told_of ∙ c.in-At.is) in
+    let i = c.loop-i.i in
+    let n = c.loop-i.n in
+    let sp : get_or s i 0 ≡ 32 = sym c.byte_at-in-loop-i.ensures ∙ c.loop-i-test.true in
+    let e = c.in_ok-e.e in
+    let told_of : c.walk_one.result ≡ walked n (condition way d (from s (i + 1))) = c.walk_one.ensures in
+    let r = read_at walks (condition way d) (walk_of n) (λ x. 2 + size x) (eats_condition way d) s (i + 1) e c.in_ok-e.next (sym told_of ∙ c.in_ok-e.was) in
     let far : i + 1 + (2 + size r.what) ≤ e = r.past in
     omega (arith, far, before_end s i (λ z. absurd (omega (arith, sp, z))))
 
-pub walk_list-loop-c-preserved : goal.walk_list-loop-c-preserved
-walk_list-loop-c-preserved t c =
+pub walk_list-loop-i-preserved : goal.walk_list-loop-i-preserved
+walk_list-loop-i-preserved t c =
     let s = c.args.s.now in
     let d = c.args.depth in
     let way : Naming = naming_by c.args.joined in
-    let i = c.loop-c.i in
-    let n = c.loop-c.n in
-    let sp : get_or s i 0 ≡ 32 = sym c.byte_at-in-loop-c.ensures ∙ c.loop-c-test.true in
-    let e = c.in-At.e in
-    let m = c.in-At.next in
-    let told_of : c.walk_one-c.result ≡ walked n (condition way d (from s (i + 1))) = c.walk_one-c.ensures in
-    let r = read_at walks (condition way d) (walk_of n) (λ x. 2 + size x) (eats_condition way d) s (i + 1) e m (sym told_of ∙ c.in-At.is) in
+    let i = c.loop-i.i in
+    let n = c.loop-i.n in
+    let sp : get_or s i 0 ≡ 32 = sym c.byte_at-in-loop-i.ensures ∙ c.loop-i-test.true in
+    let e = c.in_ok-e.e in
+    let m = c.in_ok-e.next in
+    let told_of : c.walk_one.result ≡ walked n (condition way d (from s (i + 1))) = c.walk_one.ensures in
+    let r = read_at walks (condition way d) (walk_of n) (λ x. 2 + size x) (eats_condition way d) s (i + 1) e m (sym told_of ∙ c.in_ok-e.was) in
     let far : i + 1 + (2 + size r.what) ≤ e = r.past in
     let made : n + size r.what ≡ m = r.made in
     record {
-      walks = λ one. ap (λ (v : ℕ). answer_of walks (list_of v) (many (condition way d) (from s e))) (sym made) ∙ sym (list_more one (condition way d) (λ x. 2 + size x) (eats_condition way d) s n i r.what e sp r.is) ∙ c.loop-c.invariant.walks one;
-      few = omega (arith, far, made, c.loop-c.invariant.few);
-      past = omega (arith, far, c.loop-c.invariant.past);
+      walks = λ one. ap (λ (v : ℕ). answer_of walks (list_of v) (many (condition way d) (from s e))) (sym made) ∙ sym (list_more one (condition way d) (λ x. 2 + size x) (eats_condition way d) s n i r.what e sp r.is) ∙ c.loop-i.invariant.walks one;
+      few = omega (arith, far, made, c.loop-i.invariant.few);
+      past = omega (arith, far, c.loop-i.invariant.past);
     }
 
 pub walk_list-returns : goal.walk_list-returns
@@ -95,9 +95,9 @@ walk_list-returns t c =
     let s = c.args.s.now in
     let d = c.args.depth in
     let way : Naming = naming_by c.args.joined in
-    let i = c.loop-c.i in
-    let n = c.loop-c.n in
-    λ one. sym (list_end one (condition way d) (λ x. 2 + size x) (eats_condition way d) s n i (λ z. c.loop-c-test.false (c.byte_at-in-loop-c.ensures ∙ z))) ∙ c.loop-c.invariant.walks one
+    let i = c.loop-i.i in
+    let n = c.loop-i.n in
+    λ one. sym (list_end one (condition way d) (λ x. 2 + size x) (eats_condition way d) s n i (λ z. c.loop-i-test.false (c.byte_at-in-loop-i.ensures ∙ z))) ∙ c.loop-i.invariant.walks one
 
 -- ---- one condition
 
@@ -113,8 +113,8 @@ walk_one-returns-then-byte_at-ne40 t c =
     let way : Naming = naming_by c.args.joined in
     sym (ap (walked c.args.k) (no_bracket way s c.args.at c.args.depth (λ z. c.if-byte_at-ne40.true (c.byte_at.ensures ∙ z))))
 
-pub walk_one-returns-in_default : goal.walk_one-returns-in_default
-walk_one-returns-in_default t c =
+pub walk_one-returns-in_err-e : goal.walk_one-returns-in_err-e
+walk_one-returns-in_err-e t c =
     let s = c.args.s.now in
     let at = c.args.at in
     let d = c.args.depth in
@@ -123,9 +123,9 @@ walk_one-returns-in_default t c =
     let open_here : get_or s at 0 ≡ 40 = sym c.byte_at.ensures ∙ c.if-byte_at-ne40.false in
     let e0 = c.word_end.result in
     let w = word_of s (at + 1) in
-    let told_of : c.walk_rest-r.result ≡ walked k (among (operators way (d - 1) (condition way (d - 1)) w) w (from s e0)) = c.walk_rest-r.ensures in
-    let none_there = read_refused walks (among (operators way (d - 1) (condition way (d - 1)) w) w) (walk_of k) size (eats_behind way (d - 1) w) s e0 (sym told_of ∙ c.in_default.is) in
-    sym (ap (walked k) (bracket_refused way s at d e0 c.if-depth-eq0.false open_here c.word_end.ensures none_there))
+    let told_of : c.walk_rest.result ≡ walked k (among (operators way (d - 1) (condition way (d - 1)) w) w (from s e0)) = c.walk_rest.ensures in
+    let none_there = read_refused walks (among (operators way (d - 1) (condition way (d - 1)) w) w) (walk_of k) size (eats_behind way (d - 1) w) s e0 (sym told_of ∙ c.in_err-e.was) in
+    c.from_residual.ensures ∙ sym (ap (walked k) (bracket_refused way s at d e0 c.if-depth-eq0.false open_here c.word_end.ensures none_there))
 
 pub walk_one-returns-then-byte_at-ne41 : goal.walk_one-returns-then-byte_at-ne41
 walk_one-returns-then-byte_at-ne41 t c =
@@ -137,9 +137,9 @@ walk_one-returns-then-byte_at-ne41 t c =
     let open_here : get_or s at 0 ≡ 40 = sym c.byte_at.ensures ∙ c.if-byte_at-ne40.false in
     let e0 = c.word_end.result in
     let w = word_of s (at + 1) in
-    let told_of : c.walk_rest-r.result ≡ walked k (among (operators way (d - 1) (condition way (d - 1)) w) w (from s e0)) = c.walk_rest-r.ensures in
-    let e = c.in-At.e in
-    let r = read_at walks (among (operators way (d - 1) (condition way (d - 1)) w) w) (walk_of k) size (eats_behind way (d - 1) w) s e0 e c.in-At.n (sym told_of ∙ c.in-At.is) in
+    let told_of : c.walk_rest.result ≡ walked k (among (operators way (d - 1) (condition way (d - 1)) w) w (from s e0)) = c.walk_rest.ensures in
+    let e = c.in_ok-e.e in
+    let r = read_at walks (among (operators way (d - 1) (condition way (d - 1)) w) w) (walk_of k) size (eats_behind way (d - 1) w) s e0 e c.in_ok-e.n (sym told_of ∙ c.in_ok-e.was) in
     sym (ap (walked k) (bracket_open way s at d e0 c.if-depth-eq0.false open_here c.word_end.ensures r.what e r.is (λ z. c.if-byte_at-ne41.true (c.byte_at-2.ensures ∙ z))))
 
 pub walk_one-returns : goal.walk_one-returns
@@ -152,16 +152,16 @@ walk_one-returns t c =
     let open_here : get_or s at 0 ≡ 40 = sym c.byte_at.ensures ∙ c.if-byte_at-ne40.false in
     let e0 = c.word_end.result in
     let w = word_of s (at + 1) in
-    let told_of : c.walk_rest-r.result ≡ walked k (among (operators way (d - 1) (condition way (d - 1)) w) w (from s e0)) = c.walk_rest-r.ensures in
-    let e = c.in-At.e in
-    let r = read_at walks (among (operators way (d - 1) (condition way (d - 1)) w) w) (walk_of k) size (eats_behind way (d - 1) w) s e0 e c.in-At.n (sym told_of ∙ c.in-At.is) in
+    let told_of : c.walk_rest.result ≡ walked k (among (operators way (d - 1) (condition way (d - 1)) w) w (from s e0)) = c.walk_rest.ensures in
+    let e = c.in_ok-e.e in
+    let r = read_at walks (among (operators way (d - 1) (condition way (d - 1)) w) w) (walk_of k) size (eats_behind way (d - 1) w) s e0 e c.in_ok-e.n (sym told_of ∙ c.in_ok-e.was) in
     let closed : get_or s e 0 ≡ 41 = sym c.byte_at-2.ensures ∙ c.if-byte_at-ne41.false in
-    sym (ap (walked k) (bracket_closed way s at d e0 c.if-depth-eq0.false open_here c.word_end.ensures r.what e r.is closed) ∙ ap (walk.At (e + 1)) r.made)
+    sym (ap (walked k) (bracket_closed way s at d e0 c.if-depth-eq0.false open_here c.word_end.ensures r.what e r.is closed) ∙ ap (λ (n : ℕ). Some (e + 1, n)) r.made)
 
 -- ---- what stands behind the operator
 
-pub walk_rest-returns-in_default : goal.walk_rest-returns-in_default
-walk_rest-returns-in_default t c =
+pub walk_rest-returns-in_err-e : goal.walk_rest-returns-in_err-e
+walk_rest-returns-in_err-e t c =
     let s = c.args.s.now in
     let op = c.args.op in
     let at = c.args.at in
@@ -171,7 +171,7 @@ walk_rest-returns-in_default t c =
     let w = word_of s op in
     let h : is_comparator (word_at s op) ≡ true = sym c.is_comparator.ensures ∙ c.if-is_comparator.true in
     let o = operator_of (word_at s op) in
-    sym (ap (λ (R : Reader (Cond Compared)). walked k (R (from s at))) (operators_compare way d (condition way d) w h) ∙ ap (walked k) (compared_refused way d o w s at (sym (c.compared_end-c.ensures o w) ∙ c.in_default.is)))
+    c.from_residual.ensures ∙ sym (ap (λ (R : Reader (Cond Compared)). walked k (R (from s at))) (operators_compare way d (condition way d) w h) ∙ ap (walked k) (compared_refused way d o w s at (sym (c.compared_end.ensures o w) ∙ c.in_err-e.was)))
 
 pub walk_rest-overflow_add-result : goal.walk_rest-overflow_add-result
 walk_rest-overflow_add-result t c =
@@ -182,7 +182,7 @@ walk_rest-overflow_add-result t c =
     let way : Naming = naming_by c.args.joined in
     let w = word_of s op in
     let o = operator_of (word_at s op) in
-    let g = compared_read way d o w s at c.in-At.e (sym (c.compared_end-c.ensures o w) ∙ c.in-At.is) in
+    let g = compared_read way d o w s at c.in_ok-e.e (sym (c.compared_end.ensures o w) ∙ c.in_ok-e.was) in
     omega (arith, g.2)
 
 pub walk_rest-returns-then-is_comparator : goal.walk_rest-returns-then-is_comparator
@@ -197,7 +197,7 @@ walk_rest-returns-then-is_comparator t c =
     let w = word_of s op in
     let h : is_comparator (word_at s op) ≡ true = sym c.is_comparator.ensures ∙ c.if-is_comparator.true in
     let o = operator_of (word_at s op) in
-    let g = compared_read way d o w s at c.in-At.e (sym (c.compared_end-c.ensures o w) ∙ c.in-At.is) in
+    let g = compared_read way d o w s at c.in_ok-e.e (sym (c.compared_end.ensures o w) ∙ c.in_ok-e.was) in
     sym (ap (λ (R : Reader (Cond Compared)). walked k (R (from s at))) (operators_compare way d (condition way d) w h) ∙ ap (walked k) g.1)
 
 pub walk_rest-returns-then-byte_at-ne32 : goal.walk_rest-returns-then-byte_at-ne32

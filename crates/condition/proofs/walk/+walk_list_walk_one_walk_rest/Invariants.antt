@@ -21,12 +21,12 @@ decreases-walk_one l = 3 * (length l.s.now - l.at)
 abbrev pub decreases-walk_rest : goal.decreases-walk_rest
 decreases-walk_rest l = 3 * (length l.s.now - l.at) + 2
 
-abbrev pub invariant-walk_list-loop-c : goal.invariant-walk_list-loop-c
-invariant-walk_list-loop-c l = record {
+abbrev pub invariant-walk_list-loop-i : goal.invariant-walk_list-loop-i
+invariant-walk_list-loop-i l = record {
   walks : (one : Bool) → answer_of walks (list_of l.n) (many (condition (naming_by l.joined) l.depth) (from l.s l.i)) ≡ walked l.k (conditions (joining one) (condition (naming_by l.joined) l.depth) (from l.s l.at));
   few : l.n ≤ l.i;
   past : l.at ≤ l.i;
 }
 
-abbrev pub decreases-walk_list-loop-c : goal.decreases-walk_list-loop-c
-decreases-walk_list-loop-c l = length l.s - l.i
+abbrev pub decreases-walk_list-loop-i : goal.decreases-walk_list-loop-i
+decreases-walk_list-loop-i l = length l.s - l.i

@@ -1,5 +1,5 @@
 -- `csv_text::fields::plain_end` meets its contract. The loop's invariant: the plain bytes from the loop's place on end where all of them end. Assumes nothing.
-use Prim.Native.Nat.{◌+◌, ◌-◌}
+use Prim.Native.Nat.{◌+◌}
 use Rattle.csv_text.specs.Fields.{plain_bytes}
 use lib.ListN.{drop, length}
 use mathlib.Core.Path.{◌≡◌}
@@ -7,6 +7,3 @@ use Rattle.csv_text.proofs.fields.plain_end.Given as goal
 
 abbrev pub invariant-loop-i : goal.invariant-loop-i
 invariant-loop-i l = l.i + length (plain_bytes (drop l.i l.s)) ≡ l.at + length (plain_bytes (drop l.at l.s))
-
-abbrev pub decreases-loop-i : goal.decreases-loop-i
-decreases-loop-i l = length l.s - l.i

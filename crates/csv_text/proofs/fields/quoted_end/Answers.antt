@@ -1,9 +1,8 @@
 -- `csv_text::fields::quoted_end` meets its contract. The loop's invariant: the field ends from the loop's place on where it ends at the start.
 -- Assumes nothing.
-use Prim.Native.Nat.{◌+◌, ◌-◌}
+use Prim.Native.Nat.{◌+◌}
 use Rattle.csv_text.proofs.FieldLaws.{quote_here, quoted_byte, quoted_closed, quoted_double, quoted_open}
 use lib.ListN.{get_or}
-use mathlib.Core.Bool.{false}
 use mathlib.Core.Path.{◌∙◌, ◌≡◌, refl, sym}
 use native.Mathlib.Omega.{arith}
 use Rattle.csv_text.proofs.fields.quoted_end.Goals.{Else-byte_at-ne34}

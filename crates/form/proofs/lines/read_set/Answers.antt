@@ -7,6 +7,7 @@ use mathlib.Core.List.{[], ◌∷◌}
 use mathlib.Core.Path.{◌∙◌, ◌≡◌, refl, sym}
 use native.Mathlib.Omega.{arith}
 use Rattle.form.proofs.KeywordLaws.{keyword_at}
+use Rattle.form.proofs.NoneLaws.{set_none}
 use Rattle.form.proofs.PartLaws.{names_to, space_before, word_ends}
 use Rattle.form.specs.BodyPlaces.{SetWithin, set_at}
 use Rattle.form.specs.FormReader.{purpose_set}
@@ -59,17 +60,14 @@ returns-then-not-is_word c = let s = c.args.s.now in
       within = tt;
     }
 
-pub returns-in_default : goal.returns-in_default
-unfolding set_at SetWithin purpose_set bracketed among is_called
-returns-in_default c = let s = c.args.s.now in
+pub returns-in_err-e : goal.returns-in_err-e
+unfolding purpose_set bracketed among is_called
+returns-in_err-e c = let s = c.args.s.now in
     let at = c.args.at in
     let k = c.args.k.now in
     let n = c.word_end-n.result in
-    record {
-      is = next_here (purpose_set k) s at (space (goal.at.returns-in_default c).Else-byte_at-ne32)
-          ∙ rw (byte_at_read s (at + 1) 40 (opens (goal.at.returns-in_default c).Else-byte_at-ne40), keyword_at ((k, many name) ∷ []) s (at + 1 + 1) n c.word_end-n.ensures, called (goal.at.returns-in_default c).Else-not-is_word, end_none (many name) s n (sym c.names_end-m.ensures ∙ c.in_default.is));
-      within = tt;
-    }
+    set_none s c.from_residual.ensures (next_here (purpose_set k) s at (space (goal.at.returns-in_err-e c).Else-byte_at-ne32)
+    ∙ rw (byte_at_read s (at + 1) 40 (opens (goal.at.returns-in_err-e c).Else-byte_at-ne40), keyword_at ((k, many name) ∷ []) s (at + 1 + 1) n c.word_end-n.ensures, called (goal.at.returns-in_err-e c).Else-not-is_word, end_none (many name) s n (sym c.names_end.ensures ∙ c.in_err-e.was)))
 
 pub returns-then-byte_at-ne41 : goal.returns-then-byte_at-ne41
 unfolding set_at SetWithin purpose_set bracketed among is_called
@@ -77,16 +75,16 @@ returns-then-byte_at-ne41 c = let s = c.args.s.now in
     let at = c.args.at in
     let k = c.args.k.now in
     let n = c.word_end-n.result in
-    let e = c.in-At.e in
+    let e = c.in_ok-e.e in
     record {
       is = next_here (purpose_set k) s at (space (goal.at.returns-then-byte_at-ne41 c).Else-byte_at-ne32)
-          ∙ rw (byte_at_read s (at + 1) 40 (opens (goal.at.returns-then-byte_at-ne41 c).Else-byte_at-ne40), keyword_at ((k, many name) ∷ []) s (at + 1 + 1) n c.word_end-n.ensures, called (goal.at.returns-then-byte_at-ne41 c).Else-not-is_word, names_to s n e c.names_end-m.ensures c.in-At.is, byte_at_refused s e 41 (λ z. c.if-byte_at-ne41.true (c.byte_at-3.ensures ∙ z)));
+          ∙ rw (byte_at_read s (at + 1) 40 (opens (goal.at.returns-then-byte_at-ne41 c).Else-byte_at-ne40), keyword_at ((k, many name) ∷ []) s (at + 1 + 1) n c.word_end-n.ensures, called (goal.at.returns-then-byte_at-ne41 c).Else-not-is_word, names_to s n e c.names_end.ensures c.in_ok-e.was, byte_at_refused s e 41 (λ z. c.if-byte_at-ne41.true (c.byte_at-3.ensures ∙ z)));
       within = tt;
     }
 
 pub overflow_add-result : goal.overflow_add-result
-overflow_add-result c = let h : get_or c.args.s.now c.in-At.e 0 ≡ 41 = sym c.byte_at-3.ensures ∙ c.if-byte_at-ne41.false in
-    omega (arith, before_end c.args.s.now c.in-At.e (λ z. absurd (omega (arith, h, z))))
+overflow_add-result c = let h : get_or c.args.s.now c.in_ok-e.e 0 ≡ 41 = sym c.byte_at-3.ensures ∙ c.if-byte_at-ne41.false in
+    omega (arith, before_end c.args.s.now c.in_ok-e.e (λ z. absurd (omega (arith, h, z))))
 
 pub returns : goal.returns
 unfolding set_at SetWithin purpose_set bracketed among is_called
@@ -94,9 +92,9 @@ returns c = let s = c.args.s.now in
     let at = c.args.at in
     let k = c.args.k.now in
     let n = c.word_end-n.result in
-    let e = c.in-At.e in
+    let e = c.in_ok-e.e in
     record {
       is = next_here (purpose_set k) s at (space (goal.at.returns c).Else-byte_at-ne32)
-          ∙ rw (byte_at_read s (at + 1) 40 (opens (goal.at.returns c).Else-byte_at-ne40), keyword_at ((k, many name) ∷ []) s (at + 1 + 1) n c.word_end-n.ensures, called (goal.at.returns c).Else-not-is_word, names_to s n e c.names_end-m.ensures c.in-At.is, byte_at_read s e 41 (sym c.byte_at-3.ensures ∙ c.if-byte_at-ne41.false));
+          ∙ rw (byte_at_read s (at + 1) 40 (opens (goal.at.returns c).Else-byte_at-ne40), keyword_at ((k, many name) ∷ []) s (at + 1 + 1) n c.word_end-n.ensures, called (goal.at.returns c).Else-not-is_word, names_to s n e c.names_end.ensures c.in_ok-e.was, byte_at_read s e 41 (sym c.byte_at-3.ensures ∙ c.if-byte_at-ne41.false));
       within = word_ends s (at + 1 + 1) c.word_end-n.ensures (omega (arith, before (goal.at.returns c).Else-byte_at-ne40));
     }

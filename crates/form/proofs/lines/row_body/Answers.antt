@@ -3,6 +3,7 @@
 use Prim.Native.Nat.{◌+◌}
 use mathlib.Core.Path.{◌∙◌, sym}
 use native.Mathlib.Omega.{arith}
+use Rattle.form.proofs.NoneLaws.{body_none}
 use Rattle.form.proofs.PartLaws.{Behind, items_to, name_to}
 use Rattle.form.specs.BodyPlaces.{BodyWithin, body_at}
 use Rattle.form.specs.FormReader.{item, row_form}
@@ -10,23 +11,23 @@ use Rattle.form.specs.Places.{Within, line_at}
 use Rattle.text.proofs.EndLaws.{end_none}
 use Rattle.text.specs.Brackets.{many, next}
 use Rattle.text.specs.Words.{name, word_of}
-use Rattle.form.proofs.lines.row_body.Goals.{In-At}
+use Rattle.form.proofs.lines.row_body.Goals.{In_ok-e}
 use Rattle.form.proofs.lines.row_body.Goals as goal
 
-first : (c : In-At) → Behind name (word_of c.args.s.now (c.args.at + 1)) c.args.s.now c.args.at c.in-At.e
-first c = name_to c.args.s.now c.args.at c.in-At.e c.spaced_name_end-n.ensures c.in-At.is
+first : (c : In_ok-e) → Behind name (word_of c.args.s.now (c.args.at + 1)) c.args.s.now c.args.at c.in_ok-e.e
+first c = name_to c.args.s.now c.args.at c.in_ok-e.e c.spaced_name_end.ensures c.in_ok-e.was
 
-pub returns-in_default : goal.returns-in_default
-unfolding row_form body_at BodyWithin
-returns-in_default c = record { is = rw (end_none (next name) c.args.s.now c.args.at (sym c.spaced_name_end-n.ensures ∙ c.in_default.is)); within = tt }
+pub returns-in_err-e : goal.returns-in_err-e
+unfolding row_form
+returns-in_err-e c = body_none c.args.s.now c.from_residual.ensures (rw (end_none (next name) c.args.s.now c.args.at (sym c.spaced_name_end.ensures ∙ c.in_err-e.was)))
 
-pub returns-in_default-i : goal.returns-in_default-i
-unfolding row_form body_at BodyWithin
-returns-in_default-i c = record { is = rw ((first (goal.at.returns-in_default-i c).In-At).is, end_none (many item) c.args.s.now c.in-At.e (sym c.items_end-i.ensures ∙ c.in_default-i.is)); within = tt }
+pub returns-in_err-f : goal.returns-in_err-f
+unfolding row_form
+returns-in_err-f c = body_none c.args.s.now c.from_residual-in_err-f.ensures (rw ((first (goal.at.returns-in_err-f c).In_ok-e).is, end_none (many item) c.args.s.now c.in_ok-e.e (sym c.items_end.ensures ∙ c.in_err-f.was)))
 
 pub overflow_add-result : goal.overflow_add-result
-overflow_add-result c = omega (arith, first (goal.at.overflow_add-result c).In-At)
+overflow_add-result c = omega (arith, first (goal.at.overflow_add-result c).In_ok-e)
 
 pub returns : goal.returns
 unfolding row_form body_at line_at BodyWithin Within
-returns c = record { is = rw ((first (goal.at.returns c).In-At).is, items_to c.args.s.now c.in-At.e c.in-At-i.f c.items_end-i.ensures c.in-At-i.is); within = omega (arith, first (goal.at.returns c).In-At) }
+returns c = record { is = rw ((first (goal.at.returns c).In_ok-e).is, items_to c.args.s.now c.in_ok-e.e c.in_ok-f.f c.items_end.ensures c.in_ok-f.was); within = omega (arith, first (goal.at.returns c).In_ok-e) }

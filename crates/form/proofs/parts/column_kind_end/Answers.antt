@@ -6,7 +6,7 @@ use native.Mathlib.Omega.{arith}
 use Rattle.form.proofs.KindLaws.{column_kind_date, column_kind_other, column_kind_unspaced}
 use Rattle.text.proofs.Spaces.{space_here}
 use Rattle.text.specs.CodeEnds.{word_end}
-use Rattle.text.specs.declared.words.End.TheVariants.{At}
+use Rattle.std.specs.Prelude.{Some}
 use Rattle.form.proofs.parts.column_kind_end.Goals as goal
 
 pub returns-then-byte_at-ne32 : goal.returns-then-byte_at-ne32
@@ -24,7 +24,7 @@ overflow_add-at-then-is_word c = let x = c.args in
 pub returns-then-is_word : goal.returns-then-is_word
 returns-then-is_word c = let x = c.args in
     let b : get_or x.s.now x.at 0 ≡ 32 = sym c.byte_at.ensures ∙ c.if-byte_at-ne32.false in
-    ap At c.word_end.ensures ∙ sym (ap word_end (column_kind_date x.s.now x.at b (sym c.is_word.ensures ∙ c.if-is_word.true)))
+    ap Some c.word_end.ensures ∙ sym (ap word_end (column_kind_date x.s.now x.at b (sym c.is_word.ensures ∙ c.if-is_word.true)))
 
 pub returns : goal.returns
 returns c = let x = c.args in

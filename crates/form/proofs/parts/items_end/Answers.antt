@@ -1,37 +1,9 @@
--- `form::parts::items_end` meets its contract. The loop's invariant: the list from the loop's place on ends where the whole list ends.
--- Assumes nothing.
-use mathlib.Core.Path.{refl}
-use native.Mathlib.Omega.{arith}
-use Rattle.form.proofs.FormForward.{forward_item}
+-- `form::parts::items_end` meets its contract. Assumes nothing.
+use mathlib.Core.Path.{◌∙◌}
 use Rattle.form.specs.FormReader.{item}
-use Rattle.text.proofs.EndLaws.{list_less, list_more, list_stop, list_wrong}
-use Rattle.text.proofs.Spaces.{space_here}
+use Rattle.text.proofs.ItemLaws.{dropped_many}
+use Rattle.text.specs.Reader.{from}
 use Rattle.form.proofs.parts.items_end.Goals as goal
 
-pub loop-n-init : goal.loop-n-init
-loop-n-init c = refl
-
-pub overflow_add-i : goal.overflow_add-i
-overflow_add-i c = let s = c.args.s.now in
-    let i = c.loop-n.i in
-    omega (arith, (space_here s i _ c.byte_at.ensures c.loop-n-test.true).1)
-
-pub returns-in_default : goal.returns-in_default
-returns-in_default c = let s = c.args.s.now in
-    let i = c.loop-n.i in
-    list_wrong item forward_item s i c.byte_at.ensures c.loop-n-test.true c.item_end-n.ensures c.in_default.is c.loop-n.invariant
-
-pub loop-n-smaller : goal.loop-n-smaller
-loop-n-smaller c = let s = c.args.s.now in
-    let i = c.loop-n.i in
-    list_less item forward_item s i c.byte_at.ensures c.loop-n-test.true c.item_end-n.ensures c.in-At.is
-
-pub loop-n-preserved : goal.loop-n-preserved
-loop-n-preserved c = let s = c.args.s.now in
-    let i = c.loop-n.i in
-    list_more item forward_item s i c.byte_at.ensures c.loop-n-test.true c.item_end-n.ensures c.in-At.is c.loop-n.invariant
-
 pub returns : goal.returns
-returns c = let s = c.args.s.now in
-    let i = c.loop-n.i in
-    list_stop item forward_item s i c.byte_at.ensures c.loop-n-test.false c.loop-n.invariant
+returns c = c.many_end.ensures ∙ dropped_many item (from c.args.s.now c.args.at)

@@ -1,5 +1,6 @@
 -- `form::parts::labelled_item_end` meets its contract.
 -- Assumes nothing.
+use mathlib.Core.Path.{◌∙◌}
 use Rattle.form.specs.Form.{labelled}
 use Rattle.form.specs.FormReader.{labelled_item}
 use Rattle.calendar.proofs.CellValues.{forward_cell_value}
@@ -11,26 +12,26 @@ use Rattle.text.specs.Names.{is_name}
 use Rattle.text.specs.Words.{name}
 use Rattle.form.proofs.parts.labelled_item_end.Goals as goal
 
-pub returns-in_default : goal.returns-in_default
+pub returns-in_err-a : goal.returns-in_err-a
 unfolding labelled_item
-returns-in_default c = let s = c.args.s.now in
+returns-in_err-a c = let s = c.args.s.now in
     let at = c.args.at in
-    bracket_none (pair cell_value (next name) labelled) s at c.byte_end-o.ensures c.in_default.is
+    c.from_residual.ensures ∙ bracket_none (pair cell_value (next name) labelled) s at c.byte_end.ensures c.in_err-a.was
 
-pub returns-in_default-v : goal.returns-in_default-v
+pub returns-in_err-e : goal.returns-in_err-e
 unfolding labelled_item
-returns-in_default-v c = let s = c.args.s.now in
+returns-in_err-e c = let s = c.args.s.now in
     let at = c.args.at in
-    held_first cell_value (next name) labelled forward_cell_value s at c.byte_end-o.ensures c.in-At.is c.cell_value_end-v.ensures c.in_default-v.is
+    c.from_residual-in_err-e.ensures ∙ held_first cell_value (next name) labelled forward_cell_value s at c.byte_end.ensures c.in_ok-a.was c.cell_value_end.ensures c.in_err-e.was
 
-pub returns-in_default-l : goal.returns-in_default-l
+pub returns-in_err-f : goal.returns-in_err-f
 unfolding labelled_item
-returns-in_default-l c = let s = c.args.s.now in
+returns-in_err-f c = let s = c.args.s.now in
     let at = c.args.at in
-    held_second cell_value (next name) labelled forward_cell_value s at c.byte_end-o.ensures c.in-At.is c.cell_value_end-v.ensures c.in-At-v.is c.spaced_name_end-l.ensures c.in_default-l.is
+    c.from_residual-in_err-f.ensures ∙ held_second cell_value (next name) labelled forward_cell_value s at c.byte_end.ensures c.in_ok-a.was c.cell_value_end.ensures c.in_ok-e.was c.spaced_name_end.ensures c.in_err-f.was
 
 pub returns : goal.returns
 unfolding labelled_item
 returns c = let s = c.args.s.now in
     let at = c.args.at in
-    held_end cell_value (next name) labelled forward_cell_value s at c.byte_end-o.ensures c.in-At.is c.cell_value_end-v.ensures c.in-At-v.is c.spaced_name_end-l.ensures (forward_next name (forward_word_that is_name)) c.in-At-l.is c.byte_end.ensures
+    held_end cell_value (next name) labelled forward_cell_value s at c.byte_end.ensures c.in_ok-a.was c.cell_value_end.ensures c.in_ok-e.was c.spaced_name_end.ensures (forward_next name (forward_word_that is_name)) c.in_ok-f.was c.byte_end-2.ensures

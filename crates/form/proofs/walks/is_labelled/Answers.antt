@@ -1,18 +1,12 @@
 -- `form::walks::is_labelled` meets its contract. Assumes nothing.
+use borrow.Author.Tests.{ne_eqb}
 use mathlib.Core.Path.{◌∙◌, sym}
-use Rattle.form.proofs.PartLaws.{value_absent, value_there}
-use Rattle.form.proofs.WalkLaws.{bracket_labelled, unopened_unlabelled, value_unlabelled}
+use Rattle.form.proofs.PartLaws.{bracket_decided}
+use Rattle.form.proofs.WalkLaws.{unopened_unlabelled}
 use Rattle.form.proofs.walks.is_labelled.Goals as goal
 
-pub returns-then-byte_at-ne40 : goal.returns-then-byte_at-ne40
-returns-then-byte_at-ne40 c = sym (unopened_unlabelled c.args.line.now c.args.at (λ z. c.if-byte_at-ne40.true (c.byte_at.ensures ∙ z)))
+pub returns-then-byte_at-eq40 : goal.returns-then-byte_at-eq40
+returns-then-byte_at-eq40 c = bracket_decided c.args.line.now c.args.at (sym c.byte_at.ensures ∙ c.if-byte_at-eq40.true) c.cell_value_end.ensures c.is_none.ensures
 
-pub returns-in-At : goal.returns-in-At
-returns-in-At c = let s = c.args.line.now in
-    let at = c.args.at in
-    sym (value_unlabelled s at (value_there s at _ (sym c.cell_value_end-v.ensures ∙ c.in-At.is)))
-
-pub returns-in-Nothing : goal.returns-in-Nothing
-returns-in-Nothing c = let s = c.args.line.now in
-    let at = c.args.at in
-    sym (bracket_labelled s at (sym c.byte_at.ensures ∙ c.if-byte_at-ne40.false) (value_absent s at (sym c.cell_value_end-v.ensures ∙ c.in-Nothing.is)))
+pub returns-else-byte_at-eq40 : goal.returns-else-byte_at-eq40
+returns-else-byte_at-eq40 c = ne_eqb _ 40 c.if-byte_at-eq40.false ∙ sym (unopened_unlabelled c.args.line.now c.args.at (λ z. c.if-byte_at-eq40.false (c.byte_at.ensures ∙ z)))

@@ -4,10 +4,10 @@ use Rattle.telling.specs.Telling.{told_as}
 use mathlib.Core.Path.{ap}
 use Rattle.gate.proofs.explaining.store_told.Goals as goal
 
-pub returns-in-Refused : goal.returns-in-Refused
+pub returns-in-Err : goal.returns-in-Err
 unfolding told_as
-returns-in-Refused c = refused_length _ _ _ c.in-Refused.r (ap told_as c.in-Refused.is) c.store_refusal.ensures
+returns-in-Err c = refused_length _ _ _ c.in-Err.r (ap told_as c.in-Err.is) c.store_refusal.ensures
 
-pub returns-in-Line : goal.returns-in-Line
+pub returns-in-Ok : goal.returns-in-Ok
 unfolding told_as
-returns-in-Line c = stored_length _ _ c.in-Line.len (ap told_as c.in-Line.is) c.store_five.ensures
+returns-in-Ok c = stored_length _ _ c.in-Ok.len (ap told_as c.in-Ok.is) c.store_five.ensures

@@ -2,8 +2,8 @@
 use Rattle.gate.proofs.ExportLaws.{given_answer, refused_answer}
 use Rattle.gate.proofs.exports.store_answered.Goals as goal
 
-pub returns-in-Refused : goal.returns-in-Refused
-returns-in-Refused c = refused_answer _ _ _ _ c.in-Refused.is c.store_refusal.ensures
+pub returns-in-Err : goal.returns-in-Err
+returns-in-Err c = refused_answer _ _ _ _ c.in-Err.is c.store_refusal.ensures
 
-pub returns-in-Given : goal.returns-in-Given
-returns-in-Given c = given_answer _ _ _ c.in-Given.is c.store_five.ensures
+pub returns-in-Ok : goal.returns-in-Ok
+returns-in-Ok c = given_answer _ _ _ c.in-Ok.is c.store_five.ensures

@@ -2,8 +2,8 @@
 use Rattle.gate.proofs.ExportLaws.{accepted_check, refused_check}
 use Rattle.gate.proofs.exports.store_checked.Goals as goal
 
-pub returns-in-Refused : goal.returns-in-Refused
-returns-in-Refused c doc h = refused_check doc _ _ _ _ h c.in-Refused.is c.store_refusal.ensures
+pub returns-in-Err : goal.returns-in-Err
+returns-in-Err c doc h = refused_check doc _ _ _ _ h c.in-Err.is c.store_refusal.ensures
 
-pub returns-in-Accepted : goal.returns-in-Accepted
-returns-in-Accepted c doc h = accepted_check doc _ _ _ _ h c.in-Accepted.is c.store_five.ensures
+pub returns-in-Ok : goal.returns-in-Ok
+returns-in-Ok c doc h = accepted_check doc _ _ _ _ h c.in-Ok.is c.store_five.ensures

@@ -4,10 +4,10 @@ use Rattle.loaded.specs.Outside.{measured_as}
 use mathlib.Core.Path.{ap}
 use Rattle.gate.proofs.exports.store_measured.Goals as goal
 
-pub returns-in-Refused : goal.returns-in-Refused
+pub returns-in-Err : goal.returns-in-Err
 unfolding measured_as
-returns-in-Refused c = refused_length _ _ _ c.in-Refused.r (ap measured_as c.in-Refused.is) c.store_refusal.ensures
+returns-in-Err c = refused_length _ _ _ c.in-Err.r (ap measured_as c.in-Err.is) c.store_refusal.ensures
 
-pub returns-in-Length : goal.returns-in-Length
+pub returns-in-Ok : goal.returns-in-Ok
 unfolding measured_as
-returns-in-Length c = stored_length _ _ c.in-Length.len (ap measured_as c.in-Length.is) c.store_five.ensures
+returns-in-Ok c = stored_length _ _ c.in-Ok.len (ap measured_as c.in-Ok.is) c.store_five.ensures

@@ -1,6 +1,5 @@
 -- `import::rows::copy_slowly` meets its contract. The loop's invariant: to write the plain bytes from the loop's place on comes to
 -- the same as to write them all at the start. Assumes nothing.
-use Prim.Native.Nat.{◌-◌}
 use Rattle.import.proofs.CopyLaws.{copy_more, copy_none, copy_start, copy_stop}
 use mathlib.Core.Path.{◌∙◌, refl, sym}
 use native.Mathlib.Omega.{arith}

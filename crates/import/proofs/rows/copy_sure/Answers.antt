@@ -1,6 +1,6 @@
 -- `import::rows::copy_sure` meets its contract. The loop's invariant: to write the plain bytes from the loop's place on comes to the
 -- same as to write them all at the start, and both places went on by as much. Assumes nothing.
-use Prim.Native.Nat.{◌-◌, ◌<◌}
+use Prim.Native.Nat.{◌<◌}
 use Rattle.import.proofs.CopyLaws.{copy_more, copy_part, copy_start}
 use Rattle.csv_text.proofs.FieldLaws.{plain_stop}
 use Rattle.writing.proofs.Writing.{wrote_byte}

@@ -1,6 +1,6 @@
 -- `import::rows::put_fields` meets its contract. The loop's invariant: to write the fields from the loop's place on comes to the
 -- same as to write them all at the start. Assumes nothing.
-use Prim.Native.Nat.{◌-◌, ◌<◌}
+use Prim.Native.Nat.{◌<◌}
 use Rattle.import.proofs.RowLaws.{fields_done, fields_next, fields_start}
 use Rattle.text.proofs.Lefts.{before_end}
 use Rattle.text.specs.Walking.{past}

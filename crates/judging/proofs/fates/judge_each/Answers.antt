@@ -20,9 +20,6 @@ bounds-marks-r c = omega (arith, c.loop-r.invariant.1, c.requires.3)
 pub count_row-x-requires : goal.count_row-x-requires
 count_row-x-requires c = omega (arith, c.loop-r.invariant.2.passed, c.loop-r.invariant.2.withheld, c.loop-r.invariant.2.unmatched, c.requires.2)
 
-pub loop-r-smaller : goal.loop-r-smaller
-loop-r-smaller c = omega arith
-
 pub loop-r-preserved : goal.loop-r-preserved
 loop-r-preserved c = let a = c.args in
     let l = c.loop-r in (

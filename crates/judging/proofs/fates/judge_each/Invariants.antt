@@ -11,6 +11,3 @@ use Rattle.judging.proofs.fates.judge_each.Given as goal
 
 abbrev pub invariant-loop-r : goal.invariant-loop-r
 invariant-loop-r l = (l.r ≤ l.count) × (length l.marks ≡ length l.initial.marks) × Fewer l.r l.x × ((d : Doc) (q : Query) → Judgeable l.text l.rows l.count l.said l.query l.s l.first l.scheme l.columns l.tests d q → JudgedTo d q (row_in l.text l.rows) l.r l.marks l.x)
-
-abbrev pub decreases-loop-r : goal.decreases-loop-r
-decreases-loop-r l = l.count - l.r

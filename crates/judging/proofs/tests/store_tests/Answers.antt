@@ -11,9 +11,6 @@ use Rattle.judging.proofs.tests.store_tests.Goals as goal
 pub loop-j-init : goal.loop-j-init
 loop-j-init c = let a = c.args in (omega arith, read_none a.tables.now a.g a.query.now a.ops.now a.columns.now a.trues.now a.falses.now a.flips.now a.tests.now)
 
-pub loop-j-smaller : goal.loop-j-smaller
-loop-j-smaller c = omega arith
-
 pub loop-j-preserved : goal.loop-j-preserved
 loop-j-preserved c = let l = c.loop-j in
     let a = c.args in

@@ -5,6 +5,3 @@ use Rattle.judging.proofs.tests.store_tests.Given as goal
 
 abbrev pub invariant-loop-j : goal.invariant-loop-j
 invariant-loop-j l = (l.j ≤ l.m) × ReadTo l.tables l.g l.query l.ops l.columns l.trues l.falses l.flips l.tests l.j
-
-abbrev pub decreases-loop-j : goal.decreases-loop-j
-decreases-loop-j l = l.m - l.j

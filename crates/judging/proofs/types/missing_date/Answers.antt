@@ -30,9 +30,6 @@ returns-then-is_missing_date c = let a = c.args in
     c.loop-j-test.true l.invariant.1
     (ap (missing_by a.query.now) (sym x.ensures) ∙ missing_here a.query.now x.result q.result q.ensures c.if-is_missing_date.true))
 
-pub loop-j-smaller : goal.loop-j-smaller
-loop-j-smaller c = omega arith
-
 pub loop-j-preserved : goal.loop-j-preserved
 loop-j-preserved c = let a = c.args in
     let l = c.loop-j in

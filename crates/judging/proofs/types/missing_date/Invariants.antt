@@ -9,6 +9,3 @@ use Rattle.judging.proofs.types.missing_date.Given as goal
 
 abbrev pub invariant-loop-j : goal.invariant-loop-j
 invariant-loop-j l = (l.j ≤ l.m) × ((i : ℕ) → i < l.j → missing_by l.query (test_in l.tests i) ≡ none)
-
-abbrev pub decreases-loop-j : goal.decreases-loop-j
-decreases-loop-j l = l.m - l.j

@@ -20,17 +20,14 @@ returns-then-j-ge-TESTS c = λ s small. absurd (omega (arith, small, c.loop-j-te
 pub test_at-requires : goal.test_at-requires
 test_at-requires c = omega arith
 
-pub returns-in-At : goal.returns-in-At
+pub returns-in-Some : goal.returns-in-Some
 unfolding first_wrong
-returns-in-At c = λ s small. sym (first_below
+returns-in-Some c = λ s small. sym (first_below
     (λ i. wrong_by s (test_in c.args.tests.now i))
     c.args.m c.loop-j.j
-    (written_of s c.in-At.p) c.loop-j-test.true
+    (written_of s c.in-Some.p) c.loop-j-test.true
     (c.loop-j.invariant.1 s)
-    (sym (ap (offending_value s) (sym c.in-At.is) ∙ c.wrong_test-w.ensures s ∙ ap (wrong_by s) c.test_at.ensures)))
-
-pub loop-j-smaller : goal.loop-j-smaller
-loop-j-smaller c = omega arith
+    (sym (ap (offending_value s) (sym c.in-Some.is) ∙ c.wrong_test-w.ensures s ∙ ap (wrong_by s) c.test_at.ensures)))
 
 pub loop-j-preserved : goal.loop-j-preserved
 loop-j-preserved c = (

@@ -10,6 +10,3 @@ use Rattle.judging.proofs.types.mistyped_test.Given as goal
 
 abbrev pub invariant-loop-j : goal.invariant-loop-j
 invariant-loop-j l = (l.j ≤ l.m) × ((s : List ℕ) (i : ℕ) → i < l.j → wrong_by s (test_in l.tests i) ≡ none)
-
-abbrev pub decreases-loop-j : goal.decreases-loop-j
-decreases-loop-j l = l.m - l.j

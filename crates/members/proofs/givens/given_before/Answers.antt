@@ -31,12 +31,6 @@ returns-then-same_name c = let entry = c.args in sym (among_here
 pub overflow_add-j-in-loop-i : goal.overflow_add-j-in-loop-i
 overflow_add-j-in-loop-i c = omega (arith, space_here c.args.line.now c.loop-i.j (sym c.byte_at.ensures ∙ c.if-byte_at-ne32.false))
 
-pub overflow_add-i : goal.overflow_add-i
-overflow_add-i c = omega arith
-
-pub loop-i-smaller : goal.loop-i-smaller
-loop-i-smaller c = omega arith
-
 pub loop-i-preserved : goal.loop-i-preserved
 unfolding is_called
 loop-i-preserved c = let entry = c.args in (

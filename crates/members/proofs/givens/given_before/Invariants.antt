@@ -11,6 +11,3 @@ use Rattle.members.proofs.givens.given_before.Given as goal
 
 abbrev pub invariant-loop-i : goal.invariant-loop-i
 invariant-loop-i l = (l.i ≤ l.n) × (any_of (same_word (word_of l.line l.w)) (take (l.n - l.i) (given_names l.line l.j)) ≡ any_of (same_word (word_of l.line l.w)) (take l.n (given_names l.line l.gs)))
-
-abbrev pub decreases-loop-i : goal.decreases-loop-i
-decreases-loop-i l = l.n - l.i

@@ -6,13 +6,13 @@ use Rattle.workspace.specs.Found.{found_as}
 use Rattle.text.specs.Words.{word_of}
 use Rattle.members.proofs.givens.names_attribute_of.Goals as goal
 
-pub returns-in-At : goal.returns-in-At
+pub returns-in-Some : goal.returns-in-Some
 unfolding attribute_of
-returns-in-At c = let entry = c.args in λ d m h. of_role_at d
-    (word_of entry.line.now entry.at) entry.role c.in-At.n c.attribute_of_role.result
-    (sym (c.find_attribute-found.ensures.0 d.attributes h) ∙ ap found_as c.in-At.is)
+returns-in-Some c = let entry = c.args in λ d m h. of_role_at d
+    (word_of entry.line.now entry.at) entry.role c.in-Some.n c.attribute_of_role.result
+    (sym (c.find_attribute-found.ensures.0 d.attributes h) ∙ ap found_as c.in-Some.is)
     (λ a e. c.attribute_of_role.ensures entry.text.now d a m h e)
 
-pub returns-in-Nothing : goal.returns-in-Nothing
+pub returns-in-None : goal.returns-in-None
 unfolding attribute_of
-returns-in-Nothing c = let entry = c.args in λ d m h. sym (of_role_none d (word_of entry.line.now entry.at) entry.role (sym (c.find_attribute-found.ensures.0 d.attributes h) ∙ ap found_as c.in-Nothing.is))
+returns-in-None c = let entry = c.args in λ d m h. sym (of_role_none d (word_of entry.line.now entry.at) entry.role (sym (c.find_attribute-found.ensures.0 d.attributes h) ∙ ap found_as c.in-None.is))

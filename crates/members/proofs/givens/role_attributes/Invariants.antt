@@ -11,6 +11,3 @@ use Rattle.members.proofs.givens.role_attributes.Given as goal
 
 abbrev pub invariant-loop-i : goal.invariant-loop-i
 invariant-loop-i l = (l.i ≤ l.k) × (l.k ≤ 32) × (l.n ≤ l.i) × ((text : List ℕ) (d : Policy) → Nodes 64 text l.roles l.rcount d.roles → Attributes text l.attributes l.k d.attributes → l.n ≡ held_of d l.role text l.attributes l.i)
-
-abbrev pub decreases-loop-i : goal.decreases-loop-i
-decreases-loop-i l = l.k - l.i

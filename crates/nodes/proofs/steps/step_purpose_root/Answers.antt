@@ -1,22 +1,17 @@
 -- `nodes::steps::step_purpose_root` meets its contract. Assumes nothing.
 use native.Mathlib.Omega.{arith}
 use Rattle.stepping.proofs.Growing.{grow_purpose}
-use Rattle.stepping.proofs.Judgements.{follows_fails, follows_goes, has_room, passes, refuses}
+use Rattle.stepping.proofs.Judgements.{follows_goes, follows_handed, has_room, passes, refuses}
 use Rattle.nodes.proofs.steps.step_purpose_root.Goals as goal
 
-pub purpose_root_fault-f-requires : goal.purpose_root_fault-f-requires
-purpose_root_fault-f-requires c = tt
-
-pub returns-in-Faulty : goal.returns-in-Faulty
-returns-in-Faulty c = λ d rs' bs' us' cs' gs' ls' ms' ts' ws' a w I. follows_fails (refuses c.purpose_root_fault-f.ensures c.in-Faulty.is d I.purposes w)
-
-pub store_purpose_root-requires : goal.store_purpose_root-requires
-store_purpose_root-requires c = tt
+pub returns-in_err-purpose_root_fault : goal.returns-in_err-purpose_root_fault
+returns-in_err-purpose_root_fault c = λ d rs' bs' us' cs' gs' ls' ms' ts' ws' a w I.
+    follows_handed (refuses c.purpose_root_fault.ensures c.in_err-purpose_root_fault.was d I.purposes w) c.from_residual.ensures.1
 
 pub overflow_add-next : goal.overflow_add-next
-overflow_add-next c = omega (arith, has_room c.purpose_root_fault-f.ensures c.in_default.is)
+overflow_add-next c = omega (arith, has_room c.purpose_root_fault.ensures c.in_ok-purpose_root_fault.was)
 
 pub returns : goal.returns
 returns c = λ d rs' bs' us' cs' gs' ls' ms' ts' ws' a w I.
-    let p = passes c.purpose_root_fault-f.ensures c.in_default.is d I.purposes in
+    let p = passes c.purpose_root_fault.ensures c.in_ok-purpose_root_fault.was d I.purposes in
     follows_goes (record { doc = _; is = p; held = grow_purpose I _ _ _ (c.store_purpose_root.ensures d a I.purposes p w) })

@@ -12,8 +12,8 @@ returns-then-not-same_kind c = let a = c.args in
     (c.ref_kind-second.ensures text a.query.now d.policy h.table_count j (other_key_ref j) h.known (other_known h) (other_number h))
     c.same_kind.result c.same_kind.ensures c.if-not-same_kind.true c.refusal_at.result c.refusal_at.ensures
 
-pub returns-in-At : goal.returns-in-At
-returns-in-At c = let a = c.args in
+pub returns-in-Some : goal.returns-in-Some
+returns-in-Some c = let a = c.args in
     λ text ws count os words d j h.
     tests_refused h (kind_of c.ref_kind-first.result) (kind_of c.ref_kind-second.result)
     (c.ref_kind-first.ensures text a.query.now d.policy h.table_count j (key_ref j) h.known (key_known h) (key_number h))
@@ -21,7 +21,7 @@ returns-in-At c = let a = c.args in
     c.same_kind.result c.same_kind.ensures
     c.if-not-same_kind.false c.mistyped_test-wrong.result
     (c.mistyped_test-wrong.ensures a.query.now)
-    c.in-At.is c.refusal_written.result c.refusal_written.ensures
+    c.in-Some.is c.refusal_written.result c.refusal_written.ensures
 
 pub returns : goal.returns
 returns c = let a = c.args in

@@ -46,12 +46,6 @@ returns-then-same_length_name c = let a = c.args in
     let small : c.loop-j.j < c.args.k = omega arith in
     (λ ns n sized named. name_found n (word_of a.line.now a.i) a.h named l.j small (l.invariant.1 ns n sized named) (sym (c.same_length_name.ensures sized) ∙ c.if-same_length_name.true), small)
 
-pub overflow_add-j : goal.overflow_add-j
-overflow_add-j c = omega arith
-
-pub loop-j-smaller : goal.loop-j-smaller
-loop-j-smaller c = omega arith
-
 -- the name at j is another: its hash tells, or its bytes do
 another : (c : Joined-ws-room) (ns : List Node) → Nodes c.args.room c.args.text.now c.args.ws.now c.args.k ns → c.args.len ≡ length (word_at c.args.line.now c.args.i) → c.args.h ≡ hash_of (word_at c.args.line.now c.args.i)
     → is_called (word_of c.args.line.now c.args.i) (word_at c.args.text.now (get_or c.args.ws.now c.loop-j.j 0)) ≡ false

@@ -12,6 +12,3 @@ use Rattle.principals.proofs.names.find_node.Given as goal
 
 abbrev pub invariant-loop-j : goal.invariant-loop-j
 invariant-loop-j l = (l.j ≤ l.k) × ((ns : List Node) → Nodes l.room l.text l.ws l.k ns → l.len ≡ length (word_at l.line l.i) → l.h ≡ hash_of (word_at l.line l.i) → (m : ℕ) → m < l.j → is_called (word_of l.line l.i) (word_at l.text (get_or l.ws m 0)) ≡ false)
-
-abbrev pub decreases-loop-j : goal.decreases-loop-j
-decreases-loop-j l = l.k - l.j

@@ -9,6 +9,3 @@ use Rattle.principals.proofs.users.find_user.Given as goal
 
 abbrev pub invariant-loop-i : goal.invariant-loop-i
 invariant-loop-i l = (l.i ≤ l.k) × (l.k ≤ 256) × (((j : ℕ) → j < l.k → Printed 1280 l.text l.ws j) → (j : ℕ) → j < l.i → user_passes (word_of l.line l.u) l.text l.ws l.role j ≡ false)
-
-abbrev pub decreases-loop-i : goal.decreases-loop-i
-decreases-loop-i l = l.k - l.i

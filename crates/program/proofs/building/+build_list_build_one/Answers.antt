@@ -26,8 +26,8 @@ use Rattle.program.proofs.building.+build_list_build_one.Goals as goal
 
 -- ---- lists of conditions
 
-pub build_list-loop-c-init : goal.build_list-loop-c-init
-build_list-loop-c-init t c =
+pub build_list-loop-e-init : goal.build_list-loop-e-init
+build_list-loop-e-init t c =
     let a = c.args in
     let d = a.depth in
     let way : Naming = naming_by a.joined in
@@ -43,12 +43,12 @@ build_list-returns-in_default t c =
     let s = a.s.now in
     let d = a.depth in
     let way : Naming = naming_by a.joined in
-    let i = c.loop-c.i in
-    let n = c.loop-c.n in
-    let sp : get_or s i 0 ≡ 32 = sym c.byte_at.ensures ∙ c.loop-c-test.true in
-    let told_of : c.count_condition-c.result ≡ read_to (condition way d (from s (i + 1))) = c.count_condition-c.ensures in
+    let i = c.loop-e.i in
+    let n = c.loop-e.n in
+    let sp : get_or s i 0 ≡ 32 = sym c.byte_at.ensures ∙ c.loop-e-test.true in
+    let told_of : c.count_condition.result ≡ read_to (condition way d (from s (i + 1))) = c.count_condition.ensures in
     let none_there = read_refused reads (condition way d) size (λ y. 2 + size y) (eats_condition way d) s (i + 1) (sym told_of ∙ c.in_default.is) in
-    λ x l h. listing_wrong a.one (condition way d) (λ y. 2 + size y) (eats_condition way d) s a.k a.hit a.miss a.odd a.trues.now a.falses.now a.flips.now x l c.loop-c.trues c.loop-c.falses c.loop-c.flips i n (c.loop-c.invariant.lists x l h) sp none_there
+    λ x l h. listing_wrong a.one (condition way d) (λ y. 2 + size y) (eats_condition way d) s a.k a.hit a.miss a.odd a.trues.now a.falses.now a.flips.now x l c.loop-e.trues c.loop-e.falses c.loop-e.flips i n (c.loop-e.invariant.lists x l h) sp none_there
 
 pub build_list-overflow_add-next : goal.build_list-overflow_add-next
 build_list-overflow_add-next t c =
@@ -56,54 +56,54 @@ build_list-overflow_add-next t c =
     let s = a.s.now in
     let d = a.depth in
     let way : Naming = naming_by a.joined in
-    let i = c.loop-c.i in
-    let e = c.in-At.e in
-    let m = c.in-At.m in
-    let told_of : c.count_condition-c.result ≡ read_to (condition way d (from s (i + 1))) = c.count_condition-c.ensures in
-    let r = read_at reads (condition way d) size (λ y. 2 + size y) (eats_condition way d) s (i + 1) e m (sym told_of ∙ c.in-At.is) in
+    let i = c.loop-e.i in
+    let e = c.in-Some.e in
+    let m = c.in-Some.m in
+    let told_of : c.count_condition.result ≡ read_to (condition way d (from s (i + 1))) = c.count_condition.ensures in
+    let r = read_at reads (condition way d) size (λ y. 2 + size y) (eats_condition way d) s (i + 1) e m (sym told_of ∙ c.in-Some.is) in
     let far : i + 1 + (2 + size r.what) ≤ e = r.past in
     let within : e ≤ length s = r.within (omega arith) in
     let made : size r.what ≡ m = r.made in
-    omega (arith, far, within, made, c.loop-c.invariant.few)
+    omega (arith, far, within, made, c.loop-e.invariant.few)
 
-pub build_list-loop-c-smaller : goal.build_list-loop-c-smaller
-build_list-loop-c-smaller t c =
+pub build_list-loop-e-smaller : goal.build_list-loop-e-smaller
+build_list-loop-e-smaller t c =
     let a = c.args in
     let s = a.s.now in
     let d = a.depth in
     let way : Naming = naming_by a.joined in
-    let i = c.loop-c.i in
-    let sp : get_or s i 0 ≡ 32 = sym c.byte_at.ensures ∙ c.loop-c-test.true in
-    let e = c.in-At.e in
-    let m = c.in-At.m in
-    let told_of : c.count_condition-c.result ≡ read_to (condition way d (from s (i + 1))) = c.count_condition-c.ensures in
-    let r = read_at reads (condition way d) size (λ y. 2 + size y) (eats_condition way d) s (i + 1) e m (sym told_of ∙ c.in-At.is) in
+    let i = c.loop-e.i in
+    let sp : get_or s i 0 ≡ 32 = sym c.byte_at.ensures ∙ c.loop-e-test.true in
+    let e = c.in-Some.e in
+    let m = c.in-Some.m in
+    let told_of : c.count_condition.result ≡ read_to (condition way d (from s (i + 1))) = c.count_condition.ensures in
+    let r = read_at reads (condition way d) size (λ y. 2 + size y) (eats_condition way d) s (i + 1) e m (sym told_of ∙ c.in-Some.is) in
     let far : i + 1 + (2 + size r.what) ≤ e = r.past in
     let within : e ≤ length s = r.within (omega arith) in
     omega (arith, far, within, before_end s i (λ z. absurd (omega (arith, sp, z))))
 
-pub build_list-loop-c-preserved : goal.build_list-loop-c-preserved
-build_list-loop-c-preserved t c =
+pub build_list-loop-e-preserved : goal.build_list-loop-e-preserved
+build_list-loop-e-preserved t c =
     let a = c.args in
     let s = a.s.now in
     let d = a.depth in
     let way : Naming = naming_by a.joined in
-    let i = c.loop-c.i in
-    let n = c.loop-c.n in
-    let sp : get_or s i 0 ≡ 32 = sym c.byte_at.ensures ∙ c.loop-c-test.true in
-    let e = c.in-At.e in
-    let m = c.in-At.m in
-    let told_of : c.count_condition-c.result ≡ read_to (condition way d (from s (i + 1))) = c.count_condition-c.ensures in
-    let r = read_at reads (condition way d) size (λ y. 2 + size y) (eats_condition way d) s (i + 1) e m (sym told_of ∙ c.in-At.is) in
+    let i = c.loop-e.i in
+    let n = c.loop-e.n in
+    let sp : get_or s i 0 ≡ 32 = sym c.byte_at.ensures ∙ c.loop-e-test.true in
+    let e = c.in-Some.e in
+    let m = c.in-Some.m in
+    let told_of : c.count_condition.result ≡ read_to (condition way d (from s (i + 1))) = c.count_condition.ensures in
+    let r = read_at reads (condition way d) size (λ y. 2 + size y) (eats_condition way d) s (i + 1) e m (sym told_of ∙ c.in-Some.is) in
     let far : i + 1 + (2 + size r.what) ≤ e = r.past in
     let within : e ≤ length s = r.within (omega arith) in
     let made : size r.what ≡ m = r.made in
     let hit_told = c.at_space-hit_here.ensures ∙ ap (λ (v : ℕ). cond (eqb (get_or s e 0) 32) v a.hit) c.picked.ensures in
-    let miss_told = c.at_space-miss_here.ensures ∙ ap (λ (v : ℕ). cond (eqb (get_or s e 0) 32) v a.miss) c.picked-in-loop-c.ensures in
+    let miss_told = c.at_space-miss_here.ensures ∙ ap (λ (v : ℕ). cond (eqb (get_or s e 0) 32) v a.miss) c.picked-in-loop-e.ensures in
     record {
-      lists = λ x l h. listing_more a.one (condition way d) (λ y. 2 + size y) (eats_condition way d) s a.k a.hit a.miss a.odd a.trues.now a.falses.now a.flips.now x l c.loop-c.trues c.loop-c.falses c.loop-c.flips i n (c.loop-c.invariant.lists x l h) r.what e c.at_space-hit_here.result c.at_space-miss_here.result (n + m) _ _ _ sp r.is (ap (λ (v : ℕ). n + v) (sym made)) hit_told miss_told (c.build_one.ensures r.what (from s e) r.is);
-      few = omega (arith, far, made, c.loop-c.invariant.few);
-      past = omega (arith, far, c.loop-c.invariant.past);
+      lists = λ x l h. listing_more a.one (condition way d) (λ y. 2 + size y) (eats_condition way d) s a.k a.hit a.miss a.odd a.trues.now a.falses.now a.flips.now x l c.loop-e.trues c.loop-e.falses c.loop-e.flips i n (c.loop-e.invariant.lists x l h) r.what e c.at_space-hit_here.result c.at_space-miss_here.result (n + m) _ _ _ sp r.is (ap (λ (v : ℕ). n + v) (sym made)) hit_told miss_told (c.build_one.ensures r.what (from s e) r.is);
+      few = omega (arith, far, made, c.loop-e.invariant.few);
+      past = omega (arith, far, c.loop-e.invariant.past);
     }
 
 pub build_list-returns : goal.build_list-returns
@@ -112,9 +112,9 @@ build_list-returns t c =
     let s = a.s.now in
     let d = a.depth in
     let way : Naming = naming_by a.joined in
-    let i = c.loop-c.i in
-    let n = c.loop-c.n in
-    λ x l h. listing_end a.one (condition way d) (λ y. 2 + size y) (eats_condition way d) s a.k a.hit a.miss a.odd a.trues.now a.falses.now a.flips.now x l c.loop-c.trues c.loop-c.falses c.loop-c.flips i n (c.loop-c.invariant.lists x l h) (λ z. c.loop-c-test.false (c.byte_at.ensures ∙ z))
+    let i = c.loop-e.i in
+    let n = c.loop-e.n in
+    λ x l h. listing_end a.one (condition way d) (λ y. 2 + size y) (eats_condition way d) s a.k a.hit a.miss a.odd a.trues.now a.falses.now a.flips.now x l c.loop-e.trues c.loop-e.falses c.loop-e.flips i n (c.loop-e.invariant.lists x l h) (λ z. c.loop-e-test.false (c.byte_at.ensures ∙ z))
 
 -- ---- one condition
 

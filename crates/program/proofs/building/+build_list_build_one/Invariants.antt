@@ -17,12 +17,12 @@ decreases-build_list l = 2 * (length l.s.now - l.at) + 1
 abbrev pub decreases-build_one : goal.decreases-build_one
 decreases-build_one l = 2 * (length l.s.now - l.at)
 
-abbrev pub invariant-build_list-loop-c : goal.invariant-build_list-loop-c
-invariant-build_list-loop-c l = record {
+abbrev pub invariant-build_list-loop-e : goal.invariant-build_list-loop-e
+invariant-build_list-loop-e l = record {
   lists : (x : Cond Compared) (rest : Left) → conditions (joining l.one) (condition (naming_by l.joined) l.depth) (from l.s l.at) ≡ some (x, rest) → Listing l.one (condition (naming_by l.joined) l.depth) (λ c. 2 + size c) (eats_condition (naming_by l.joined) l.depth) l.s l.k l.hit l.miss l.odd l.initial.trues l.initial.falses l.initial.flips x rest l.trues l.falses l.flips l.i l.n;
   few : l.n ≤ l.i;
   past : l.at ≤ l.i;
 }
 
-abbrev pub decreases-build_list-loop-c : goal.decreases-build_list-loop-c
-decreases-build_list-loop-c l = length l.s - l.i
+abbrev pub decreases-build_list-loop-e : goal.decreases-build_list-loop-e
+decreases-build_list-loop-e l = length l.s - l.i

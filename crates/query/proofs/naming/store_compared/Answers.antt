@@ -29,9 +29,6 @@ returns-then-m-out c = comparing_full c.args.s.now
     c.loop-j.out c.loop-j.j c.loop-j.m
     c.loop-j.invariant c.loop-j-test.true (omega arith)
 
-pub loop-j-smaller : goal.loop-j-smaller
-loop-j-smaller c = omega arith
-
 pub loop-j-preserved : goal.loop-j-preserved
 loop-j-preserved c = comparing_more c.args.s.now
     c.args.ops.now

@@ -7,6 +7,3 @@ use Rattle.query.proofs.naming.store_compared.Given as goal
 
 abbrev pub invariant-loop-j : goal.invariant-loop-j
 invariant-loop-j l = Comparing l.s l.ops l.n l.k l.initial.out l.out l.j l.m
-
-abbrev pub decreases-loop-j : goal.decreases-loop-j
-decreases-loop-j l = l.n - l.j

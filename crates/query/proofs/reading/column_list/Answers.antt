@@ -20,7 +20,7 @@ space c = sym c.byte_at.ensures ∙ c.if-byte_at-ne32.false
 opens : (c : Else-byte_at-ne40) → get_or c.args.s.now (c.args.at + 1) 0 ≡ 40
 opens c = sym c.byte_at-2.ensures ∙ c.if-byte_at-ne40.false
 
-closes : (c : Else-byte_at-ne41) → get_or c.args.s.now c.in-At-m.f 0 ≡ 41
+closes : (c : Else-byte_at-ne41) → get_or c.args.s.now c.in_ok-f.f 0 ≡ 41
 closes c = sym c.byte_at-3.ensures ∙ c.if-byte_at-ne41.false
 
 pub returns-then-byte_at-ne32 : goal.returns-then-byte_at-ne32
@@ -35,18 +35,20 @@ returns-then-byte_at-ne40 c = columns_shut c.args.s.now c.args.at (space (goal.a
 pub overflow_add-p : goal.overflow_add-p
 overflow_add-p c = omega (arith, before_end c.args.s.now (c.args.at + 1) (λ z. absurd (omega (arith, opens c, z))))
 
-pub returns-in_default : goal.returns-in_default
-returns-in_default c = columns_none c.args.s.now
-    c.args.at (space (goal.at.returns-in_default c).Else-byte_at-ne32)
-    (opens (goal.at.returns-in_default c).Else-byte_at-ne40) (sym c.name_end-c.ensures ∙ c.in_default.is)
+pub returns-in_err-e : goal.returns-in_err-e
+returns-in_err-e c = rw c.from_residual.ensures
+    (columns_none c.args.s.now
+    c.args.at (space (goal.at.returns-in_err-e c).Else-byte_at-ne32)
+    (opens (goal.at.returns-in_err-e c).Else-byte_at-ne40) (sym c.name_end.ensures ∙ c.in_err-e.was))
 
-pub returns-in_default-m : goal.returns-in_default-m
-returns-in_default-m c = columns_wrong c.args.s.now
+pub returns-in_err-f : goal.returns-in_err-f
+returns-in_err-f c = rw c.from_residual-in_err-f.ensures
+    (columns_wrong c.args.s.now
     c.args.at
-    (space (goal.at.returns-in_default-m c).Else-byte_at-ne32)
-    (opens (goal.at.returns-in_default-m c).Else-byte_at-ne40)
-    (sym c.name_end-c.ensures ∙ c.in-At.is)
-    (end_none (many name) c.args.s.now c.in-At.e (sym c.names_end-m.ensures ∙ c.in_default-m.is))
+    (space (goal.at.returns-in_err-f c).Else-byte_at-ne32)
+    (opens (goal.at.returns-in_err-f c).Else-byte_at-ne40)
+    (sym c.name_end.ensures ∙ c.in_ok-e.was)
+    (end_none (many name) c.args.s.now c.in_ok-e.e (sym c.names_end.ensures ∙ c.in_err-f.was)))
 
 pub returns-then-byte_at-ne41 : goal.returns-then-byte_at-ne41
 returns-then-byte_at-ne41 c = columns_open
@@ -54,18 +56,18 @@ returns-then-byte_at-ne41 c = columns_open
     c.args.at (space
     (goal.at.returns-then-byte_at-ne41 c).Else-byte_at-ne32) (opens
     (goal.at.returns-then-byte_at-ne41 c).Else-byte_at-ne40) (sym
-    c.name_end-c.ensures ∙ c.in-At.is)
+    c.name_end.ensures ∙ c.in_ok-e.was)
     (names_to
     c.args.s.now
-    c.in-At.e c.in-At-m.f
-    c.names_end-m.ensures c.in-At-m.is) (λ z. c.if-byte_at-ne41.true
+    c.in_ok-e.e c.in_ok-f.f
+    c.names_end.ensures c.in_ok-f.was) (λ z. c.if-byte_at-ne41.true
     (c.byte_at-3.ensures ∙ z))
 
 pub overflow_add-result : goal.overflow_add-result
-overflow_add-result c = omega (arith, c.count_names-n.ensures, names_few c.args.s.now c.in-At.e)
+overflow_add-result c = omega (arith, c.count_names-n.ensures, names_few c.args.s.now c.in_ok-e.e)
 
 pub overflow_add-result-2 : goal.overflow_add-result-2
-overflow_add-result-2 c = omega (arith, closes_before c.args.s.now c.in-At-m.f (closes (goal.at.overflow_add-result-2 c).Else-byte_at-ne41))
+overflow_add-result-2 c = omega (arith, closes_before c.args.s.now c.in_ok-f.f (closes (goal.at.overflow_add-result-2 c).Else-byte_at-ne41))
 
 pub returns : goal.returns
 returns c = columns_read
@@ -73,9 +75,9 @@ returns c = columns_read
     c.args.at
     (space (goal.at.returns c).Else-byte_at-ne32) (opens
     (goal.at.returns c).Else-byte_at-ne40) (sym
-    c.name_end-c.ensures ∙ c.in-At.is)
+    c.name_end.ensures ∙ c.in_ok-e.was)
     (names_to
     c.args.s.now
-    c.in-At.e c.in-At-m.f
-    c.names_end-m.ensures c.in-At-m.is) (closes (goal.at.returns c).Else-byte_at-ne41)
+    c.in_ok-e.e c.in_ok-f.f
+    c.names_end.ensures c.in_ok-f.was) (closes (goal.at.returns c).Else-byte_at-ne41)
     c.count_names-n.ensures

@@ -7,19 +7,21 @@ use Rattle.query.specs.QueryPartPlaces.{ReadsHead, ReadsTest}
 use Rattle.text.specs.Reader.{give}
 use Rattle.query.proofs.reading.count_body.Goals as goal
 
-pub returns-in_default : goal.returns-in_default
-returns-in_default c = body_headless c.args.s.now (give counts_only) (subst (ReadsHead c.args.s.now c.args.at) c.in_default.is c.query_head-a.ensures)
+pub returns-in_err-head : goal.returns-in_err-head
+returns-in_err-head c = rw c.from_residual.ensures
+    (body_headless c.args.s.now (give counts_only) (subst (ReadsHead c.args.s.now c.args.at) c.in_err-head.was c.query_head.ensures))
 
-pub returns-in_default-c : goal.returns-in_default-c
-returns-in_default-c c = count_wrong c.args.s.now
+pub returns-in_err-test : goal.returns-in_err-test
+returns-in_err-test c = rw c.from_residual-in_err-test.ensures
+    (count_wrong c.args.s.now
     (subst
     (ReadsHead c.args.s.now c.args.at)
-    c.in-At.is c.query_head-a.ensures)
-    (subst (ReadsTest c.args.s.now c.in-At.e) c.in_default-c.is c.optional_condition-c.ensures)
+    c.in_ok-head.was c.query_head.ensures)
+    (subst (ReadsTest c.args.s.now c.in_ok-head.e) c.in_err-test.was c.optional_condition.ensures))
 
 pub returns : goal.returns
 returns c = count_read_lem c.args.s.now
     (subst
     (ReadsHead c.args.s.now c.args.at)
-    c.in-At.is c.query_head-a.ensures)
-    (subst (ReadsTest c.args.s.now c.in-At.e) c.in-At-c.is c.optional_condition-c.ensures)
+    c.in_ok-head.was c.query_head.ensures)
+    (subst (ReadsTest c.args.s.now c.in_ok-head.e) c.in_ok-test.was c.optional_condition.ensures)

@@ -17,8 +17,9 @@ returns-then-byte_at-ne32 c = test_absent c.args.s.now c.args.at (λ z. c.if-byt
 pub overflow_add-t : goal.overflow_add-t
 overflow_add-t c = omega (arith, space_before c.args.s.now c.args.at (space c))
 
-pub returns-in-At : goal.returns-in-At
-returns-in-At c = test_read c.args.s.now c.args.at (space (goal.at.returns-in-At c).Else-byte_at-ne32) (sym c.read_condition-c.ensures ∙ c.in-At.is)
+pub returns : goal.returns
+returns c = test_read c.args.s.now c.args.at (space (goal.at.returns c).Else-byte_at-ne32) (sym c.read_condition.ensures ∙ c.in_ok-e.was)
 
-pub returns-in-Refused : goal.returns-in-Refused
-returns-in-Refused c = test_wrong c.args.s.now c.args.at (space (goal.at.returns-in-Refused c).Else-byte_at-ne32) (sym c.read_condition-c.ensures ∙ c.in-Refused.is)
+pub returns-in_err-e : goal.returns-in_err-e
+returns-in_err-e c = rw c.from_residual.ensures
+    (test_wrong c.args.s.now c.args.at (space (goal.at.returns-in_err-e c).Else-byte_at-ne32) (sym c.read_condition.ensures ∙ c.in_err-e.was))

@@ -7,57 +7,57 @@ use Rattle.query.proofs.PartsRead.{Named, head_read, head_wrong_1, head_wrong_2,
 use Rattle.text.proofs.EndLaws.{end_none}
 use Rattle.text.specs.Brackets.{next}
 use Rattle.text.specs.Words.{name}
-use Rattle.query.proofs.reading.query_head.Goals.{In-At, In-At-p, In-At-r, In-At-t}
+use Rattle.query.proofs.reading.query_head.Goals.{In_ok-e, In_ok-f, In_ok-g, In_ok-h}
 use Rattle.query.proofs.reading.query_head.Goals as goal
 
-first : (c : In-At) → Named c.args.s.now c.args.at c.in-At.e
-first c = name_to c.args.s.now c.args.at c.in-At.e c.spaced_name_end-u.ensures c.in-At.is
+first : (c : In_ok-e) → Named c.args.s.now c.args.at c.in_ok-e.e
+first c = name_to c.args.s.now c.args.at c.in_ok-e.e c.spaced_name_end.ensures c.in_ok-e.was
 
-second : (c : In-At-r) → Named c.args.s.now c.in-At.e c.in-At-r.f
-second c = name_to c.args.s.now c.in-At.e c.in-At-r.f c.spaced_name_end-r.ensures c.in-At-r.is
+second : (c : In_ok-f) → Named c.args.s.now c.in_ok-e.e c.in_ok-f.f
+second c = name_to c.args.s.now c.in_ok-e.e c.in_ok-f.f c.spaced_name_end-2.ensures c.in_ok-f.was
 
-third : (c : In-At-p) → Named c.args.s.now c.in-At-r.f c.in-At-p.g
-third c = name_to c.args.s.now c.in-At-r.f c.in-At-p.g c.spaced_name_end-p.ensures c.in-At-p.is
+third : (c : In_ok-g) → Named c.args.s.now c.in_ok-f.f c.in_ok-g.g
+third c = name_to c.args.s.now c.in_ok-f.f c.in_ok-g.g c.spaced_name_end-3.ensures c.in_ok-g.was
 
-fourth : (c : In-At-t) → Named c.args.s.now c.in-At-p.g c.in-At-t.h
-fourth c = name_to c.args.s.now c.in-At-p.g c.in-At-t.h c.spaced_name_end-t.ensures c.in-At-t.is
+fourth : (c : In_ok-h) → Named c.args.s.now c.in_ok-g.g c.in_ok-h.h
+fourth c = name_to c.args.s.now c.in_ok-g.g c.in_ok-h.h c.spaced_name_end-4.ensures c.in_ok-h.was
 
-pub returns-in_default : goal.returns-in_default
-returns-in_default c = head_wrong_1 c.args.s.now (end_none (next name) c.args.s.now c.args.at (sym c.spaced_name_end-u.ensures ∙ c.in_default.is))
+pub returns-in_err-e : goal.returns-in_err-e
+returns-in_err-e c = rw c.from_residual.ensures
+    (head_wrong_1 c.args.s.now (end_none (next name) c.args.s.now c.args.at (sym c.spaced_name_end.ensures ∙ c.in_err-e.was)))
 
-pub returns-in_default-r : goal.returns-in_default-r
-returns-in_default-r c = head_wrong_2 c.args.s.now
-    (first (goal.at.returns-in_default-r c).In-At)
-    (end_none (next name) c.args.s.now c.in-At.e (sym c.spaced_name_end-r.ensures ∙ c.in_default-r.is))
+pub returns-in_err-f : goal.returns-in_err-f
+returns-in_err-f c = rw c.from_residual-in_err-f.ensures
+    (head_wrong_2 c.args.s.now (first (goal.at.returns-in_err-f c).In_ok-e)
+    (end_none (next name) c.args.s.now c.in_ok-e.e (sym c.spaced_name_end-2.ensures ∙ c.in_err-f.was)))
 
-pub returns-in_default-p : goal.returns-in_default-p
-returns-in_default-p c = head_wrong_3 c.args.s.now
-    (first (goal.at.returns-in_default-p c).In-At) (second (goal.at.returns-in_default-p c).In-At-r)
-    (end_none (next name) c.args.s.now c.in-At-r.f (sym c.spaced_name_end-p.ensures ∙ c.in_default-p.is))
+pub returns-in_err-g : goal.returns-in_err-g
+returns-in_err-g c = let at = goal.at.returns-in_err-g c in
+    rw c.from_residual-in_err-g.ensures
+    (head_wrong_3 c.args.s.now (first at.In_ok-e) (second at.In_ok-f)
+    (end_none (next name) c.args.s.now c.in_ok-f.f (sym c.spaced_name_end-3.ensures ∙ c.in_err-g.was)))
 
-pub returns-in_default-t : goal.returns-in_default-t
-returns-in_default-t c = head_wrong_4
-    c.args.s.now
-    (first (goal.at.returns-in_default-t c).In-At) (second
-    (goal.at.returns-in_default-t c).In-At-r) (third (goal.at.returns-in_default-t c).In-At-p) (end_none (next name)
-    c.args.s.now
-    c.in-At-p.g (sym c.spaced_name_end-t.ensures ∙ c.in_default-t.is))
+pub returns-in_err-h : goal.returns-in_err-h
+returns-in_err-h c = let at = goal.at.returns-in_err-h c in
+    rw c.from_residual-in_err-h.ensures
+    (head_wrong_4 c.args.s.now (first at.In_ok-e) (second at.In_ok-f) (third at.In_ok-g)
+    (end_none (next name) c.args.s.now c.in_ok-g.g (sym c.spaced_name_end-4.ensures ∙ c.in_err-h.was)))
 
 pub overflow_add-result : goal.overflow_add-result
-overflow_add-result c = omega (arith, first (goal.at.overflow_add-result c).In-At)
+overflow_add-result c = omega (arith, first (goal.at.overflow_add-result c).In_ok-e)
 
 pub overflow_add-result-2 : goal.overflow_add-result-2
-overflow_add-result-2 c = omega (arith, second (goal.at.overflow_add-result-2 c).In-At-r)
+overflow_add-result-2 c = omega (arith, second (goal.at.overflow_add-result-2 c).In_ok-f)
 
 pub overflow_add-result-3 : goal.overflow_add-result-3
-overflow_add-result-3 c = omega (arith, third (goal.at.overflow_add-result-3 c).In-At-p)
+overflow_add-result-3 c = omega (arith, third (goal.at.overflow_add-result-3 c).In_ok-g)
 
 pub overflow_add-result-4 : goal.overflow_add-result-4
-overflow_add-result-4 c = omega (arith, fourth (goal.at.overflow_add-result-4 c).In-At-t)
+overflow_add-result-4 c = omega (arith, fourth (goal.at.overflow_add-result-4 c).In_ok-h)
 
 pub returns : goal.returns
 returns c = head_read
     c.args.s.now
-    (first (goal.at.returns c).In-At)
-    (second (goal.at.returns c).In-At-r) (third (goal.at.returns c).In-At-p)
-    (fourth (goal.at.returns c).In-At-t)
+    (first (goal.at.returns c).In_ok-e)
+    (second (goal.at.returns c).In_ok-f) (third (goal.at.returns c).In_ok-g)
+    (fourth (goal.at.returns c).In_ok-h)

@@ -14,13 +14,13 @@ pub returns-then-not-is_word : goal.returns-then-not-is_word
 unfolding why_line
 returns-then-not-is_word c = line_other c.args.s.now (sym c.byte_at.ensures ∙ c.if-byte_at-ne40.false) (sym c.is_word.ensures ∙ c.if-not-is_word.true)
 
-pub returns-in_default : goal.returns-in_default
+pub returns-in_err-w : goal.returns-in_err-w
 unfolding why_line why_to
-returns-in_default c = let s = c.args.s.now in
-    line_wrong s
+returns-in_err-w c = let s = c.args.s.now in
+    rw c.from_residual.ensures (line_wrong s
     (sym c.byte_at.ensures ∙ c.if-byte_at-ne40.false)
     (sym c.is_word.ensures ∙ c.if-not-is_word.false)
-    c.word_end.ensures (c.why_body-b.ensures ∙ ap (why_to s) c.in_default.is)
+    c.word_end.ensures (c.why_body.ensures ∙ ap (why_to s) c.in_err-w.was))
 
 pub returns-then-byte_at-ne41 : goal.returns-then-byte_at-ne41
 unfolding why_line why_to
@@ -29,11 +29,11 @@ returns-then-byte_at-ne41 c = let s = c.args.s.now in
     (sym c.byte_at.ensures ∙ c.if-byte_at-ne40.false)
     (sym c.is_word.ensures ∙ c.if-not-is_word.false)
     c.word_end.ensures _
-    (c.why_body-b.ensures ∙ ap (why_to s) c.in-At.is)
+    (c.why_body.ensures ∙ ap (why_to s) c.in_ok-w.was)
     (λ z. c.if-byte_at-ne41.true (c.byte_at-2.ensures ∙ z))
 
 pub overflow_add-e : goal.overflow_add-e
-overflow_add-e c = omega (arith, closes_before c.args.s.now c.in-At.e (sym c.byte_at-2.ensures ∙ c.if-byte_at-ne41.false))
+overflow_add-e c = omega (arith, closes_before c.args.s.now c.in_ok-w.e (sym c.byte_at-2.ensures ∙ c.if-byte_at-ne41.false))
 
 pub returns-then-e-s : goal.returns-then-e-s
 unfolding why_line why_to
@@ -42,7 +42,7 @@ returns-then-e-s c = let s = c.args.s.now in
     (sym c.byte_at.ensures ∙ c.if-byte_at-ne40.false)
     (sym c.is_word.ensures ∙ c.if-not-is_word.false)
     c.word_end.ensures _
-    (c.why_body-b.ensures ∙ ap (why_to s) c.in-At.is)
+    (c.why_body.ensures ∙ ap (why_to s) c.in_ok-w.was)
     (sym c.byte_at-2.ensures ∙ c.if-byte_at-ne41.false) c.if-e-s.true
 
 pub returns : goal.returns
@@ -52,5 +52,5 @@ returns c = let s = c.args.s.now in
     (sym c.byte_at.ensures ∙ c.if-byte_at-ne40.false)
     (sym c.is_word.ensures ∙ c.if-not-is_word.false)
     c.word_end.ensures _
-    (c.why_body-b.ensures ∙ ap (why_to s) c.in-At.is)
+    (c.why_body.ensures ∙ ap (why_to s) c.in_ok-w.was)
     (sym c.byte_at-2.ensures ∙ c.if-byte_at-ne41.false) c.if-e-s.false

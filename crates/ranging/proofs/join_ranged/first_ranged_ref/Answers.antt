@@ -27,12 +27,6 @@ returns-then-is_ref_ranged c = let a = c.args in
     (λ r e. ref_ranged d h g c.loop-i.i c.is_ref_ranged.result
     (c.is_ref_ranged.ensures d s k j h w) r e c.if-is_ref_ranged.true))
 
-pub overflow_add-i : goal.overflow_add-i
-overflow_add-i c = omega (arith, c.loop-i-test.true, c.requires)
-
-pub loop-i-smaller : goal.loop-i-smaller
-loop-i-smaller c = omega (arith, c.loop-i-test.true)
-
 pub loop-i-preserved : goal.loop-i-preserved
 loop-i-preserved c = (
   omega (arith, c.loop-i-test.true),

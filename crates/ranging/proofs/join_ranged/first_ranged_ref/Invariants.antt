@@ -17,6 +17,3 @@ abbrev pub invariant-loop-i : goal.invariant-loop-i
 invariant-loop-i l = (l.i ≤ l.n)
     × ((d : Doc) (s : List ℕ) (k : ℕ) (j : JoinForm) → KnowsTables l.text l.tables k s l.p d.policy j → Rows l.text l.rows l.count d.rows → RefsRead d.policy j (join_refs j) s l.n l.words l.columns
     → (m : ℕ) → m < l.i → (r : Ref) → get_elem? (join_refs j) m ≡ some r → ranged_ref d j r ≡ none)
-
-abbrev pub decreases-loop-i : goal.decreases-loop-i
-decreases-loop-i l = l.n - l.i

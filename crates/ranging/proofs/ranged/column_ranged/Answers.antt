@@ -16,9 +16,6 @@ returns-then-row_ranged c = let a = c.args in
     λ rs held. column_one a.text.now a.rows.now a.count a.t a.c rs held l.r c.loop-r-test.true
     (sym (c.row_ranged.ensures (omega (arith, held.few, c.loop-r-test.true)) (held.narrow l.r c.loop-r-test.true)) ∙ c.if-row_ranged.true)
 
-pub loop-r-smaller : goal.loop-r-smaller
-loop-r-smaller c = omega (arith, c.loop-r-test.true)
-
 pub loop-r-preserved : goal.loop-r-preserved
 loop-r-preserved c = let l = c.loop-r in
     (omega (arith, c.loop-r-test.true), λ rs held. below_more _ l.r (l.invariant.1 rs held) (sym (c.row_ranged.ensures (omega (arith, held.few, c.loop-r-test.true)) (held.narrow l.r c.loop-r-test.true)) ∙ c.if-row_ranged.false))

@@ -10,6 +10,3 @@ use Rattle.ranging.proofs.ranged.column_ranged.Given as goal
 
 abbrev pub invariant-loop-r : goal.invariant-loop-r
 invariant-loop-r l = (l.r ≤ l.count) × ((rs : List Row) → Rows l.text l.rows l.count rs → (i : ℕ) → i < l.r → ranged_here l.text l.rows i l.t l.c ≡ false)
-
-abbrev pub decreases-loop-r : goal.decreases-loop-r
-decreases-loop-r l = l.count - l.r

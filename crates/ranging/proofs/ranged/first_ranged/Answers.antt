@@ -26,9 +26,6 @@ returns-then-column_ranged c d s h a b e = let x = c.args in
     first_ranged g l.i c.loop-i-test.true (l.invariant.1 d s g)
     (plain_found g l.i c.loop-i-test.true c.column_ranged.result c.column_ranged.ensures ∙ ap not c.if-column_ranged.true)
 
-pub loop-i-smaller : goal.loop-i-smaller
-loop-i-smaller c = omega (arith, c.loop-i-test.true)
-
 pub loop-i-preserved : goal.loop-i-preserved
 loop-i-preserved c = let l = c.loop-i in (
   omega (arith, c.loop-i-test.true),

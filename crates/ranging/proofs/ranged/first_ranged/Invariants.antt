@@ -12,6 +12,3 @@ use Rattle.ranging.proofs.ranged.first_ranged.Given as goal
 
 abbrev pub invariant-loop-i : goal.invariant-loop-i
 invariant-loop-i l = (l.i ≤ l.n) × ((d : Doc) (s : List ℕ) → NamedColumns l.text l.rows l.count l.t l.places l.n l.columns d s → (j : ℕ) → j < l.i → plain_at d l.t (word_of s (get_or l.places j 0)) ≡ true)
-
-abbrev pub decreases-loop-i : goal.decreases-loop-i
-decreases-loop-i l = l.n - l.i

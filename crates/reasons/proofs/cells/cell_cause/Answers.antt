@@ -23,17 +23,17 @@ returns-then-is_unlabelled c d p y K inside C l e n = let a = c.args in
     sym (unlabelled_reason d.policy p a.t y.labels a.col u
     ∙ ap (λ (b : Bool). cond b opened unlabelled_table) (sym (K.notes.said a.t l).is_public? ∙ sym (c.is_public.ensures (table_inside a.text.now a.tables.now a.c.tables a.t d.policy K.tables l)) ∙ c.if-is_public.false))
 
-pub returns-in-At : goal.returns-in-At
-returns-in-At c d p y K inside C l e n = let a = c.args in
+pub returns-in-Some : goal.returns-in-Some
+returns-in-Some c d p y K inside C l e n = let a = c.args in
     let u : is_unlabelled (labelling_at d.policy a.t) ≡ false = sym (c.is_unlabelled.ensures d.policy a.text.now a.c.tables K.tables l) ∙ c.if-is_unlabelled.false in
     c.label_cause.ensures d.policy p K.purposes K.labels K.denials inside C
-    ∙ ap (reason_at d.policy p) (sym (ap found_as c.in-At.is) ∙ c.meant_label-meant.ensures d.policy a.text.now a.c.tables a.c.rows d.rows y K.tables l K.rows e)
+    ∙ ap (reason_at d.policy p) (sym (ap found_as c.in-Some.is) ∙ c.meant_label-meant.ensures d.policy a.text.now a.c.tables a.c.rows d.rows y K.tables l K.rows e)
     ∙ sym (meant_reason d.policy p (labelling_at d.policy a.t) y.labels a.col u n)
 
-pub returns-in-Nothing : goal.returns-in-Nothing
+pub returns-in-None : goal.returns-in-None
 unfolding reason_of
-returns-in-Nothing c d p y K inside C l e n = let a = c.args in
+returns-in-None c d p y K inside C l e n = let a = c.args in
     let u : is_unlabelled (labelling_at d.policy a.t) ≡ false = sym (c.is_unlabelled.ensures d.policy a.text.now a.c.tables K.tables l) ∙ c.if-is_unlabelled.false in
     sym (no_label d.policy p)
-    ∙ ap (reason_at d.policy p) (sym (ap found_as c.in-Nothing.is) ∙ c.meant_label-meant.ensures d.policy a.text.now a.c.tables a.c.rows d.rows y K.tables l K.rows e)
+    ∙ ap (reason_at d.policy p) (sym (ap found_as c.in-None.is) ∙ c.meant_label-meant.ensures d.policy a.text.now a.c.tables a.c.rows d.rows y K.tables l K.rows e)
     ∙ sym (meant_reason d.policy p (labelling_at d.policy a.t) y.labels a.col u n)

@@ -29,8 +29,8 @@ unfolding row_in
 loop-r-preserved c = let a = c.args in
     let r = c.loop-r.r in (
       omega (arith, c.loop-r-test.true),
-      λ text rs h. sought_on (λ (x : Row). eqb x.table a.t) rs a.n r c.loop-r.left c.in-At.m (row_in text a.rows.now r) (row_at text a.rows.now a.count rs h r (omega (arith, c.loop-r-test.true)))
-          (sym (c.pass_row-x.ensures (omega (arith, c.loop-r-test.true, h.few))) ∙ ap found_as c.in-At.is) (c.loop-r.invariant.1 text rs h),
+      λ text rs h. sought_on (λ (x : Row). eqb x.table a.t) rs a.n r c.loop-r.left c.in-Some.m (row_in text a.rows.now r) (row_at text a.rows.now a.count rs h r (omega (arith, c.loop-r-test.true)))
+          (sym (c.pass_row-x.ensures (omega (arith, c.loop-r-test.true, h.few))) ∙ ap found_as c.in-Some.is) (c.loop-r.invariant.1 text rs h),
     )
 
 pub returns : goal.returns

@@ -9,6 +9,3 @@ use Rattle.reasons.proofs.cells.nth_row.Given as goal
 
 abbrev pub invariant-loop-r : goal.invariant-loop-r
 invariant-loop-r l = (l.r ≤ l.count) × ((text : List ℕ) (rs : List Row) → Rows text l.rows l.count rs → Sought (λ (x : Row). eqb x.table l.t) rs l.n l.r l.left)
-
-abbrev pub decreases-loop-r : goal.decreases-loop-r
-decreases-loop-r l = l.count - l.r

@@ -22,13 +22,13 @@ pub returns-then-c-l : goal.returns-then-c-l
 unfolding reason_of
 returns-then-c-l c d p N L D inside C = sym (label_absent c.args.text.now c.args.labels.now c.args.sets.now c.args.c.labels d p L c.args.l c.if-c-l.true)
 
-pub returns-in-At : goal.returns-in-At
+pub returns-in-Some : goal.returns-in-Some
 unfolding reason_of reason_from
-returns-in-At c d p N L D inside C = let a = c.args in
+returns-in-Some c d p N L D inside C = let a = c.args in
     let less : a.l < a.c.labels = omega (arith, c.if-c-l.false) in
     let place : c.deny_place-place.result ≡ deny_place a.text.now (get_or a.labels.now a.l 0) = c.deny_place-place.ensures ∙ ap (deny_place a.text.now) (c.label_name.ensures (omega (arith, less, L.few))) in
-    let found : missing (is_far d p) (names_at a.text.now (deny_place a.text.now (get_or a.labels.now a.l 0))) ≡ some (word_of a.text.now c.in-At.w)
-    = ap (λ (n : ℕ). missing (is_far d p) (names_at a.text.now n)) (sym place) ∙ sym (c.first_near.ensures d p N C) ∙ ap (offending_of a.text.now) c.in-At.is in
+    let found : missing (is_far d p) (names_at a.text.now (deny_place a.text.now (get_or a.labels.now a.l 0))) ≡ some (word_of a.text.now c.in-Some.w)
+    = ap (λ (n : ℕ). missing (is_far d p) (names_at a.text.now n)) (sym place) ∙ sym (c.first_near.ensures d p N C) ∙ ap (offending_of a.text.now) c.in-Some.is in
     sym (label_says a.text.now a.labels.now a.sets.now a.c.labels d p L D inside a.l less ∙ ap (λ (o : Option Word). reason_from o (verdict (tree_of d.purposes) (marks_at d (some a.l)) p).allowed) found)
 
 pub returns-then-v : goal.returns-then-v

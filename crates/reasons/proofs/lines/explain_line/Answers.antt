@@ -16,4 +16,4 @@ returns-in_default c d K = let s = c.args.line.now in
 pub returns : goal.returns
 unfolding explain_line why_line need ◌>>=◌
 returns c d K = let s = c.args.line.now in
-    c.explain_words.ensures d K ∙ sym (ap (λ (o : Option WhyForm). need o (pointing_all 11 query s) >>= explain d) (c.read_why-a.ensures ∙ ap (why_line s) c.in-Is.is))
+    c.explain_words.ensures d K ∙ sym (ap (λ (o : Option WhyForm). need o (pointing_all 11 query s) >>= explain d) (c.read_why-a.ensures ∙ ap (why_line s) c.in-Some.is))

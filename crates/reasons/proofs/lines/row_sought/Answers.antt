@@ -12,12 +12,12 @@ use mathlib.Core.Path.{◌∙◌, ap, sym}
 use native.Mathlib.Omega.{arith}
 use Rattle.reasons.proofs.lines.row_sought.Goals as goal
 
-pub returns-in-Is : goal.returns-in-Is
+pub returns : goal.returns
 unfolding bind
-returns-in-Is c = let a = c.args in
-    (λ text rs h. c.nth_row.ensures.0 text rs h ∙ sym (ap (λ (o : Option ℕ). bind o (get_elem? (rows_in a.t rs))) (limited_is (magnitude (word_at a.line.now a.row)) c.in-Is.n (sym c.magnitude_at-m.ensures ∙ c.in-Is.is)).0), c.nth_row.ensures.1)
+returns c = let a = c.args in
+    (λ text rs h. c.nth_row.ensures.0 text rs h ∙ sym (ap (λ (o : Option ℕ). bind o (get_elem? (rows_in a.t rs))) (limited_is (magnitude (word_at a.line.now a.row)) c.in_ok-n.n (sym c.magnitude_at.ensures ∙ c.in_ok-n.was)).0), c.nth_row.ensures.1)
 
-pub returns-in-Nothing : goal.returns-in-Nothing
+pub returns-in_err-n : goal.returns-in_err-n
 unfolding bind
-returns-in-Nothing c = let a = c.args in
-    (λ text rs h. sym (no_row a.t rs (omega (arith, rows_counted text a.rows.now a.count rs h, h.few)) (magnitude (word_at a.line.now a.row)) (sym c.magnitude_at-m.ensures ∙ c.in-Nothing.is)), tt)
+returns-in_err-n c = let a = c.args in
+    rw c.from_residual.ensures (λ text rs h. sym (no_row a.t rs (omega (arith, rows_counted text a.rows.now a.count rs h, h.few)) (magnitude (word_at a.line.now a.row)) (sym c.magnitude_at.ensures ∙ c.in_err-n.was)), tt)

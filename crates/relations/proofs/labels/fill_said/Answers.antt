@@ -15,9 +15,6 @@ bounds-said-i c = omega (arith, c.loop-i.invariant.1, c.requires)
 pub bounds-said-i-in-loop-i : goal.bounds-said-i-in-loop-i
 bounds-said-i-in-loop-i c = simp length-set (omega (arith, c.loop-i.invariant.1, c.requires))
 
-pub loop-i-smaller : goal.loop-i-smaller
-loop-i-smaller c = omega arith
-
 pub loop-i-preserved : goal.loop-i-preserved
 loop-i-preserved c = let a = c.args in
     let now = c.loop-i in

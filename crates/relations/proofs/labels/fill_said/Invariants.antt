@@ -7,6 +7,3 @@ use Rattle.relations.proofs.labels.fill_said.Given as goal
 
 abbrev pub invariant-loop-i : goal.invariant-loop-i
 invariant-loop-i l = (l.i ≤ 64) × (length l.said ≡ length l.initial.said) × SaidBelow l.sets l.k l.closure l.said l.i
-
-abbrev pub decreases-loop-i : goal.decreases-loop-i
-decreases-loop-i l = 64 - l.i

@@ -7,6 +7,3 @@ use Rattle.relations.proofs.labels.load_words.Given as goal
 
 abbrev pub invariant-loop-w : goal.invariant-loop-w
 invariant-loop-w l = (l.w ≤ words) × (length l.r ≡ words) × ((j : ℕ) → j < l.w → get_or l.r j 0 ≡ get_or l.sets (l.at + j) 0)
-
-abbrev pub decreases-loop-w : goal.decreases-loop-w
-decreases-loop-w l = words - l.w

@@ -2,14 +2,14 @@
 use Rattle.purpose.specs.Verdicts.{silent}
 use Rattle.relations.specs.Labels.{verdict_for}
 use Rattle.workspace.specs.Found.{found_as}
-use Rattle.workspace.specs.declared.found.Found.{Found}
+use Rattle.std.specs.Prelude.{Option, ℕ}
 use mathlib.Core.Path.{◌∙◌, ap, sym}
 use Rattle.relations.proofs.labels.said_of.Goals as goal
 
-pub returns-in-At : goal.returns-in-At
+pub returns-in-Some : goal.returns-in-Some
 unfolding verdict_for
-returns-in-At c = c.said_at.ensures ∙ sym (ap (λ (f : Found). verdict_for c.args.said.now (found_as f)) c.in-At.is)
+returns-in-Some c = c.said_at.ensures ∙ sym (ap (λ (f : Option ℕ). verdict_for c.args.said.now (found_as f)) c.in-Some.is)
 
-pub returns-in-Nothing : goal.returns-in-Nothing
+pub returns-in-None : goal.returns-in-None
 unfolding verdict_for silent
-returns-in-Nothing c = sym (ap (λ (f : Found). verdict_for c.args.said.now (found_as f)) c.in-Nothing.is)
+returns-in-None c = sym (ap (λ (f : Option ℕ). verdict_for c.args.said.now (found_as f)) c.in-None.is)

@@ -8,6 +8,3 @@ use Rattle.relations.proofs.labels.store_words.Given as goal
 
 abbrev pub invariant-loop-w : goal.invariant-loop-w
 invariant-loop-w l = (l.w ≤ words) × (length l.sets ≡ length l.initial.sets) × (l.sets ≡ paste l.initial.sets l.at l.s l.w)
-
-abbrev pub decreases-loop-w : goal.decreases-loop-w
-decreases-loop-w l = words - l.w

@@ -6,6 +6,3 @@ use Rattle.relations.proofs.rows.has_row.Given as goal
 
 abbrev pub invariant-loop-r : goal.invariant-loop-r
 invariant-loop-r l = (l.r ≤ l.count) × ((q : ℕ) → q < l.r → q < 1024 → get_or l.ws q 0 ≡ l.t → ⊥)
-
-abbrev pub decreases-loop-r : goal.decreases-loop-r
-decreases-loop-r l = l.count - l.r

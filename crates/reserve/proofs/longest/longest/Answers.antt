@@ -13,12 +13,6 @@ loop-t-init c = (omega arith, λ rs h. sym (longest_none rs))
 pub table_length-requires : goal.table_length-requires
 table_length-requires c = c.requires
 
-pub overflow_add-t : goal.overflow_add-t
-overflow_add-t c = omega (arith, c.loop-t-test.true)
-
-pub loop-t-smaller : goal.loop-t-smaller
-loop-t-smaller c = omega (arith, c.loop-t-test.true)
-
 pub loop-t-preserved : goal.loop-t-preserved
 loop-t-preserved c = let l = c.loop-t in (
   omega (arith, c.loop-t-test.true),

@@ -9,6 +9,3 @@ use Rattle.reserve.proofs.longest.longest.Given as goal
 
 abbrev pub invariant-loop-t : goal.invariant-loop-t
 invariant-loop-t l = (l.t ≤ l.k) × ((rs : List Row) → Rows l.text l.rows l.count rs → l.best ≡ greatest (whole_lengths rs l.t))
-
-abbrev pub decreases-loop-t : goal.decreases-loop-t
-decreases-loop-t l = l.k - l.t

@@ -16,12 +16,6 @@ loop-r-init c = (omega arith, omega arith, omega arith, rows_none c.args.text.no
 pub with_row-more-requires : goal.with_row-more-requires
 with_row-more-requires c = (c.requires.0, omega (arith, c.loop-r-test.true, c.requires.1), c.loop-r.invariant.1, c.loop-r.invariant.2)
 
-pub overflow_add-r : goal.overflow_add-r
-overflow_add-r c = omega (arith, c.loop-r-test.true, c.requires.1)
-
-pub loop-r-smaller : goal.loop-r-smaller
-loop-r-smaller c = omega (arith, c.loop-r-test.true)
-
 pub loop-r-preserved : goal.loop-r-preserved
 loop-r-preserved c = let l = c.loop-r in
     let a = c.with_row-more.ensures in

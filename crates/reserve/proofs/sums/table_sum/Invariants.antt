@@ -9,6 +9,3 @@ use Rattle.reserve.proofs.sums.table_sum.Given as goal
 
 abbrev pub invariant-loop-r : goal.invariant-loop-r
 invariant-loop-r l = (l.r ≤ l.count) × (l.s.count ≤ l.r) × (l.s.bytes ≤ l.r * 960022) × ((rs : List Row) → Rows l.text l.rows l.r rs → Sums (rows_in l.t rs) l.s)
-
-abbrev pub decreases-loop-r : goal.decreases-loop-r
-decreases-loop-r l = l.count - l.r

@@ -18,12 +18,6 @@ overflow_add-sum c = omega (arith, c.value_length.ensures.1, c.requires.0)
 pub overflow_add-sum-in-loop-c : goal.overflow_add-sum-in-loop-c
 overflow_add-sum-in-loop-c c = omega (arith, c.value_length.ensures.1, c.requires.0, c.loop-c.invariant.0, c.loop-c.invariant.2, c.requires.2)
 
-pub overflow_add-c : goal.overflow_add-c
-overflow_add-c c = omega (arith, c.loop-c-test.true, c.requires.2)
-
-pub loop-c-smaller : goal.loop-c-smaller
-loop-c-smaller c = omega (arith, c.loop-c-test.true)
-
 pub loop-c-preserved : goal.loop-c-preserved
 loop-c-preserved c = let f = value_in c.args.text.now c.args.rows.now c.args.r in
     let l = c.loop-c in

@@ -9,6 +9,3 @@ use Rattle.reserve.proofs.sums.values_length.Given as goal
 
 abbrev pub invariant-loop-c : goal.invariant-loop-c
 invariant-loop-c l = (l.c ≤ l.width) × (l.sum ≡ length (spaced (tabulated (value_in l.text l.rows l.r) l.c))) × (l.sum ≤ l.c * 60001)
-
-abbrev pub decreases-loop-c : goal.decreases-loop-c
-decreases-loop-c l = l.width - l.c

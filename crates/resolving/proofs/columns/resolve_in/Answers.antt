@@ -32,11 +32,8 @@ shape_of-columns-in_default c = c.loop-i.invariant.1
 pub returns-in_default : goal.returns-in_default
 returns-in_default c = let entry = c.args in λ d k h l p q. resolving_stop (columns_at d entry.t) entry.query.now entry.n entry.places.now c.loop-i.columns c.loop-i.i (c.loop-i.invariant.2 d k h l p q) c.loop-i-test.true p (column_read entry.text.now entry.tables.now k entry.t d h l (word_of entry.query.now (get_or entry.places.now c.loop-i.i 0)) _ (sym (ap found_as c.in_default.is) ∙ c.find_column-c.ensures.0 k d.tables h l))
 
-pub loop-i-smaller : goal.loop-i-smaller
-loop-i-smaller c = omega arith
-
 pub loop-i-preserved : goal.loop-i-preserved
-loop-i-preserved c = let entry = c.args in (omega arith, simp length-set c.loop-i.invariant.1, λ d k h l p q. resolving_more (columns_at d entry.t) entry.query.now entry.n entry.places.now c.loop-i.columns c.loop-i.i (c.loop-i.invariant.2 d k h l p q) c.loop-i-test.true p (omega (arith, q, c.loop-i.invariant.1)) c.in-At.m (column_read entry.text.now entry.tables.now k entry.t d h l (word_of entry.query.now (get_or entry.places.now c.loop-i.i 0)) _ (sym (ap found_as c.in-At.is) ∙ c.find_column-c.ensures.0 k d.tables h l)))
+loop-i-preserved c = let entry = c.args in (omega arith, simp length-set c.loop-i.invariant.1, λ d k h l p q. resolving_more (columns_at d entry.t) entry.query.now entry.n entry.places.now c.loop-i.columns c.loop-i.i (c.loop-i.invariant.2 d k h l p q) c.loop-i-test.true p (omega (arith, q, c.loop-i.invariant.1)) c.in-Some.m (column_read entry.text.now entry.tables.now k entry.t d h l (word_of entry.query.now (get_or entry.places.now c.loop-i.i 0)) _ (sym (ap found_as c.in-Some.is) ∙ c.find_column-c.ensures.0 k d.tables h l)))
 
 pub shape_of-columns : goal.shape_of-columns
 shape_of-columns c = c.loop-i.invariant.1

@@ -11,6 +11,3 @@ use Rattle.resolving.proofs.columns.resolve_in.Given as goal
 
 abbrev pub invariant-loop-i : goal.invariant-loop-i
 invariant-loop-i l = (l.i ≤ l.n) × (length l.columns ≡ length l.initial.columns) × ((d : Policy) (k : ℕ) → Tables l.text l.tables k d.tables → l.t < k → l.n ≤ length l.places → l.n ≤ length l.initial.columns → Resolving (columns_at d l.t) l.query l.n l.places l.columns l.i)
-
-abbrev pub decreases-loop-i : goal.decreases-loop-i
-decreases-loop-i l = l.n - l.i

@@ -30,12 +30,6 @@ returns-then-not-is_ref_open c = let a = c.args in
     (λ r e. closed_at h g c.loop-i.i c.is_ref_open.result
     (c.is_ref_open.ensures d text s k _ j h o) r e ∙ unless_false _ _ c.if-not-is_ref_open.true))
 
-pub overflow_add-i : goal.overflow_add-i
-overflow_add-i c = omega (arith, c.loop-i-test.true, c.requires)
-
-pub loop-i-smaller : goal.loop-i-smaller
-loop-i-smaller c = omega (arith, c.loop-i-test.true)
-
 pub loop-i-preserved : goal.loop-i-preserved
 loop-i-preserved c = (
   omega (arith, c.loop-i-test.true),

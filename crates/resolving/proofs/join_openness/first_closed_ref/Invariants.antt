@@ -19,6 +19,3 @@ abbrev pub invariant-loop-i : goal.invariant-loop-i
 invariant-loop-i l = (l.i ≤ l.n)
     × ((d : Policy) (text s : List ℕ) (k : ℕ) (j : JoinForm) (rs : List Ref) → KnowsTables text l.tables k s l.p d j → Said d (or_zero (purpose_of d j.form.purpose)) l.said → RefsRead d j rs s l.n l.words l.columns
     → (m : ℕ) → m < l.i → (r : Ref) → get_elem? rs m ≡ some r → closed_ref d j r ≡ none)
-
-abbrev pub decreases-loop-i : goal.decreases-loop-i
-decreases-loop-i l = l.n - l.i

@@ -23,9 +23,6 @@ returns-then-not-column_open c d text s k p h l a b o e = let entry = c.args in
     first_closed g c.loop-i.i c.loop-i-test.true (c.loop-i.invariant.1 d p s g)
     (sym (open_found g c.loop-i.i c.loop-i-test.true c.column_open.result c.column_open.ensures) ∙ c.if-not-column_open.true)
 
-pub loop-i-smaller : goal.loop-i-smaller
-loop-i-smaller c = omega (arith, c.loop-i-test.true)
-
 pub loop-i-preserved : goal.loop-i-preserved
 loop-i-preserved c = (
   omega (arith, c.loop-i-test.true),

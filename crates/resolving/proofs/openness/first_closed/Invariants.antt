@@ -12,6 +12,3 @@ use Rattle.resolving.proofs.openness.first_closed.Given as goal
 
 abbrev pub invariant-loop-i : goal.invariant-loop-i
 invariant-loop-i l = (l.i ≤ l.n) × ((d : Policy) (p : ℕ) (s : List ℕ) → Named l.tables l.t l.said l.places l.n l.columns d p s → (j : ℕ) → j < l.i → open_at l.tables l.t d p (word_of s (get_or l.places j 0)) ≡ true)
-
-abbrev pub decreases-loop-i : goal.decreases-loop-i
-decreases-loop-i l = l.n - l.i

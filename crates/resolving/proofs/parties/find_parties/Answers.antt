@@ -23,26 +23,26 @@ pub returns-in_default-purpose : goal.returns-in_default-purpose
 unfolding role_of purpose_of
 returns-in_default-purpose c d np nr nu = let a = c.args in
     purpose_unknown d a.query.now a.q a.c (sym (c.user_named.ensures d d.users nu) ∙ c.if-not-user_named.false)
-    c.in-At.r (sym (c.find_role-role.ensures.0 d.roles nr) ∙ ap found_as c.in-At.is)
+    c.in-Some.r (sym (c.find_role-role.ensures.0 d.roles nr) ∙ ap found_as c.in-Some.is)
     (sym (c.find_purpose-purpose.ensures.0 d.purposes np) ∙ ap found_as c.in_default-purpose.is)
 
-pub returns-in-At-user : goal.returns-in-At-user
+pub returns : goal.returns
 unfolding role_of purpose_of
-returns-in-At-user c d np nr nu = let a = c.args in
-    let role = sym (c.find_role-role.ensures.0 d.roles nr) ∙ ap found_as c.in-At.is in
+returns c d np nr nu = let a = c.args in
+    let role = sym (c.find_role-role.ensures.0 d.roles nr) ∙ ap found_as c.in-Some.is in
     parties_known d a.query.now a.q a.c (sym (c.user_named.ensures d d.users nu) ∙ c.if-not-user_named.false)
-    c.in-At.r role
-    c.in-At-purpose.p (sym (c.find_purpose-purpose.ensures.0 d.purposes np) ∙ ap found_as c.in-At-purpose.is)
-    c.in-At-user.u
-    (user_of_known d (word_of a.query.now a.q.head.user) (word_of a.query.now a.q.head.role) c.in-At.r role ∙ sym (c.find_user-user.ensures.0 d d.users nu) ∙ ap found_as c.in-At-user.is)
-    (subst (λ x. FoundBelow x a.c.purposes) c.in-At-purpose.is c.find_purpose-purpose.ensures.1)
-    (subst (λ x. FoundBelow x a.c.users) c.in-At-user.is c.find_user-user.ensures.1)
+    c.in-Some.r role
+    c.in-Some-purpose.p (sym (c.find_purpose-purpose.ensures.0 d.purposes np) ∙ ap found_as c.in-Some-purpose.is)
+    c.in-Some-user.u
+    (user_of_known d (word_of a.query.now a.q.head.user) (word_of a.query.now a.q.head.role) c.in-Some.r role ∙ sym (c.find_user-user.ensures.0 d d.users nu) ∙ ap found_as c.in-Some-user.is)
+    (subst (λ x. FoundBelow x a.c.purposes) c.in-Some-purpose.is c.find_purpose-purpose.ensures.1)
+    (subst (λ x. FoundBelow x a.c.users) c.in-Some-user.is c.find_user-user.ensures.1)
 
-pub returns-in-Nothing : goal.returns-in-Nothing
+pub returns-in_default-user : goal.returns-in_default-user
 unfolding role_of purpose_of
-returns-in-Nothing c d np nr nu = let a = c.args in
-    let role = sym (c.find_role-role.ensures.0 d.roles nr) ∙ ap found_as c.in-At.is in
+returns-in_default-user c d np nr nu = let a = c.args in
+    let role = sym (c.find_role-role.ensures.0 d.roles nr) ∙ ap found_as c.in-Some.is in
     role_missing d a.query.now a.q a.c (sym (c.user_named.ensures d d.users nu) ∙ c.if-not-user_named.false)
-    c.in-At.r role
-    c.in-At-purpose.p (sym (c.find_purpose-purpose.ensures.0 d.purposes np) ∙ ap found_as c.in-At-purpose.is)
-    (user_of_known d (word_of a.query.now a.q.head.user) (word_of a.query.now a.q.head.role) c.in-At.r role ∙ sym (c.find_user-user.ensures.0 d d.users nu) ∙ ap found_as c.in-Nothing.is)
+    c.in-Some.r role
+    c.in-Some-purpose.p (sym (c.find_purpose-purpose.ensures.0 d.purposes np) ∙ ap found_as c.in-Some-purpose.is)
+    (user_of_known d (word_of a.query.now a.q.head.user) (word_of a.query.now a.q.head.role) c.in-Some.r role ∙ sym (c.find_user-user.ensures.0 d d.users nu) ∙ ap found_as c.in_default-user.is)

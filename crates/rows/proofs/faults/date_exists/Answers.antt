@@ -1,13 +1,15 @@
 -- `rows::faults::date_exists` meets its contract: a date by its rank, and any other value has nothing to fail. Assumes nothing.
-use mathlib.Core.Path.{◌∙◌, sym}
-use Rattle.rows.proofs.RowTypes.{date_none, date_real, date_unreal}
+use mathlib.Core.Path.{◌∙◌, ◌≡◌, ap, sym}
+use Rattle.rows.proofs.RowTypes.{date_none, date_read, date_real, date_unreal}
+use Rattle.stepping.proofs.FoundLaws.{is_some_as}
 use Rattle.rows.proofs.faults.date_exists.Goals as goal
 
-pub returns-in-At : goal.returns-in-At
-returns-in-At c = let entry = c.args in sym (date_real entry.line.now entry.at _ _ (sym c.read_date-d.ensures ∙ c.in-At.is))
+pub returns-in_default : goal.returns-in_default
+returns-in_default c = let a = c.args in sym (date_none a.line.now a.at (sym c.read_date.ensures ∙ c.in_default.is))
 
-pub returns-in-NoSuchDate : goal.returns-in-NoSuchDate
-returns-in-NoSuchDate c = let entry = c.args in sym (date_unreal entry.line.now entry.at _ (sym c.read_date-d.ensures ∙ c.in-NoSuchDate.is))
-
-pub returns-in-Nothing : goal.returns-in-Nothing
-returns-in-Nothing c = let entry = c.args in sym (date_none entry.line.now entry.at (sym c.read_date-d.ensures ∙ c.in-Nothing.is))
+pub returns : goal.returns
+returns c = let a = c.args in
+    let read = sym c.read_date.ensures ∙ c.in-Some.is in
+    is_some_as c.is_some.ensures
+    (λ r h. date_real a.line.now a.at _ r (date_read a.line.now a.at read h))
+    (λ h. date_unreal a.line.now a.at _ (date_read a.line.now a.at read h))

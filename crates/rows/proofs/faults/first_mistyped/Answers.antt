@@ -46,9 +46,6 @@ returns-then-not-typed c = let entry = c.args in
       subst (λ (v : ℕ). v ≤ length s) (sym c.value_place-v.ensures) (place_within s (i + 1) (omega (arith, e.1))),
     )
 
-pub overflow_add-c : goal.overflow_add-c
-overflow_add-c c = omega (arith, c.loop-c-test.true, c.table_width-n.ensures.few)
-
 pub overflow_add-i-in-loop-c : goal.overflow_add-i-in-loop-c
 overflow_add-i-in-loop-c c = omega (
   arith,
@@ -56,9 +53,6 @@ overflow_add-i-in-loop-c c = omega (
       c.loop-c.i _ c.byte_at.ensures
       c.if-byte_at-ne32.false).1,
 )
-
-pub loop-c-smaller : goal.loop-c-smaller
-loop-c-smaller c = omega (arith, c.loop-c-test.true)
 
 pub loop-c-preserved : goal.loop-c-preserved
 loop-c-preserved c = let entry = c.args in

@@ -13,6 +13,3 @@ use Rattle.rows.proofs.faults.first_mistyped.Given as goal
 
 abbrev pub invariant-loop-c : goal.invariant-loop-c
 invariant-loop-c l = (text : List ℕ) (k : ℕ) (d : Policy) → Tables text l.tables k d.tables → l.t < k → mistyped_value (columns_at d l.t) (values_at l.line l.at) ≡ mistyped_value (drop l.c (columns_at d l.t)) (values_at l.line l.i)
-
-abbrev pub decreases-loop-c : goal.decreases-loop-c
-decreases-loop-c l = l.n - l.c

@@ -3,8 +3,8 @@ use mathlib.Core.Path.{◌∙◌, sym}
 use Rattle.rows.proofs.RowTypes.{order_none, order_range}
 use Rattle.rows.proofs.faults.in_order.Goals as goal
 
-pub returns-in-At : goal.returns-in-At
-returns-in-At c = let entry = c.args in sym (order_range entry.line.now entry.at _ _ _ (sym c.read_range-k.ensures ∙ c.in-At.is))
+pub returns-in-Some : goal.returns-in-Some
+returns-in-Some c = let entry = c.args in sym (order_range entry.line.now entry.at _ _ _ (sym c.read_range.ensures ∙ c.in-Some.is))
 
-pub returns-in-Nothing : goal.returns-in-Nothing
-returns-in-Nothing c = let entry = c.args in sym (order_none entry.line.now entry.at (sym c.read_range-k.ensures ∙ c.in-Nothing.is))
+pub returns-in-None : goal.returns-in-None
+returns-in-None c = let entry = c.args in sym (order_none entry.line.now entry.at (sym c.read_range.ensures ∙ c.in-None.is))

@@ -5,7 +5,7 @@ use mathlib.Core.Path.{◌∙◌, ap, refl, sym}
 use native.Mathlib.Omega.{arith}
 use Rattle.document.proofs.RowItems.{led_name}
 use Rattle.document.specs.Lookup.{label_of}
-use Rattle.workspace.specs.Found.{found_as}
+use Rattle.stepping.proofs.FoundLaws.{is_some_there}
 use Rattle.lists.specs.Lists.{there}
 use Rattle.text.proofs.OffendingLaws.{missing_nil}
 use Rattle.text.proofs.Spaces.{space_here}
@@ -28,28 +28,28 @@ overflow_add-result c = let entry = c.args in omega (
       (c.leads.ensures.0 c.if-not-leads.false).0).1,
 )
 
-pub returns-in-At : goal.returns-in-At
-unfolding label_of there unless
-returns-in-At c = let entry = c.args in
+pub returns-then-is_some : goal.returns-then-is_some
+unfolding label_of unless
+returns-then-is_some c = let entry = c.args in
     let s = entry.line.now in
     let at = entry.at in
     let l = c.leads.ensures.0 c.if-not-leads.false in (
       (λ sets d h. sym
           (ap (missing (λ w. there (label_of d w))) (led_name s at l.0 l.1 true l.2)
           ∙ one_missing (λ w. there (label_of d w)) (word_of s (at + 1)) true
-          (ap there (sym (c.find_label-f.ensures.0 sets d.labels h)) ∙ ap (λ f. there (found_as f)) c.in-At.is))),
+          (ap there (sym (c.find_label.ensures.0 sets d.labels h)) ∙ sym (c.is_some.ensures ∙ is_some_there c.find_label.result) ∙ c.if-is_some.true))),
       tt,
     )
 
-pub returns-in-Nothing : goal.returns-in-Nothing
-unfolding label_of there unless
-returns-in-Nothing c = let entry = c.args in
+pub returns : goal.returns
+unfolding label_of unless
+returns c = let entry = c.args in
     let s = entry.line.now in
     let at = entry.at in
     let l = c.leads.ensures.0 c.if-not-leads.false in (
       (λ sets d h. sym
           (ap (missing (λ w. there (label_of d w))) (led_name s at l.0 l.1 true l.2)
           ∙ one_missing (λ w. there (label_of d w)) (word_of s (at + 1)) false
-          (ap there (sym (c.find_label-f.ensures.0 sets d.labels h)) ∙ ap (λ f. there (found_as f)) c.in-Nothing.is))),
+          (ap there (sym (c.find_label.ensures.0 sets d.labels h)) ∙ sym (c.is_some.ensures ∙ is_some_there c.find_label.result) ∙ c.if-is_some.false))),
       omega (arith, (space_here s at _ refl l.0).1),
     )

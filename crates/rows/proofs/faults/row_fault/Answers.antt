@@ -22,60 +22,60 @@ returns-in_default c = let a = c.args in
     record {
       is = λ d h.
           row_no_table d s (word_of s a.t) (items_at s a.is) a.k h.2 c.if-k-ge-ROWS.false
-          (sym (c.find_table-found.ensures.0 d.policy.tables h.1) ∙ ap found_as c.in_default.is);
+          (sym (c.find_table.ensures.0 d.policy.tables h.1) ∙ ap found_as c.in_default.is);
       roomy = tt;
       reaches = λ p. p.0;
     }
 
-pub returns-in-At-unknown : goal.returns-in-At-unknown
+pub returns-in-Some-unknown_label : goal.returns-in-Some-unknown_label
 unfolding table_of
-returns-in-At-unknown c = let a = c.args in
+returns-in-Some-unknown_label c = let a = c.args in
     let s = a.line.now in
-    let q = c.find_table-found in
+    let q = c.find_table in
     record {
       is = λ d h.
           found_unknown a.text.now a.tables.now s a.tables_count a.k a.t (items_at s a.is) d h.1 h.2 c.if-k-ge-ROWS.false
-          q.result (q.ensures.0 d.policy.tables h.1) q.ensures.1 c.in-At.x c.in-At.is
+          q.result (q.ensures.0 d.policy.tables h.1) q.ensures.1 c.in-Some.x c.in-Some.is
           c.table_scheme-scheme.result c.table_scheme-scheme.ensures
-          c.unknown_label-unknown.result (λ l ls. c.unknown_label-unknown.ensures.0 h.0.0 d.policy l ls h.0.1)
-          c.in-At-unknown.p c.in-At-unknown.is;
+          c.unknown_label.result (λ l ls. c.unknown_label.ensures.0 h.0.0 d.policy l ls h.0.1)
+          c.in-Some-unknown_label.p c.in-Some-unknown_label.is;
       roomy = tt;
-      reaches = λ p. place_near s c.unknown_label-unknown.result c.unknown_label-unknown.ensures.1 c.in-At-unknown.p c.in-At-unknown.is;
+      reaches = λ p. place_near s c.unknown_label.result c.unknown_label.ensures.1 c.in-Some-unknown_label.p c.in-Some-unknown_label.is;
     }
 
 pub returns-then-not-row_fits : goal.returns-then-not-row_fits
 unfolding table_of
 returns-then-not-row_fits c = let a = c.args in
     let s = a.line.now in
-    let q = c.find_table-found in
+    let q = c.find_table in
     record {
       is = λ d h.
           found_misfit a.text.now a.tables.now s a.tables_count a.k a.t (items_at s a.is) d h.1 h.2 c.if-k-ge-ROWS.false
-          q.result (q.ensures.0 d.policy.tables h.1) q.ensures.1 c.in-At.x c.in-At.is
+          q.result (q.ensures.0 d.policy.tables h.1) q.ensures.1 c.in-Some.x c.in-Some.is
           c.table_scheme-scheme.result c.table_scheme-scheme.ensures
-          c.unknown_label-unknown.result (λ l ls. c.unknown_label-unknown.ensures.0 h.0.0 d.policy l ls h.0.1)
-          c.in_default-unknown.is c.table_width.result c.table_width.ensures c.row_fits.result c.row_fits.ensures
+          c.unknown_label.result (λ l ls. c.unknown_label.ensures.0 h.0.0 d.policy l ls h.0.1)
+          c.in_default-unknown_label.is c.table_width.result c.table_width.ensures c.row_fits.result c.row_fits.ensures
           c.if-not-row_fits.true;
       roomy = tt;
       reaches = λ p. tt;
     }
 
-pub returns-in-At-wrong : goal.returns-in-At-wrong
+pub returns-in-Some-first_mistyped : goal.returns-in-Some-first_mistyped
 unfolding table_of
-returns-in-At-wrong c = let a = c.args in
+returns-in-Some-first_mistyped c = let a = c.args in
     let s = a.line.now in
-    let q = c.find_table-found in
-    let m = c.first_mistyped-wrong in
+    let q = c.find_table in
+    let m = c.first_mistyped in
     record {
       is = λ d h.
           found_mistyped
           a.text.now a.tables.now s a.tables_count a.k a.t (items_at s a.is) d h.1 h.2 c.if-k-ge-ROWS.false
           q.result (q.ensures.0 d.policy.tables h.1) q.ensures.1
-          c.in-At.x
-          c.in-At.is
+          c.in-Some.x
+          c.in-Some.is
           c.table_scheme-scheme.result c.table_scheme-scheme.ensures
-          c.unknown_label-unknown.result (λ l ls. c.unknown_label-unknown.ensures.0 h.0.0 d.policy l ls h.0.1)
-          c.in_default-unknown.is
+          c.unknown_label.result (λ l ls. c.unknown_label.ensures.0 h.0.0 d.policy l ls h.0.1)
+          c.in_default-unknown_label.is
           c.table_width.result
           c.table_width.ensures
           c.row_fits.result
@@ -83,29 +83,29 @@ returns-in-At-wrong c = let a = c.args in
           c.if-not-row_fits.false
           c.values_start-start.result c.values_start-start.ensures
           m.result (λ l. m.ensures.0 a.text.now a.tables_count d.policy h.1 l)
-          c.in-At-wrong.p c.in-At-wrong.is;
+          c.in-Some-first_mistyped.p c.in-Some-first_mistyped.is;
       roomy = tt;
-      reaches = λ p. place_near s m.result m.ensures.1 c.in-At-wrong.p c.in-At-wrong.is;
+      reaches = λ p. place_near s m.result m.ensures.1 c.in-Some-first_mistyped.p c.in-Some-first_mistyped.is;
     }
 
-pub returns-in-At-broken : goal.returns-in-At-broken
+pub returns-in-Some-first_broken : goal.returns-in-Some-first_broken
 unfolding table_of
-returns-in-At-broken c = let a = c.args in
+returns-in-Some-first_broken c = let a = c.args in
     let s = a.line.now in
-    let q = c.find_table-found in
-    let m = c.first_mistyped-wrong in
-    let o = c.first_broken-broken in
+    let q = c.find_table in
+    let m = c.first_mistyped in
+    let o = c.first_broken in
     record {
       is = λ d h.
           found_broken
           a.text.now a.tables.now s a.tables_count a.k a.t (items_at s a.is) d h.1 h.2 c.if-k-ge-ROWS.false
           q.result (q.ensures.0 d.policy.tables h.1) q.ensures.1
-          c.in-At.x
-          c.in-At.is
+          c.in-Some.x
+          c.in-Some.is
           c.table_scheme-scheme.result c.table_scheme-scheme.ensures
-          c.unknown_label-unknown.result
-          (λ l ls. c.unknown_label-unknown.ensures.0 h.0.0 d.policy l ls h.0.1)
-          c.in_default-unknown.is
+          c.unknown_label.result
+          (λ l ls. c.unknown_label.ensures.0 h.0.0 d.policy l ls h.0.1)
+          c.in_default-unknown_label.is
           c.table_width.result
           c.table_width.ensures
           c.row_fits.result
@@ -113,30 +113,30 @@ returns-in-At-broken c = let a = c.args in
           c.if-not-row_fits.false
           c.values_start-start.result c.values_start-start.ensures
           m.result (λ l. m.ensures.0 a.text.now a.tables_count d.policy h.1 l)
-          c.in_default-wrong.is o.result o.ensures.0
-          c.in-At-broken.p c.in-At-broken.is;
+          c.in_default-first_mistyped.is o.result o.ensures.0
+          c.in-Some-first_broken.p c.in-Some-first_broken.is;
       roomy = tt;
-      reaches = λ p. place_near s o.result o.ensures.1 c.in-At-broken.p c.in-At-broken.is;
+      reaches = λ p. place_near s o.result o.ensures.1 c.in-Some-first_broken.p c.in-Some-first_broken.is;
     }
 
-pub returns-in-Nothing : goal.returns-in-Nothing
+pub returns : goal.returns
 unfolding table_of
-returns-in-Nothing c = let a = c.args in
+returns c = let a = c.args in
     let s = a.line.now in
-    let q = c.find_table-found in
-    let m = c.first_mistyped-wrong in
-    let o = c.first_broken-broken in
+    let q = c.find_table in
+    let m = c.first_mistyped in
+    let o = c.first_broken in
     record {
       is = λ d h.
           found_dated
           a.text.now a.tables.now s a.tables_count a.k a.t (items_at s a.is) d h.1 h.2 c.if-k-ge-ROWS.false
           q.result (q.ensures.0 d.policy.tables h.1) q.ensures.1
-          c.in-At.x
-          c.in-At.is
+          c.in-Some.x
+          c.in-Some.is
           c.table_scheme-scheme.result c.table_scheme-scheme.ensures
-          c.unknown_label-unknown.result
-          (λ l ls. c.unknown_label-unknown.ensures.0 h.0.0 d.policy l ls h.0.1)
-          c.in_default-unknown.is
+          c.unknown_label.result
+          (λ l ls. c.unknown_label.ensures.0 h.0.0 d.policy l ls h.0.1)
+          c.in_default-unknown_label.is
           c.table_width.result
           c.table_width.ensures
           c.row_fits.result
@@ -144,8 +144,8 @@ returns-in-Nothing c = let a = c.args in
           c.if-not-row_fits.false
           c.values_start-start.result c.values_start-start.ensures
           m.result (λ l. m.ensures.0 a.text.now a.tables_count d.policy h.1 l)
-          c.in_default-wrong.is o.result o.ensures.0
-          c.in-Nothing.is c.date_fault.result c.date_fault.ensures;
+          c.in_default-first_mistyped.is o.result o.ensures.0
+          c.in_default-first_broken.is c.date_fault.result c.date_fault.ensures;
       roomy = dated_roomy s c.values_start-start.result c.date_fault.result a.k 1024
           c.date_fault.ensures
           c.if-k-ge-ROWS.false;

@@ -14,23 +14,23 @@ use mathlib.Core.List.{[]}
 use mathlib.Core.Path.{◌∙◌, ap, subst, sym}
 use Rattle.rows.proofs.faults.unknown_label.Goals as goal
 
-pub returns-in-At : goal.returns-in-At
+pub returns-in-Some : goal.returns-in-Some
 unfolding row_labels
-returns-in-At c = let entry = c.args in (
+returns-in-Some c = let entry = c.args in (
   λ sets d l ls h. sym (missing_first (λ w. there (label_of d w))
-      (word_of entry.line.now c.in-At.p)
+      (word_of entry.line.now c.in-Some.p)
       (cond (leads_label (scheme_by entry.scheme l ls)) (leading_name (items_at entry.line.now entry.at)) [])
       (cond (has_brackets (scheme_by entry.scheme l ls)) (bracket_labels (items_at entry.line.now entry.at)) [])
-      (sym (c.unknown_lead-first.ensures.0 sets d l ls h) ∙ ap (offending_of entry.line.now) c.in-At.is)),
-  subst (Near entry.line.now) c.in-At.is c.unknown_lead-first.ensures.1,
+      (sym (c.unknown_lead.ensures.0 sets d l ls h) ∙ ap (offending_of entry.line.now) c.in-Some.is)),
+  subst (Near entry.line.now) c.in-Some.is c.unknown_lead.ensures.1,
 )
 
-pub returns-in-Nothing : goal.returns-in-Nothing
+pub returns-in-None : goal.returns-in-None
 unfolding row_labels
-returns-in-Nothing c = let entry = c.args in (
+returns-in-None c = let entry = c.args in (
   λ sets d l ls h. c.unknown_bracket.ensures.0 sets d l ls h ∙ sym (missing_second (λ w. there (label_of d w))
       (cond (leads_label (scheme_by entry.scheme l ls)) (leading_name (items_at entry.line.now entry.at)) [])
       (cond (has_brackets (scheme_by entry.scheme l ls)) (bracket_labels (items_at entry.line.now entry.at)) [])
-      (sym (c.unknown_lead-first.ensures.0 sets d l ls h) ∙ ap (offending_of entry.line.now) c.in-Nothing.is)),
+      (sym (c.unknown_lead.ensures.0 sets d l ls h) ∙ ap (offending_of entry.line.now) c.in-None.is)),
   c.unknown_bracket.ensures.1,
 )

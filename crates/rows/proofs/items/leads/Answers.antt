@@ -2,6 +2,7 @@
 use Prim.Native.Nat.{◌+◌}
 use Rattle.document.proofs.RowItems.{bracket_behind, bracket_leading, led_name, led_values, no_leading, no_values_behind}
 use Rattle.lists.proofs.Tests.{true_not_false}
+use Rattle.stepping.proofs.FoundLaws.{is_some_false, is_some_true}
 use Rattle.text.proofs.CodeLaws.{word_at_lem, word_nothing}
 use Rattle.text.proofs.Spaces.{space_here}
 use Rattle.text.specs.Names.{is_name}
@@ -32,19 +33,13 @@ returns-then-byte_at-eq40 c = let entry = c.args in
 pub overflow_add-at-2 : goal.overflow_add-at-2
 overflow_add-at-2 c = let entry = c.args in omega (arith, (space_here entry.line.now entry.at _ c.byte_at.ensures c.if-byte_at-ne32.false).1)
 
-pub returns-in-At : goal.returns-in-At
-returns-in-At c = let entry = c.args in
+pub returns : goal.returns
+returns c = let entry = c.args in
     let s = entry.line.now in
     let at = entry.at in
     let e = sym c.byte_at.ensures ∙ c.if-byte_at-ne32.false in
-    let o : get_or s (at + 1) 0 ≡ 40 → ⊥ = λ z. c.if-byte_at-eq40.false (c.byte_at-2.ensures ∙ z) in
-    (λ z. (e, o, (word_at_lem s (at + 1) is_name _ (sym c.name_end-n.ensures ∙ c.in-At.is)).0), λ z. true_not_false refl z)
-
-pub returns-in-Nothing : goal.returns-in-Nothing
-returns-in-Nothing c = let entry = c.args in
-    let s = entry.line.now in
-    let at = entry.at in
-    let e = sym c.byte_at.ensures ∙ c.if-byte_at-ne32.false in
-    let o : get_or s (at + 1) 0 ≡ 40 → ⊥ = λ z. c.if-byte_at-eq40.false (c.byte_at-2.ensures ∙ z) in
-    let n = word_nothing s (at + 1) is_name (sym c.name_end-n.ensures ∙ c.in-Nothing.is) in
-    (λ z. true_not_false z refl, λ z. (led_name s at e o false n, led_values s at e o false n))
+    let o : get_or s (at + 1) 0 ≡ 40 → ⊥ = λ z. c.if-byte_at-eq40.false (c.byte_at-2.ensures ∙ z) in (
+      (λ z. (e, o, (word_at_lem s (at + 1) is_name _ (sym c.name_end.ensures ∙ (is_some_true c.is_some.ensures z).1)).0)),
+      (λ z. let n = word_nothing s (at + 1) is_name (sym c.name_end.ensures ∙ is_some_false c.is_some.ensures z) in
+          (led_name s at e o false n, led_values s at e o false n)),
+    )

@@ -12,41 +12,41 @@ unfolding form_at table_of
 returns-in_default c d held = let a = c.args in
     gives_refused (table_refused d _ _ a.query.now a.q.head.table (table_unknown d.policy (form_at a.query.now a.q) (nothing_found c.in_default.is (c.find_table-table.ensures.0 d.policy.tables held.tables)))) c.refused_at.ensures
 
-pub returns-in-At-unknown : goal.returns-in-At-unknown
+pub returns-in-Some-unknown : goal.returns-in-Some-unknown
 unfolding form_at table_of
-returns-in-At-unknown c d held = let a = c.args in
-    let table = table_found d.policy (form_at a.query.now a.q) c.in-At.is (c.find_table-table.ensures.0 d.policy.tables held.tables) c.find_table-table.ensures.1 in
+returns-in-Some-unknown c d held = let a = c.args in
+    let table = table_found d.policy (form_at a.query.now a.q) c.in-Some.is (c.find_table-table.ensures.0 d.policy.tables held.tables) c.find_table-table.ensures.1 in
     let placed = c.named_places-n.ensures held.query in
     let resolves = c.resolve_columns-unknown.ensures d.policy _ held.tables table.inside placed.small in
-    gives_refused (known_refused d _ _ a.query.now c.in-At-unknown.is (resolves_unknown a.q table placed resolves)) c.refused_at-in-At-unknown.ensures
+    gives_refused (known_refused d _ _ a.query.now c.in-Some-unknown.is (resolves_unknown a.q table placed resolves)) c.refused_at-in-Some-unknown.ensures
 
-pub returns-in-At-wrong : goal.returns-in-At-wrong
+pub returns-in-Some-wrong : goal.returns-in-Some-wrong
 unfolding form_at table_of
-returns-in-At-wrong c d held = let a = c.args in
-    let table = table_found d.policy (form_at a.query.now a.q) c.in-At.is (c.find_table-table.ensures.0 d.policy.tables held.tables) c.find_table-table.ensures.1 in
+returns-in-Some-wrong c d held = let a = c.args in
+    let table = table_found d.policy (form_at a.query.now a.q) c.in-Some.is (c.find_table-table.ensures.0 d.policy.tables held.tables) c.find_table-table.ensures.1 in
     let placed = c.named_places-n.ensures held.query in
     let resolves = c.resolve_columns-unknown.ensures d.policy _ held.tables table.inside placed.small in
     let columns = resolves_known a.q table placed resolves c.in_default-unknown.is in
     let read = c.read_tests.ensures a.text.now d.policy (comparable a.q held.query table columns placed.tests c.marking_of.result c.sought_in-s.ensures held.tables) in
     let types = types_judged a.q held.query table columns placed.tests c.mistyped_test-wrong.result c.marking_of.result c.sought_in-s.ensures read (c.mistyped_test-wrong.ensures a.query.now) in
-    gives_refused (known_passes d _ _ a.query.now c.in_default-unknown.is (resolves_unknown a.q table placed resolves) ∙ typed_refused d _ _ a.query.now c.in-At-wrong.is types) c.refused_written.ensures
+    gives_refused (known_passes d _ _ a.query.now c.in_default-unknown.is (resolves_unknown a.q table placed resolves) ∙ typed_refused d _ _ a.query.now c.in-Some-wrong.is types) c.refused_written.ensures
 
-pub returns-in-At-ranged : goal.returns-in-At-ranged
+pub returns-in-Some-ranged : goal.returns-in-Some-ranged
 unfolding form_at table_of
-returns-in-At-ranged c d held = let a = c.args in
-    let table = table_found d.policy (form_at a.query.now a.q) c.in-At.is (c.find_table-table.ensures.0 d.policy.tables held.tables) c.find_table-table.ensures.1 in
+returns-in-Some-ranged c d held = let a = c.args in
+    let table = table_found d.policy (form_at a.query.now a.q) c.in-Some.is (c.find_table-table.ensures.0 d.policy.tables held.tables) c.find_table-table.ensures.1 in
     let placed = c.named_places-n.ensures held.query in
     let resolves = c.resolve_columns-unknown.ensures d.policy _ held.tables table.inside placed.small in
     let columns = resolves_known a.q table placed resolves c.in_default-unknown.is in
     let read = c.read_tests.ensures a.text.now d.policy (comparable a.q held.query table columns placed.tests c.marking_of.result c.sought_in-s.ensures held.tables) in
     let types = types_judged a.q held.query table columns placed.tests c.mistyped_test-wrong.result c.marking_of.result c.sought_in-s.ensures read (c.mistyped_test-wrong.ensures a.query.now) in
     let ranges = ranges_judged d a.q table placed resolves c.in_default-unknown.is c.ranged_column-ranged.result c.takes_ranges-taken.result (c.takes_ranges-taken.ensures ∙ verb_is a.q _ c.marking_of.result c.sought_in-s.ensures) (c.ranged_column-ranged.ensures d a.query.now held.rows) in
-    gives_refused (known_passes d _ _ a.query.now c.in_default-unknown.is (resolves_unknown a.q table placed resolves) ∙ typed_passes d _ _ a.query.now c.in_default-wrong.is types ∙ plain_refused d _ _ a.query.now c.in-At-ranged.is ranges) c.refused_at-in-At-ranged.ensures
+    gives_refused (known_passes d _ _ a.query.now c.in_default-unknown.is (resolves_unknown a.q table placed resolves) ∙ typed_passes d _ _ a.query.now c.in_default-wrong.is types ∙ plain_refused d _ _ a.query.now c.in-Some-ranged.is ranges) c.refused_at-in-Some-ranged.ensures
 
-pub returns-in-At-absent : goal.returns-in-At-absent
+pub returns-in-Some-absent : goal.returns-in-Some-absent
 unfolding form_at table_of
-returns-in-At-absent c d held = let a = c.args in
-    let table = table_found d.policy (form_at a.query.now a.q) c.in-At.is (c.find_table-table.ensures.0 d.policy.tables held.tables) c.find_table-table.ensures.1 in
+returns-in-Some-absent c d held = let a = c.args in
+    let table = table_found d.policy (form_at a.query.now a.q) c.in-Some.is (c.find_table-table.ensures.0 d.policy.tables held.tables) c.find_table-table.ensures.1 in
     let placed = c.named_places-n.ensures held.query in
     let resolves = c.resolve_columns-unknown.ensures d.policy _ held.tables table.inside placed.small in
     let columns = resolves_known a.q table placed resolves c.in_default-unknown.is in
@@ -54,12 +54,12 @@ returns-in-At-absent c d held = let a = c.args in
     let types = types_judged a.q held.query table columns placed.tests c.mistyped_test-wrong.result c.marking_of.result c.sought_in-s.ensures read (c.mistyped_test-wrong.ensures a.query.now) in
     let ranges = ranges_judged d a.q table placed resolves c.in_default-unknown.is c.ranged_column-ranged.result c.takes_ranges-taken.result (c.takes_ranges-taken.ensures ∙ verb_is a.q _ c.marking_of.result c.sought_in-s.ensures) (c.ranged_column-ranged.ensures d a.query.now held.rows) in
     let dates = dates_judged a.q held.query table columns placed.tests c.missing_date-absent.result c.marking_of.result c.sought_in-s.ensures read c.missing_date-absent.ensures in
-    gives_refused (known_passes d _ _ a.query.now c.in_default-unknown.is (resolves_unknown a.q table placed resolves) ∙ typed_passes d _ _ a.query.now c.in_default-wrong.is types ∙ plain_passes d _ _ a.query.now c.in_default-ranged.is ranges ∙ dated_refused d _ _ a.query.now c.in-At-absent.is dates) c.refused_written-in-At-absent.ensures
+    gives_refused (known_passes d _ _ a.query.now c.in_default-unknown.is (resolves_unknown a.q table placed resolves) ∙ typed_passes d _ _ a.query.now c.in_default-wrong.is types ∙ plain_passes d _ _ a.query.now c.in_default-ranged.is ranges ∙ dated_refused d _ _ a.query.now c.in-Some-absent.is dates) c.refused_written-in-Some-absent.ensures
 
-pub returns-in-At-closed : goal.returns-in-At-closed
+pub returns-in-Some-closed : goal.returns-in-Some-closed
 unfolding form_at table_of
-returns-in-At-closed c d held = let a = c.args in
-    let table = table_found d.policy (form_at a.query.now a.q) c.in-At.is (c.find_table-table.ensures.0 d.policy.tables held.tables) c.find_table-table.ensures.1 in
+returns-in-Some-closed c d held = let a = c.args in
+    let table = table_found d.policy (form_at a.query.now a.q) c.in-Some.is (c.find_table-table.ensures.0 d.policy.tables held.tables) c.find_table-table.ensures.1 in
     let placed = c.named_places-n.ensures held.query in
     let resolves = c.resolve_columns-unknown.ensures d.policy _ held.tables table.inside placed.small in
     let columns = resolves_known a.q table placed resolves c.in_default-unknown.is in
@@ -68,12 +68,12 @@ returns-in-At-closed c d held = let a = c.args in
     let ranges = ranges_judged d a.q table placed resolves c.in_default-unknown.is c.ranged_column-ranged.result c.takes_ranges-taken.result (c.takes_ranges-taken.ensures ∙ verb_is a.q _ c.marking_of.result c.sought_in-s.ensures) (c.ranged_column-ranged.ensures d a.query.now held.rows) in
     let dates = dates_judged a.q held.query table columns placed.tests c.missing_date-absent.result c.marking_of.result c.sought_in-s.ensures read c.missing_date-absent.ensures in
     let closed = parts_judged a.q table placed resolves c.in_default-unknown.is c.closed_part-closed.result held.said (c.closed_part-closed.ensures d.policy a.text.now _ _ held.tables held.notes table.inside) in
-    gives_refused (known_passes d _ _ a.query.now c.in_default-unknown.is (resolves_unknown a.q table placed resolves) ∙ typed_passes d _ _ a.query.now c.in_default-wrong.is types ∙ plain_passes d _ _ a.query.now c.in_default-ranged.is ranges ∙ dated_passes d _ _ a.query.now c.in_default-absent.is dates ∙ open_refused d _ _ a.query.now c.in-At-closed.is closed) c.refused_at-in-At-closed.ensures
+    gives_refused (known_passes d _ _ a.query.now c.in_default-unknown.is (resolves_unknown a.q table placed resolves) ∙ typed_passes d _ _ a.query.now c.in_default-wrong.is types ∙ plain_passes d _ _ a.query.now c.in_default-ranged.is ranges ∙ dated_passes d _ _ a.query.now c.in_default-absent.is dates ∙ open_refused d _ _ a.query.now c.in-Some-closed.is closed) c.refused_at-in-Some-closed.ensures
 
 pub returns : goal.returns
 unfolding form_at table_of
 returns c d held = let a = c.args in
-    let table = table_found d.policy (form_at a.query.now a.q) c.in-At.is (c.find_table-table.ensures.0 d.policy.tables held.tables) c.find_table-table.ensures.1 in
+    let table = table_found d.policy (form_at a.query.now a.q) c.in-Some.is (c.find_table-table.ensures.0 d.policy.tables held.tables) c.find_table-table.ensures.1 in
     let placed = c.named_places-n.ensures held.query in
     let resolves = c.resolve_columns-unknown.ensures d.policy _ held.tables table.inside placed.small in
     let columns = resolves_known a.q table placed resolves c.in_default-unknown.is in

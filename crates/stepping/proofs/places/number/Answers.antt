@@ -3,10 +3,10 @@ use borrow.Author.Rules.{rules}
 use Rattle.lists.specs.Lists.{or_zero}
 use Rattle.stepping.proofs.places.number.Goals as goal
 
-pub returns-in-At : goal.returns-in-At
+pub returns-in-Some : goal.returns-in-Some
 unfolding or_zero
-returns-in-At c = search rules
+returns-in-Some c = search rules
 
-pub returns-in-Nothing : goal.returns-in-Nothing
+pub returns-in-None : goal.returns-in-None
 unfolding or_zero
-returns-in-Nothing c = search rules
+returns-in-None c = search rules

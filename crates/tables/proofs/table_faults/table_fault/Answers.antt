@@ -8,6 +8,7 @@ use Rattle.document.specs.Bounds.{over_bound}
 use Rattle.document.specs.Lookup.{table_of}
 use Rattle.document.specs.NameFaults.{taken}
 use Rattle.document.specs.Policy.{Doc}
+use Rattle.stepping.proofs.FoundLaws.{is_some_false, is_some_true}
 use Rattle.stepping.proofs.Judging.{judge_bound, judge_fine, judge_taken, judge_unknown}
 use Rattle.tables.proofs.TableLineLaws.{column_names, columns_words, fine_apart, table_again, table_late, table_placed, table_order, table_dated, table_many, table_room, table_root, table_taken, table_type, table_unknown, table_values, table_wide}
 use Rattle.stepping.specs.Places.{Near}
@@ -19,8 +20,7 @@ use Rattle.form.specs.TableWords.{column_words, table_line}
 use Rattle.text.specs.CodeEnds.{offending_of}
 use Rattle.text.specs.Offending.{repeated}
 use Rattle.text.specs.Words.{word_of}
-use Rattle.text.specs.declared.offending.Offending.{Offending}
-use Rattle.tables.proofs.table_faults.table_fault.Goals.{After-count_columns, After-first_repeat-again, Else-count_columns-gt-COLUMNS, In_default-again}
+use Rattle.tables.proofs.table_faults.table_fault.Goals.{After-count_columns, After-first_repeat, Else-count_columns-gt-COLUMNS, In_default}
 use Rattle.tables.proofs.table_faults.table_fault.Goals as goal
 
 pub returns-then-k-ge-TABLES : goal.returns-then-k-ge-TABLES
@@ -57,12 +57,12 @@ room : (c : Else-count_columns-gt-COLUMNS) (d : Doc) → Tables c.args.text.now
     c.args.l c.args.cs) ≡ false
 room c d h = let entry = c.args in table_room d entry.line.now entry.t entry.scheme entry.l entry.cs (omega (arith, c.if-k-ge-TABLES.false, tables_counted _ _ _ _ h)) (omega (arith, c.if-count_columns-gt-COLUMNS.false, c.count_columns.ensures ∙ ap (λ b. length (columns_by b c.args.line.now c.args.cs)) c.labels_columns-triple.ensures ∙ ap length (sym (columns_words c.args.line.now c.args.scheme c.args.cs))))
 
-pub returns-in-At : goal.returns-in-At
+pub returns-then-is_some : goal.returns-then-is_some
 unfolding table_of
-returns-in-At c = let entry = c.args in record {
+returns-then-is_some c = let entry = c.args in record {
   judges = record {
-    is = λ d h. judge_taken d entry.line.now (table_line entry.line.now entry.t entry.scheme entry.l entry.cs) (room (goal.at.returns-in-At c).Else-count_columns-gt-COLUMNS d h.1) (word_of entry.line.now entry.t)
-        (table_taken d entry.line.now entry.t entry.scheme entry.l entry.cs (found_as c.find_table-before.result) _ (c.find_table-before.ensures.0 d.policy.tables h.1) (ap found_as c.in-At.is));
+    is = λ d h. judge_taken d entry.line.now (table_line entry.line.now entry.t entry.scheme entry.l entry.cs) (room (goal.at.returns-then-is_some c).Else-count_columns-gt-COLUMNS d h.1) (word_of entry.line.now entry.t)
+        (table_taken d entry.line.now entry.t entry.scheme entry.l entry.cs (found_as c.find_table.result) _ (c.find_table.ensures.0 d.policy.tables h.1) (ap found_as (is_some_true c.is_some.ensures c.if-is_some.true).1));
     roomy = tt;
     reaches = λ p. p.0;
   };
@@ -70,7 +70,7 @@ returns-in-At c = let entry = c.args in record {
 }
 
 -- what is taken is the name of a column that stood before
-repeats : (c : After-first_repeat-again) (d : Doc) → Tables
+repeats : (c : After-first_repeat) (d : Doc) → Tables
     c.args.text.now
     c.args.tables.now
     c.args.k d.policy.tables → taken d.policy (table_line
@@ -79,7 +79,7 @@ repeats : (c : After-first_repeat-again) (d : Doc) → Tables
     c.args.scheme
     c.args.l
     c.args.cs) ≡ offending_of
-    c.args.line.now c.first_repeat-again.result
+    c.args.line.now c.first_repeat.result
 unfolding table_of
 repeats c d h =
     table_again d c.args.line.now
@@ -87,7 +87,7 @@ repeats c d h =
     c.args.scheme
     c.args.l
     c.args.cs
-    (sym (ap found_as c.in_default.is) ∙ c.find_table-before.ensures.0 d.policy.tables h)
+    (sym (ap found_as (is_some_false c.is_some.ensures c.if-is_some.false)) ∙ c.find_table.ensures.0 d.policy.tables h)
     ∙ ap (λ cs. repeated (column_names cs)) (columns_words
     c.args.line.now
     c.args.scheme
@@ -95,21 +95,21 @@ repeats c d h =
     ∙ ap
     (λ b. repeated (column_names (columns_by b c.args.line.now c.args.cs)))
     (sym c.labels_columns-triple.ensures)
-    ∙ sym c.first_repeat-again.ensures.0
+    ∙ sym c.first_repeat.ensures.0
 
-pub returns-in-At-again : goal.returns-in-At-again
-returns-in-At-again c = let entry = c.args in record {
+pub returns-in-Some : goal.returns-in-Some
+returns-in-Some c = let entry = c.args in record {
   judges = record {
-    is = λ d h. judge_taken d entry.line.now (table_line entry.line.now entry.t entry.scheme entry.l entry.cs) (room (goal.at.returns-in-At-again c).Else-count_columns-gt-COLUMNS d h.1) (word_of entry.line.now c.in-At-again.p)
-        (repeats (goal.at.returns-in-At-again c).After-first_repeat-again d h.1 ∙ ap (offending_of entry.line.now) c.in-At-again.is);
+    is = λ d h. judge_taken d entry.line.now (table_line entry.line.now entry.t entry.scheme entry.l entry.cs) (room (goal.at.returns-in-Some c).Else-count_columns-gt-COLUMNS d h.1) (word_of entry.line.now c.in-Some.p)
+        (repeats (goal.at.returns-in-Some c).After-first_repeat d h.1 ∙ ap (offending_of entry.line.now) c.in-Some.is);
     roomy = tt;
-    reaches = λ p. subst (λ (f : Offending). Near entry.line.now f) c.in-At-again.is c.first_repeat-again.ensures.1;
+    reaches = λ p. subst (Near entry.line.now) c.in-Some.is c.first_repeat.ensures.1;
   };
   narrow = fine_apart _;
 }
 
 -- no name is taken
-fresh : (c : In_default-again) (d : Doc) → Tables
+fresh : (c : In_default) (d : Doc) → Tables
     c.args.text.now
     c.args.tables.now
     c.args.k d.policy.tables → taken
@@ -125,7 +125,7 @@ fresh c d h =
     c.args.scheme
     c.args.l
     c.args.cs
-    (sym (ap found_as c.in_default.is) ∙ c.find_table-before.ensures.0 d.policy.tables h)
+    (sym (ap found_as (is_some_false c.is_some.ensures c.if-is_some.false)) ∙ c.find_table.ensures.0 d.policy.tables h)
     ∙ ap (λ cs. repeated (column_names cs)) (columns_words
     c.args.line.now
     c.args.scheme
@@ -133,17 +133,17 @@ fresh c d h =
     ∙ ap
     (λ b. repeated (column_names (columns_by b c.args.line.now c.args.cs)))
     (sym c.labels_columns-triple.ensures)
-    ∙ sym c.first_repeat-again.ensures.0 ∙ ap (offending_of c.args.line.now) c.in_default-again.is
+    ∙ sym c.first_repeat.ensures.0 ∙ ap (offending_of c.args.line.now) c.in_default.is
 
-pub returns-in-At-unknown : goal.returns-in-At-unknown
-returns-in-At-unknown c = let entry = c.args in record {
+pub returns-in-Some-unknown_label : goal.returns-in-Some-unknown_label
+returns-in-Some-unknown_label c = let entry = c.args in record {
   judges = record {
     is = λ d h. judge_unknown d entry.line.now (table_line entry.line.now entry.t entry.scheme entry.l entry.cs)
-        (room (goal.at.returns-in-At-unknown c).Else-count_columns-gt-COLUMNS d h.1)
-        (fresh (goal.at.returns-in-At-unknown c).In_default-again d h.1) (word_of entry.line.now c.in-At-unknown.p)
-        (table_unknown d entry.line.now entry.t entry.scheme entry.l entry.cs ∙ sym (c.unknown_label-unknown.ensures.0 h.0.0 d.policy.labels h.0.1) ∙ ap (offending_of entry.line.now) c.in-At-unknown.is);
+        (room (goal.at.returns-in-Some-unknown_label c).Else-count_columns-gt-COLUMNS d h.1)
+        (fresh (goal.at.returns-in-Some-unknown_label c).In_default d h.1) (word_of entry.line.now c.in-Some-unknown_label.p)
+        (table_unknown d entry.line.now entry.t entry.scheme entry.l entry.cs ∙ sym (c.unknown_label.ensures.0 h.0.0 d.policy.labels h.0.1) ∙ ap (offending_of entry.line.now) c.in-Some-unknown_label.is);
     roomy = tt;
-    reaches = λ p. subst (λ (f : Offending). Near entry.line.now f) c.in-At-unknown.is (c.unknown_label-unknown.ensures.1 p.1);
+    reaches = λ p. subst (Near entry.line.now) c.in-Some-unknown_label.is (c.unknown_label.ensures.1 p.1);
   };
   narrow = fine_apart _;
 }
@@ -151,8 +151,8 @@ returns-in-At-unknown c = let entry = c.args in record {
 pub returns : goal.returns
 returns c = let entry = c.args in record {
   judges = record {
-    is = λ d h. judge_fine d entry.line.now (table_line entry.line.now entry.t entry.scheme entry.l entry.cs) (room (goal.at.returns c).Else-count_columns-gt-COLUMNS d h.1) (fresh (goal.at.returns c).In_default-again d h.1)
-        (table_unknown d entry.line.now entry.t entry.scheme entry.l entry.cs ∙ sym (c.unknown_label-unknown.ensures.0 h.0.0 d.policy.labels h.0.1) ∙ ap (offending_of entry.line.now) c.in_default-unknown.is)
+    is = λ d h. judge_fine d entry.line.now (table_line entry.line.now entry.t entry.scheme entry.l entry.cs) (room (goal.at.returns c).Else-count_columns-gt-COLUMNS d h.1) (fresh (goal.at.returns c).In_default d h.1)
+        (table_unknown d entry.line.now entry.t entry.scheme entry.l entry.cs ∙ sym (c.unknown_label.ensures.0 h.0.0 d.policy.labels h.0.1) ∙ ap (offending_of entry.line.now) c.in_default-unknown_label.is)
         (table_root d entry.line.now entry.t entry.scheme entry.l entry.cs)
         (table_values d entry.line.now entry.t entry.scheme entry.l entry.cs)
         (table_type d entry.line.now entry.t entry.scheme entry.l entry.cs)

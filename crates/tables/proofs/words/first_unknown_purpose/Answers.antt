@@ -3,7 +3,7 @@
 use Prim.Native.Nat.{◌-◌}
 use mathlib.Core.Path.{◌∙◌, refl, sym}
 use native.Mathlib.Omega.{arith}
-use Rattle.stepping.proofs.FoundLaws.{found_absent, found_there}
+use Rattle.stepping.proofs.FoundLaws.{found_absent, found_there, is_none_false, is_none_true}
 use Rattle.tables.proofs.NameWalks.{unknown_here, unknown_on, unknown_stop}
 use Rattle.nodes.proofs.NodeFaults.{is_node}
 use Rattle.text.proofs.Spaces.{space_here}
@@ -17,12 +17,12 @@ overflow_add-v c = let s = c.args.line.now in
     let j = c.loop-v.j in
     omega (arith, (space_here s j _ c.byte_at.ensures c.loop-v-test.true).1)
 
-pub returns-in-Nothing : goal.returns-in-Nothing
-returns-in-Nothing c = let s = c.args.line.now in
+pub returns-then-is_none : goal.returns-then-is_none
+returns-then-is_none c = let s = c.args.line.now in
     let j = c.loop-v.j in (
       λ ns h. sym (unknown_here (is_node ns) s j
           (space_here s j _ c.byte_at.ensures c.loop-v-test.true).0
-          (found_absent c.find_purpose.result _ (c.find_purpose.ensures.0 ns h) c.in-Nothing.is)) ∙ c.loop-v.invariant ns h,
+          (found_absent c.find_purpose.result _ (c.find_purpose.ensures.0 ns h) (is_none_true c.is_none.ensures c.if-is_none.true))) ∙ c.loop-v.invariant ns h,
       omega
           (arith, (space_here s j _ c.byte_at.ensures c.loop-v-test.true).1),
     )
@@ -35,9 +35,10 @@ loop-v-smaller c = let s = c.args.line.now in
 pub loop-v-preserved : goal.loop-v-preserved
 loop-v-preserved c = let s = c.args.line.now in
     let j = c.loop-v.j in
+    let there = is_none_false c.is_none.ensures c.if-is_none.false in
     λ ns h. unknown_on (is_node ns) s j c.word_end-j.result c.word_end-j.ensures
     (space_here s j _ c.byte_at.ensures c.loop-v-test.true).0
-    (found_there c.find_purpose.result _ (c.find_purpose.ensures.0 ns h) c.in_default.field-0 c.in_default.is) ∙ c.loop-v.invariant ns h
+    (found_there c.find_purpose.result _ (c.find_purpose.ensures.0 ns h) there.0 there.1) ∙ c.loop-v.invariant ns h
 
 pub returns : goal.returns
 returns c = let s = c.args.line.now in

@@ -5,8 +5,8 @@ use Rattle.text.specs.Amounts.{range}
 use Rattle.text.specs.Reader.{from}
 use Rattle.text.proofs.amounts.range_end.Goals as goal
 
-pub returns-in-At : goal.returns-in-At
-returns-in-At c = span_at (range (from c.args.s.now c.args.at)) _ _ _ (sym c.read_range-k.ensures ∙ c.in-At.is)
+pub returns : goal.returns
+returns c = span_at (range (from c.args.s.now c.args.at)) _ _ _ (sym c.read_range.ensures ∙ c.in_ok-e.was)
 
-pub returns-in-Nothing : goal.returns-in-Nothing
-returns-in-Nothing c = span_nothing (range (from c.args.s.now c.args.at)) (sym c.read_range-k.ensures ∙ c.in-Nothing.is)
+pub returns-in_err-e : goal.returns-in_err-e
+returns-in_err-e c = c.from_residual.ensures ∙ span_nothing (range (from c.args.s.now c.args.at)) (sym c.read_range.ensures ∙ c.in_err-e.was)

@@ -20,54 +20,54 @@ overflow_add-at c = let s = c.args.s.now in
     let a : get_or c.args.s.now c.args.at 0 ≡ 40 = sym c.byte_at.ensures ∙ c.if-byte_at-ne40.false in
     omega (arith, before_end s at (λ z. absurd (omega (arith, a, z))))
 
-pub returns-in_default : goal.returns-in_default
-returns-in_default c = let s = c.args.s.now in
+pub returns-in_err-e : goal.returns-in_err-e
+returns-in_err-e c = let s = c.args.s.now in
     let at = c.args.at in
     let a : get_or c.args.s.now c.args.at 0 ≡ 40 = sym c.byte_at.ensures ∙ c.if-byte_at-ne40.false in
-    sym (ap end_of_range (range_no_low s at a (number_none s (at + 1) (sym c.read_number-l.ensures ∙ c.in_default.is))))
+    c.from_residual.ensures ∙ sym (ap end_of_range (range_no_low s at a (number_none s (at + 1) (sym c.read_number.ensures ∙ c.in_err-e.was))))
 
 pub returns-then-byte_at-ne32 : goal.returns-then-byte_at-ne32
 returns-then-byte_at-ne32 c = let s = c.args.s.now in
     let at = c.args.at in
     let a : get_or c.args.s.now c.args.at 0 ≡ 40 = sym c.byte_at.ensures ∙ c.if-byte_at-ne40.false in
-    let b = number_to s (at + 1) c.in-At.e c.in-At.low (sym c.read_number-l.ensures ∙ c.in-At.is) in
+    let b = number_to s (at + 1) c.in_ok-e.e c.in_ok-e.low (sym c.read_number.ensures ∙ c.in_ok-e.was) in
     sym (ap end_of_range (range_unspaced s at a b (λ z. c.if-byte_at-ne32.true (c.byte_at-2.ensures ∙ z))))
 
 pub overflow_add-e : goal.overflow_add-e
 overflow_add-e c = let s = c.args.s.now in
     let at = c.args.at in
-    let d : get_or c.args.s.now c.in-At.e 0 ≡ 32 = sym c.byte_at-2.ensures ∙ c.if-byte_at-ne32.false in
-    omega (arith, before_end s c.in-At.e (λ z. absurd (omega (arith, d, z))))
+    let d : get_or c.args.s.now c.in_ok-e.e 0 ≡ 32 = sym c.byte_at-2.ensures ∙ c.if-byte_at-ne32.false in
+    omega (arith, before_end s c.in_ok-e.e (λ z. absurd (omega (arith, d, z))))
 
-pub returns-in_default-h : goal.returns-in_default-h
-returns-in_default-h c = let s = c.args.s.now in
+pub returns-in_err-f : goal.returns-in_err-f
+returns-in_err-f c = let s = c.args.s.now in
     let at = c.args.at in
     let a : get_or c.args.s.now c.args.at 0 ≡ 40 = sym c.byte_at.ensures ∙ c.if-byte_at-ne40.false in
-    let b = number_to s (at + 1) c.in-At.e c.in-At.low (sym c.read_number-l.ensures ∙ c.in-At.is) in
-    let d : get_or c.args.s.now c.in-At.e 0 ≡ 32 = sym c.byte_at-2.ensures ∙ c.if-byte_at-ne32.false in
-    sym (ap end_of_range (range_no_high s at a b d (number_none s (c.in-At.e + 1) (sym c.read_number-h.ensures ∙ c.in_default-h.is))))
+    let b = number_to s (at + 1) c.in_ok-e.e c.in_ok-e.low (sym c.read_number.ensures ∙ c.in_ok-e.was) in
+    let d : get_or c.args.s.now c.in_ok-e.e 0 ≡ 32 = sym c.byte_at-2.ensures ∙ c.if-byte_at-ne32.false in
+    c.from_residual-in_err-f.ensures ∙ sym (ap end_of_range (range_no_high s at a b d (number_none s (c.in_ok-e.e + 1) (sym c.read_number-2.ensures ∙ c.in_err-f.was))))
 
 pub returns-then-byte_at-ne41 : goal.returns-then-byte_at-ne41
 returns-then-byte_at-ne41 c = let s = c.args.s.now in
     let at = c.args.at in
     let a : get_or c.args.s.now c.args.at 0 ≡ 40 = sym c.byte_at.ensures ∙ c.if-byte_at-ne40.false in
-    let b = number_to s (at + 1) c.in-At.e c.in-At.low (sym c.read_number-l.ensures ∙ c.in-At.is) in
-    let d : get_or c.args.s.now c.in-At.e 0 ≡ 32 = sym c.byte_at-2.ensures ∙ c.if-byte_at-ne32.false in
-    let e = number_to s (c.in-At.e + 1) c.in-At-h.f c.in-At-h.high (sym c.read_number-h.ensures ∙ c.in-At-h.is) in
+    let b = number_to s (at + 1) c.in_ok-e.e c.in_ok-e.low (sym c.read_number.ensures ∙ c.in_ok-e.was) in
+    let d : get_or c.args.s.now c.in_ok-e.e 0 ≡ 32 = sym c.byte_at-2.ensures ∙ c.if-byte_at-ne32.false in
+    let e = number_to s (c.in_ok-e.e + 1) c.in_ok-f.f c.in_ok-f.high (sym c.read_number-2.ensures ∙ c.in_ok-f.was) in
     sym (ap end_of_range (range_unclosed s at a b d e (λ z. c.if-byte_at-ne41.true (c.byte_at-3.ensures ∙ z))))
 
 pub overflow_add-result : goal.overflow_add-result
 overflow_add-result c = let s = c.args.s.now in
     let at = c.args.at in
-    let g : get_or c.args.s.now c.in-At-h.f 0 ≡ 41 = sym c.byte_at-3.ensures ∙ c.if-byte_at-ne41.false in
-    omega (arith, before_end s c.in-At-h.f (λ z. absurd (omega (arith, g, z))))
+    let g : get_or c.args.s.now c.in_ok-f.f 0 ≡ 41 = sym c.byte_at-3.ensures ∙ c.if-byte_at-ne41.false in
+    omega (arith, before_end s c.in_ok-f.f (λ z. absurd (omega (arith, g, z))))
 
 pub returns : goal.returns
 returns c = let s = c.args.s.now in
     let at = c.args.at in
     let a : get_or c.args.s.now c.args.at 0 ≡ 40 = sym c.byte_at.ensures ∙ c.if-byte_at-ne40.false in
-    let b = number_to s (at + 1) c.in-At.e c.in-At.low (sym c.read_number-l.ensures ∙ c.in-At.is) in
-    let d : get_or c.args.s.now c.in-At.e 0 ≡ 32 = sym c.byte_at-2.ensures ∙ c.if-byte_at-ne32.false in
-    let e = number_to s (c.in-At.e + 1) c.in-At-h.f c.in-At-h.high (sym c.read_number-h.ensures ∙ c.in-At-h.is) in
-    let g : get_or c.args.s.now c.in-At-h.f 0 ≡ 41 = sym c.byte_at-3.ensures ∙ c.if-byte_at-ne41.false in
+    let b = number_to s (at + 1) c.in_ok-e.e c.in_ok-e.low (sym c.read_number.ensures ∙ c.in_ok-e.was) in
+    let d : get_or c.args.s.now c.in_ok-e.e 0 ≡ 32 = sym c.byte_at-2.ensures ∙ c.if-byte_at-ne32.false in
+    let e = number_to s (c.in_ok-e.e + 1) c.in_ok-f.f c.in_ok-f.high (sym c.read_number-2.ensures ∙ c.in_ok-f.was) in
+    let g : get_or c.args.s.now c.in_ok-f.f 0 ≡ 41 = sym c.byte_at-3.ensures ∙ c.if-byte_at-ne41.false in
     sym (ap end_of_range (range_read s at a b d e g))

@@ -21,16 +21,16 @@ overflow_add-at c = omega (arith, (space_here c.args.s.now c.args.at _ c.byte_at
 pub overflow_add-result : goal.overflow_add-result
 overflow_add-result c = omega (arith, (space_here c.args.s.now c.args.at _ c.byte_at.ensures c.if-byte_at-ne32.false).1)
 
-pub returns-in-At : goal.returns-in-At
-returns-in-At c = let s = c.args.s.now in
+pub returns : goal.returns
+returns c = let s = c.args.s.now in
     let at = c.args.at in
     let h = space_here s at _ c.byte_at.ensures c.if-byte_at-ne32.false in
-    let k = word_to s (at + 1) is_name c.in-At.e (sym c.name_end-n.ensures ∙ c.in-At.is) in
+    let k = word_to s (at + 1) is_name c.in_ok-e.e (sym c.name_end.ensures ∙ c.in_ok-e.was) in
     rw (optional_here name s at h.0, k)
 
-pub returns-in-Nothing : goal.returns-in-Nothing
-returns-in-Nothing c = let s = c.args.s.now in
+pub returns-in_err-e : goal.returns-in_err-e
+returns-in_err-e c = let s = c.args.s.now in
     let at = c.args.at in
     let h = space_here s at _ c.byte_at.ensures c.if-byte_at-ne32.false in
-    let k = word_none s (at + 1) is_name (sym c.name_end-n.ensures ∙ c.in-Nothing.is) in
-    rw (optional_here name s at h.0, k)
+    let k = word_none s (at + 1) is_name (sym c.name_end.ensures ∙ c.in_err-e.was) in
+    c.from_residual.ensures ∙ rw (optional_here name s at h.0, k)

@@ -55,12 +55,6 @@ turn c =
 pub overflow_add-x : goal.overflow_add-x
 overflow_add-x c = omega (arith, (turn c).0)
 
-pub overflow_add-k : goal.overflow_add-k
-overflow_add-k c = omega arith
-
-pub loop-k-smaller : goal.loop-k-smaller
-loop-k-smaller c = omega arith
-
 pub loop-k-preserved : goal.loop-k-preserved
 loop-k-preserved c = sym (turn c).1 ∙ c.loop-k.invariant
 

@@ -8,7 +8,7 @@ use Rattle.text.proofs.Lefts.{test_of}
 use Rattle.text.proofs.WordLaws.{is_name_lem, not_name_letter, not_name_long, word_read, word_refused}
 use Rattle.text.specs.Bytes.{is_letter}
 use Rattle.text.specs.Names.{is_name}
-use Rattle.text.specs.declared.words.End.TheVariants.{At}
+use Rattle.std.specs.Prelude.{Some}
 use Rattle.text.proofs.words.name_end.Goals as goal
 
 pub returns-then-end-at-le24 : goal.returns-then-end-at-le24
@@ -16,7 +16,7 @@ returns-then-end-at-le24 c = let s = c.args.s.now in
     let at = c.args.at in
     let h : is_letter (get_or s at 0) ≡ true = test_of is_letter c.byte_at.ensures c.is_letter.ensures c.if-is_letter.true in
     let e = c.word_end-end.ensures in
-    rw (word_read s at is_name (is_name_lem s at h (omega arith))) (ap At e)
+    rw (word_read s at is_name (is_name_lem s at h (omega arith))) (ap Some e)
 
 pub returns-else-end-at-le24 : goal.returns-else-end-at-le24
 returns-else-end-at-le24 c = let s = c.args.s.now in

@@ -1,6 +1,6 @@
 -- `text::words::word_end` meets its contract. The loop's invariant: the word from the loop's place on ends where the whole word ends.
 -- Assumes nothing.
-use Prim.Native.Nat.{◌+◌, ◌-◌}
+use Prim.Native.Nat.{◌+◌}
 use lib.ListN.{length}
 use mathlib.Core.Path.{◌≡◌}
 use Rattle.text.specs.Words.{word_at}
@@ -8,6 +8,3 @@ use Rattle.text.proofs.words.word_end.Given as goal
 
 abbrev pub invariant-loop-i : goal.invariant-loop-i
 invariant-loop-i l = l.i + length (word_at l.s l.i) ≡ l.at + length (word_at l.s l.at)
-
-abbrev pub decreases-loop-i : goal.decreases-loop-i
-decreases-loop-i l = length l.s - l.i

@@ -1,10 +1,11 @@
 -- `walks::cells::take_cells` meets its contract. The loop's invariant: the rows before this one stay, and the cells that were passed
 -- are read, judged and stored. Assumes nothing.
 use Prim.Native.Nat.{◌+◌, ◌-◌}
-use mathlib.Core.Path.{◌∙◌, ◌≡◌, sym}
+use mathlib.Core.Path.{◌∙◌, ◌≡◌, subst, sym}
 use native.Mathlib.Omega.{arith}
 use Rattle.condition.specs.Answers.{kind_of}
 use Rattle.walks.proofs.CellTurns.{all_cells_passed, cells_turn, label_at, no_cells_passed}
+use Rattle.walks.specs.Walked.{CellsWalked}
 use Rattle.text.proofs.Lefts.{before_end}
 use Rattle.text.proofs.Spaces.{space_here}
 use Rattle.walks.proofs.cells.take_cells.Goals as goal
@@ -24,22 +25,22 @@ returns-then-byte_at-ne40 c = (c.loop-c.invariant.2, λ d count sets ls l N T b 
 pub overflow_add-v : goal.overflow_add-v
 overflow_add-v c = omega (arith, before_end c.args.line.now (c.loop-c.j + 1) (λ z. absurd (omega (arith, z, c.byte_at-in-loop-c.ensures, c.if-byte_at-ne40.false))))
 
-pub returns-in_default : goal.returns-in_default
-returns-in_default c = (c.loop-c.invariant.2, λ d count sets ls l N T b w small h. tt)
+pub returns-in_err-e : goal.returns-in_err-e
+returns-in_err-e c = (c.loop-c.invariant.2, λ d count sets ls l N T b w small h. subst (CellsWalked _ _ _ _ _ _ _ _ _ _ _) (sym c.from_residual.ensures) tt)
 
 pub overflow_add-m : goal.overflow_add-m
 overflow_add-m c = omega (arith, c.loop-c-test.true, c.requires, c.ranges.n)
 
-pub returns-in_default-l : goal.returns-in_default-l
-returns-in_default-l c = (
-  λ rs h. c.take_label-l.ensures.0 rs
+pub returns-in_err-f : goal.returns-in_err-f
+returns-in_err-f c = (
+  λ rs h. c.take_label.ensures.0 rs
       (c.set_value.ensures.kept _ _ rs (omega arith) (c.loop-c.invariant.2 rs h)),
-  λ d count sets ls l N T b w small h. tt,
+  λ d count sets ls l N T b w small h. subst (CellsWalked _ _ _ _ _ _ _ _ _ _ _) (sym c.from_residual-in_err-f.ensures) tt,
 )
 
 pub returns-then-byte_at-ne41 : goal.returns-then-byte_at-ne41
 returns-then-byte_at-ne41 c = (
-  λ rs h. c.take_label-l.ensures.0 rs
+  λ rs h. c.take_label.ensures.0 rs
       (c.set_value.ensures.kept _ _ rs (omega arith)
       (c.loop-c.invariant.2 rs h)),
   λ d count sets ls l N T b w small h. tt,
@@ -50,29 +51,23 @@ overflow_add-j-in-loop-c c = omega (
   arith,
   before_end
       c.args.line.now
-      c.in-At-l.f
+      c.in_ok-f.f
       (λ z. absurd (omega (arith, z, c.byte_at-in-loop-c-2.ensures, c.if-byte_at-ne41.false))),
   c.loop-c.invariant.1,
 )
-
-pub overflow_add-c : goal.overflow_add-c
-overflow_add-c c = omega (arith, c.loop-c-test.true, c.ranges.n)
-
-pub loop-c-smaller : goal.loop-c-smaller
-loop-c-smaller c = omega (arith, c.loop-c-test.true)
 
 pub loop-c-preserved : goal.loop-c-preserved
 loop-c-preserved c = (
   omega (arith, c.loop-c-test.true),
   c.loop-c.invariant.1,
-  λ rs h. c.take_label-l.ensures.0 rs
+  λ rs h. c.take_label.ensures.0 rs
       (c.set_value.ensures.kept _ _ rs (omega arith) (c.loop-c.invariant.2 rs h)),
   λ d count sets ls l N T b w small h.
       cells_turn d T b w ls c.args.is c.loop-c.j (kind_of c.column_kind-kind.result) l small c.requires c.loop-c-test.true (sym c.byte_at.ensures ∙ c.if-byte_at-ne32.false) (sym c.byte_at-in-loop-c.ensures ∙ c.if-byte_at-ne40.false) c.column_kind-kind.ensures
-      (sym c.typed_end-r.ensures ∙ c.in-At.is)
+      (sym c.typed_end.ensures ∙ c.in_ok-e.was)
       c.place-pos.ensures
       c.set_value.ensures
-      (label_at c.in-At-l.is (c.take_label-l.ensures.1 d sets N))
+      (label_at c.in_ok-f.was (c.take_label.ensures.1 d sets N))
       (sym c.byte_at-in-loop-c-2.ensures ∙ c.if-byte_at-ne41.false)
       (c.loop-c.invariant.3 d count sets ls l N T b w small h),
 )

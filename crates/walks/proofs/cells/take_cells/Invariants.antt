@@ -21,6 +21,3 @@ invariant-loop-c l = (l.c ≤ l.n)
     × ((d : Policy) (count : ℕ) (sets ls : List ℕ) → LineAt l.text l.at l.line → Labels l.text l.labels sets l.labels_count d.labels → Tables l.text l.tables count
     d.tables → l.x < count → l.n ≡ length
     (columns_at d l.x) → l.k < 1024 → FillingRow l.text l.initial.rows l.k 0 l.m [] ls → CellsPassed l.text l.initial.rows l.rows l.line l.k l.n l.m ls l.c d (columns_at d l.x) l.is l.j)
-
-abbrev pub decreases-loop-c : goal.decreases-loop-c
-decreases-loop-c l = l.n - l.c

@@ -1,11 +1,12 @@
 -- `walks::cells::take_values` meets its contract. The loop's invariant: the values that were passed are of their columns' types and
 -- stored, and the others are left. Assumes nothing.
 use Prim.Native.Nat.{◌-◌}
-use mathlib.Core.Path.{◌∙◌, sym}
+use mathlib.Core.Path.{◌∙◌, subst, sym}
 use native.Mathlib.Omega.{arith}
 use Rattle.condition.specs.Answers.{kind_of}
 use Rattle.document.specs.Lookup.{columns_at}
 use Rattle.walks.proofs.ValueTurns.{all_values_passed, no_values_passed, values_turn}
+use Rattle.walks.specs.Walked.{ValuesWalked}
 use Rattle.text.proofs.Spaces.{space_here}
 use Rattle.walks.proofs.cells.take_values.Goals as goal
 
@@ -18,14 +19,8 @@ returns-then-byte_at-ne32 c = (c.loop-m.invariant.1, λ d count marks ls l T i w
 pub overflow_add-v : goal.overflow_add-v
 overflow_add-v c = omega (arith, (space_here c.args.line.now c.loop-m.j _ c.byte_at.ensures c.if-byte_at-ne32.false).1)
 
-pub returns-in_default : goal.returns-in_default
-returns-in_default c = (c.loop-m.invariant.1, λ d count marks ls l T i w small h. tt)
-
-pub overflow_add-m : goal.overflow_add-m
-overflow_add-m c = omega (arith, c.loop-m-test.true)
-
-pub loop-m-smaller : goal.loop-m-smaller
-loop-m-smaller c = omega (arith, c.loop-m-test.true)
+pub returns-in_err-e : goal.returns-in_err-e
+returns-in_err-e c = (c.loop-m.invariant.1, λ d count marks ls l T i w small h. subst (ValuesWalked _ _ _ _ _ _ _ _ _ _) (sym c.from_residual.ensures) tt)
 
 pub loop-m-preserved : goal.loop-m-preserved
 loop-m-preserved c = let entry = c.args in (
@@ -44,7 +39,7 @@ loop-m-preserved c = let entry = c.args in (
       c.byte_at.ensures
       c.if-byte_at-ne32.false)
       c.column_kind-kind.ensures (sym
-      c.typed_end-r.ensures ∙ c.in-At.is)
+      c.typed_end.ensures ∙ c.in_ok-e.was)
       c.place-pos.ensures c.set_value.ensures
       (c.loop-m.invariant.2 d count marks ls l T i w small h),
 )

@@ -17,6 +17,3 @@ abbrev pub invariant-loop-m : goal.invariant-loop-m
 invariant-loop-m l = (l.m ≤ l.n)
     × KeepsRows l.text l.initial.rows l.rows l.k
     × ((d : Policy) (count marks : ℕ) (ls : List ℕ) → LineAt l.text l.at l.line → Tables l.text l.tables count d.tables → l.x < count → l.n ≡ length (columns_at d l.x) → l.k < 1024 → FillingRow l.text l.initial.rows l.k 0 marks [] ls → ValuesPassed l.text l.initial.rows l.rows l.line l.k l.n l.m marks ls (columns_at d l.x) l.is l.j)
-
-abbrev pub decreases-loop-m : goal.decreases-loop-m
-decreases-loop-m l = l.n - l.m

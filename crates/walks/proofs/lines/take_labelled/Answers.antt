@@ -10,20 +10,20 @@ use Rattle.walks.specs.Walked.{CellsWalked}
 use Rattle.walks.proofs.lines.take_labelled.Goals as goal
 
 pub returns-in_default : goal.returns-in_default
-returns-in_default c d sets count l L T table inside u v small N = c.take_cells-r.ensures.0 d.rows N
+returns-in_default c d sets count l L T table inside u v small N = c.take_cells.ensures.0 d.rows N
 
 pub returns-then-not-closes : goal.returns-then-not-closes
-returns-then-not-closes c d sets count l L T table inside u v small N = c.take_cells-r.ensures.0 d.rows N
+returns-then-not-closes c d sets count l L T table inside u v small N = c.take_cells.ensures.0 d.rows N
 
 pub returns : goal.returns
 returns c d sets count l L T table inside u v small N = let a = c.args in
     let n : ℕ = c.table_width-n.result in
     let wide = width_read a.text.now a.tables.now count a.x d.policy T inside n c.table_width-n.ensures in
     let t = subst
-    (CellsWalked a.text.now a.rows.now c.take_cells-r.new.rows a.line.now a.k n 0 [] d.policy (columns_at d.policy a.x) a.is)
-    c.in-At.is
-    (c.take_cells-r.ensures.1 d.policy count sets [] l L T inside wide small (row_empty a.text.now a.rows.now a.k)) in
-    cells_taken d a.line.now a.is c.in-At.e N small table
+    (CellsWalked a.text.now a.rows.now c.take_cells.new.rows a.line.now a.k n 0 [] d.policy (columns_at d.policy a.x) a.is)
+    c.in-Some.is
+    (c.take_cells.ensures.1 d.policy count sets [] l L T inside wide small (row_empty a.text.now a.rows.now a.k)) in
+    cells_taken d a.line.now a.is c.in-Some.e N small table
     (sym c.closes.ensures ∙ c.if-not-closes.false) wide
     c.table_width-n.ensures.few u v t
     (c.add_row.ensures a.text.now)

@@ -14,7 +14,7 @@ use Rattle.walks.proofs.RowsTaken.{TableTold, table_told}
 use Rattle.walks.specs.Taken.{TakesItems, TakesRow, table_end}
 use Rattle.text.specs.Walking.{word_end_at}
 use Rattle.text.specs.Words.{word_of}
-use Rattle.text.specs.declared.words.End.TheVariants.{At}
+use Rattle.std.specs.Prelude.{Some}
 use Rattle.walks.proofs.lines.take_row.Goals.{After-table_scheme-scheme}
 use Rattle.walks.proofs.lines.take_row.Goals as goal
 
@@ -22,8 +22,8 @@ use Rattle.walks.proofs.lines.take_row.Goals as goal
 room : (c : After-table_scheme-scheme) → c.args.k < 1024
 room c = c.if-k-ge-ROWS.false
 
-ends : (c : After-table_scheme-scheme) → table_end c.args.line.now ≡ At c.in-At.is'
-ends c = sym c.table_end-t.ensures ∙ c.in-At.is
+ends : (c : After-table_scheme-scheme) → table_end c.args.line.now ≡ Some c.in-Some.is'
+ends c = sym c.table_end.ensures ∙ c.in-Some.is
 
 found : (c : After-table_scheme-scheme) (d : Doc) {s : coded.Scheme} → Tables
     c.args.text.now
@@ -32,25 +32,25 @@ found : (c : After-table_scheme-scheme) (d : Doc) {s : coded.Scheme} → Tables
     d.policy.tables → c.table_scheme-scheme.result ≡ s
     → TableTold c.args.tables.now
     c.args.tables_count
-    c.in-At-found.x s
+    c.in-Some-find_table_to.x s
     (word_of c.args.line.now 5) d.policy
 unfolding table_of word_end_at
 found c d T told = let entry = c.args in table_told
     (word_of entry.line.now 5) d.policy T
-    c.in-At-found.is
-    (c.find_table_to-found.ensures.0 _ (name_ends entry.line.now c.in-At.is' (ends c)) T)
-    c.find_table_to-found.ensures.1 told c.table_scheme-scheme.ensures
+    c.in-Some-find_table_to.is
+    (c.find_table_to.ensures.0 _ (name_ends entry.line.now c.in-Some.is' (ends c)) T)
+    c.find_table_to.ensures.1 told c.table_scheme-scheme.ensures
 
 as_line : (c : After-table_scheme-scheme) (after : List ℕ) (d : Doc) (r : Bool) → TakesItems
     c.args.text.now
     c.args.line.now after
     c.args.k
-    c.in-At.is' d r → TakesRow
+    c.in-Some.is' d r → TakesRow
     c.args.text.now
     c.args.line.now after
     c.args.k d r
 as_line c after d r = let entry = c.args in line_taken entry.line.now
-    c.in-At.is' (ends c)
+    c.in-Some.is' (ends c)
     entry.text.now after
     entry.k d r
 

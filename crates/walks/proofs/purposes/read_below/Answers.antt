@@ -4,6 +4,7 @@ use borrow.Author.Tests.{not-false}
 use lib.ListN.{get_or, length}
 use mathlib.Core.Path.{◌∙◌, ◌≡◌, ap, sym}
 use native.Mathlib.Omega.{arith}
+use Rattle.stepping.proofs.FoundLaws.{is_some_false}
 use Rattle.walks.proofs.PurposeLines.{below_form, space}
 use Rattle.workspace.specs.Found.{found_as}
 use Rattle.text.proofs.Lefts.{before_end}
@@ -38,6 +39,6 @@ returns c = let entry = c.args in
           (sym c.closes.ensures ∙ c.if-not-closes.false);
       within = omega (arith, inside);
       hash = n.hash;
-      fresh = λ ns N. sym (ap found_as c.in_default.is) ∙ n.is ns N;
-      known = λ ns N. sym (ap found_as c.in-At-known.is) ∙ p.is ns N;
+      fresh = λ ns N. sym (ap found_as (is_some_false c.is_some.ensures c.if-is_some.false)) ∙ n.is ns N;
+      known = λ ns N. sym (ap found_as c.in_ok-parent.was) ∙ p.is ns N;
     }

@@ -7,7 +7,7 @@ use native.Mathlib.Omega.{arith}
 use Rattle.document.specs.Lookup.{purpose_of}
 use Rattle.nodes.proofs.NodeFaults.{below_fine, purpose_kind}
 use Rattle.form.specs.Form.{purpose}
-use Rattle.workspace.specs.declared.found.Found.TheVariants.{At, Nothing}
+use Rattle.std.specs.Prelude.{None, Some}
 use Rattle.lists.proofs.Tests.{true_not_false}
 use Rattle.lists.specs.Lists.{or_zero}
 use Rattle.purpose.specs.Members.{limit}
@@ -24,7 +24,7 @@ returns c = let entry = c.args in
     let a = entry in
     let small : entry.k < limit = omega arith in (
       λ d l B N.
-          let ok = (below_fine (λ d. d.purposes) purpose limit purpose_kind a.text.now a.purposes.now a.k a.line.now 9 a.v Unit small Nothing B.fresh refl (At a.parent) B.known a.parent refl).is d N in
+          let ok = (below_fine (λ d. d.purposes) purpose limit purpose_kind a.text.now a.purposes.now a.k a.line.now 9 a.v Unit small None B.fresh refl (Some a.parent) B.known a.parent refl).is d N in
           record {
             place = a.v;
             form = B.form;

@@ -33,12 +33,6 @@ returns-then-same_length_name c = let a = c.args in
     let small : c.loop-k.k < c.args.n = omega arith in
     (λ ended. sym (tabulated_found (λ p. is_called (word_of a.line.now a.i) (word_at a.text.now p)) (λ j. get_or a.ws.now (a.base + j) 0) a.n l.k small (l.invariant.1 ended) (sym (c.same_length_name.ensures (omega (arith, ended))) ∙ c.if-same_length_name.true)), small)
 
-pub overflow_add-k : goal.overflow_add-k
-overflow_add-k c = omega arith
-
-pub loop-k-smaller : goal.loop-k-smaller
-loop-k-smaller c = omega arith
-
 -- the name at k is another: its first or last byte tells, or all of its bytes do
 another : (c : Joined-may_be) → c.args.e ≡ c.args.i + length (word_at c.args.line.now c.args.i)
     → is_called (word_of c.args.line.now c.args.i) (word_at c.args.text.now (get_or c.args.ws.now (c.args.base + c.loop-k.k) 0)) ≡ false

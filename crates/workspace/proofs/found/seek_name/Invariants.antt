@@ -9,6 +9,3 @@ use Rattle.workspace.proofs.found.seek_name.Given as goal
 
 abbrev pub invariant-loop-k : goal.invariant-loop-k
 invariant-loop-k l = (l.k ≤ l.n) × (l.e ≡ l.i + length (word_at l.line l.i) → (j : ℕ) → j < l.k → is_called (word_of l.line l.i) (word_at l.text (get_or l.ws (l.base + j) 0)) ≡ false)
-
-abbrev pub decreases-loop-k : goal.decreases-loop-k
-decreases-loop-k l = l.n - l.k

@@ -42,12 +42,6 @@ returns-then-same_length_name c = let a = c.args in
     let sized : c.print_word-w.result.end - c.args.i ≡ length (word_at c.args.line.now c.args.i) = omega (arith, c.print_word-w.ensures.ends) in
     (λ p. sym (tabulated_found (λ q. is_called (word_of a.line.now a.i) (word_at a.text.now q)) (λ j. get_or a.ws.now (0 + j) 0) a.n l.k small (l.invariant.1 p) (ap (λ m. is_called (word_of a.line.now a.i) (word_at a.text.now (get_or a.ws.now m 0))) (zero-add l.k) ∙ sym (c.same_length_name.ensures sized) ∙ c.if-same_length_name.true)), small)
 
-pub overflow_add-k : goal.overflow_add-k
-overflow_add-k c = omega arith
-
-pub loop-k-smaller : goal.loop-k-smaller
-loop-k-smaller c = omega arith
-
 -- the name at k is another: its print tells, or its bytes do
 another : (c : Joined-ws-prints) → ((j : ℕ) → j < c.args.n → Printed c.args.prints c.args.text.now c.args.ws.now j)
     → is_called (word_of c.args.line.now c.args.i) (word_at c.args.text.now (get_or c.args.ws.now (0 + c.loop-k.k) 0)) ≡ false

@@ -9,6 +9,3 @@ use Rattle.workspace.proofs.found.seek_printed.Given as goal
 
 abbrev pub invariant-loop-k : goal.invariant-loop-k
 invariant-loop-k l = (l.k ≤ l.n) × (((j : ℕ) → j < l.n → Printed l.prints l.text l.ws j) → (j : ℕ) → j < l.k → is_called (word_of l.line l.i) (word_at l.text (get_or l.ws (0 + j) 0)) ≡ false)
-
-abbrev pub decreases-loop-k : goal.decreases-loop-k
-decreases-loop-k l = l.n - l.k

@@ -22,9 +22,6 @@ overflow_add-out-in-loop-k c = omega (arith, c.requires.0)
 pub bounds-out-at : goal.bounds-out-at
 bounds-out-at c = omega (arith, c.loop-k.invariant.1, c.requires.0)
 
-pub loop-k-smaller : goal.loop-k-smaller
-loop-k-smaller c = omega arith
-
 pub loop-k-preserved : goal.loop-k-preserved
 loop-k-preserved c = let a = c.args in
     let l = c.loop-k in

@@ -7,6 +7,3 @@ use Rattle.writing.proofs.bytes.copy_bytes.Given as goal
 
 abbrev pub invariant-loop-k : goal.invariant-loop-k
 invariant-loop-k l = (l.k ≤ l.size) × (length l.out ≡ length l.initial.out) × (l.out ≡ sets l.initial.out l.at (take l.k (drop l.start l.text)))
-
-abbrev pub decreases-loop-k : goal.decreases-loop-k
-decreases-loop-k l = l.size - l.k

@@ -11,12 +11,6 @@ use Rattle.writing.proofs.bytes.put_bytes.Goals as goal
 pub loop-i-init : goal.loop-i-init
 loop-i-init c = w.start _ _ _
 
-pub overflow_add-i : goal.overflow_add-i
-overflow_add-i c = omega arith
-
-pub loop-i-smaller : goal.loop-i-smaller
-loop-i-smaller c = omega arith
-
 pub loop-i-preserved : goal.loop-i-preserved
 loop-i-preserved c = w.step (_ ∷ []) (drop (c.loop-i.i + 1) c.args.s.now) c.loop-i.invariant (drop_here c.args.s.now c.loop-i.i c.loop-i-test.true) c.put_byte-to.ensures
 

@@ -14,12 +14,6 @@ loop-i-init c = let s = c.args.text.now in
     let a = c.args.start in
     (omega arith, subst (λ v. w.Ahead c.args.out.now c.args.at (written_at c.args.text.now c.args.start) c.args.out.now c.args.at v) (sym (w.value_whole s a c.written_end-end.result c.written_end-end.ensures)) (w.start _ _ _))
 
-pub overflow_add-i : goal.overflow_add-i
-overflow_add-i c = omega (arith, w.value_left c.args.text.now c.args.start c.loop-i.i c.written_end-end.result c.loop-i.invariant.0 c.written_end-end.ensures c.loop-i-test.true)
-
-pub loop-i-smaller : goal.loop-i-smaller
-loop-i-smaller c = omega arith
-
 pub loop-i-preserved : goal.loop-i-preserved
 loop-i-preserved c = let s = c.args.text.now in
     let i = c.loop-i.i in

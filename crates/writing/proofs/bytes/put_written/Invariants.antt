@@ -8,6 +8,3 @@ use Rattle.writing.proofs.bytes.put_written.Given as goal
 
 abbrev pub invariant-loop-i : goal.invariant-loop-i
 invariant-loop-i l = (l.start ≤ l.i) × w.Ahead l.initial.out l.at (written_at l.text l.start) l.out l.to (take (l.end - l.i) (drop l.i l.text))
-
-abbrev pub decreases-loop-i : goal.decreases-loop-i
-decreases-loop-i l = l.end - l.i
