@@ -1,4 +1,4 @@
--- Contract: what the answers of the scanning code stand for: each of its enums, as a function of what the definitions give.
+-- Contract: what the answers of the scanning code stand for, each as a function of what the definitions give.
 use Rattle.std.specs.Prelude.{◌+◌, suc, ℕ, eqb, length, cond, List, [], ◌∷◌}
 use Rattle.std.proofs.Math.Option.{Option, none, some}
 use Rattle.csv_text.specs.Fields.{Field}

@@ -1,4 +1,4 @@
--- Meaning: what the outside functions hand back (02, Q-1): each of their enums, as a function of what the definitions give, and the buffer.
+-- Meaning: what the outside functions hand back (02, Q-1): each answer as a function of what the definitions give, and the buffer.
 use Rattle.std.specs.Prelude.{ℕ, leb, length, cond, List, ◌≡◌}
 use Rattle.import.specs.Importing.{after_import, importing, length_only, record_lines}
 use Rattle.csv_text.specs.Records.{Entry}

@@ -35,10 +35,13 @@ pub(crate) fn read_constant(query: &[u8], at: usize, kind: Kind) -> Constant
             },
             None => Constant { fits: 0, rank: 0 },
         },
-        Kind::Name => match name_end(query, at) {
-            Some(_) => Constant { fits: 1, rank: 0 },
-            None => Constant { fits: 0, rank: 0 },
-        },
+        Kind::Name => {
+            if name_end(query, at).is_some() {
+                Constant { fits: 1, rank: 0 }
+            } else {
+                Constant { fits: 0, rank: 0 }
+            }
+        }
         Kind::Date => match read_date(query, at) {
             Some((_, Some(r))) => Constant {
                 fits: 1,

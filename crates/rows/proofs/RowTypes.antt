@@ -101,11 +101,6 @@ undated e none h = let z : ◌≡◌ {A = ℕ} 0 1 = cc in omega arith
 undated e (some k) h = let z : ◌≡◌ {A = ℕ} 0 1 = cc in omega arith
 
 module _ (s : List ℕ) (at : ℕ) where
-  -- what was read, by the rank that was read
-  pub date_read : {e : ℕ} {o p : prelude.Option ℕ} → ◌≡◌ {A = prelude.Option (ℕ × prelude.Option ℕ)} (date_read_of (date_text (from s at))) (Some (e, o)) → o ≡ p
-      → ◌≡◌ {A = prelude.Option (ℕ × prelude.Option ℕ)} (date_read_of (date_text (from s at))) (Some (e, p))
-  date_read {e} {o} {p} h q = h ∙ (λ j. Some (e, q j))
-
   pub date_real : (e r : ℕ) → date_read_of (date_text (from s at)) ≡ Some (e, Some r) → date_exists (date_of (written_at s at)) ≡ true
   unfolding date_exists
   date_real e r h = ap date_exists (written_date s at) ∙ go (date_text (from s at)) h

@@ -93,10 +93,11 @@ fn in_order(line: &[u8], at: usize) -> bool
 fn date_exists(line: &[u8], at: usize) -> bool
     ensures { result ≡ date_exists (date_of (written_at line.now at)) }
 {
-    let Some((_, rank)) = read_date(line, at) else {
-        return true;
-    };
-    rank.is_some()
+    match read_date(line, at) {
+        Some((_, Some(_))) => true,
+        Some((_, None)) => false,
+        None => true,
+    }
 }
 
 // The first value of the items from a position on that is not of its column's type.

@@ -75,7 +75,9 @@ fn ask_rows(
     })
 }
 
-// The answer under a grant (15, 16, 27, 31 and 17, and the rows). What labels say of the purpose is given.
+// The answer under a grant (15, 16, 27, 31 and 17, and the rows). What labels say of the purpose is given. Its arrays take 7 KB of
+// stack: by itself it takes them only when the conditions of roles, which nest, have been walked.
+#[inline(never)]
 pub(crate) fn ask_granted(
     text: &[u8],
     tables: &[usize; TABLE_CELLS],

@@ -1,4 +1,4 @@
--- Contract: what the code's answers stand for: each of its enums, as a function of what the reader or the definition gives. A contract says
+-- Contract: what the code's answers stand for, each as a function of what the reader or the definition gives. A contract says
 -- `r ≡ word_end (name (from s at))`: the code's answer r is what the reader of names gives at the position `at` of the text s.
 use Rattle.std.specs.Prelude.{◌^◌, ℕ, eqb, leb, cond, List}
 use Rattle.std.proofs.Math.Option.{Option, none, some}

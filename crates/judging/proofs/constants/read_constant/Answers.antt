@@ -1,12 +1,13 @@
 -- `judging::constants::read_constant` meets its contract. Assumes nothing.
 use Rattle.judging.proofs.ConstantLaws.{date_missed, date_read, name_missed, name_read, number_missed, number_read}
 use Rattle.judging.proofs.DateLaws.{missing_date_lem, missing_rank, other_date, other_rank, ranked_date, ranked_is}
-use Rattle.text.proofs.CodeLaws.{amount_is, amount_nothing, word_at_lem, word_nothing}
+use Rattle.condition.proofs.FoundLaws.{word_found}
+use Rattle.text.proofs.CodeLaws.{amount_is, amount_nothing}
 use Rattle.text.proofs.Enclosed.{written_is_name, written_rank}
 use Rattle.text.specs.Names.{is_name}
 use Rattle.text.specs.Numbers.{rank}
 use Rattle.text.specs.Words.{word_at, written_at}
-use Rattle.std.specs.Prelude.{Some}
+use Rattle.std.specs.Prelude.{Some, is_some}
 use mathlib.Core.Path.{◌∙◌, ap, sym}
 use Rattle.judging.proofs.constants.read_constant.Goals as goal
 
@@ -22,15 +23,17 @@ returns-in-None c = let a = c.args in
     let s = a.query.now in
     number_missed a.kind (written_at s a.at) c.in-Num.is (written_rank s a.at ∙ amount_nothing (rank (word_at s a.at)) (sym c.rank_at.ensures ∙ c.in-None.is))
 
-pub returns-in-Some-name_end : goal.returns-in-Some-name_end
-returns-in-Some-name_end c = let a = c.args in
+pub returns-then-is_some : goal.returns-then-is_some
+returns-then-is_some c = let a = c.args in
     let s = a.query.now in
-    name_read a.kind (written_at s a.at) c.in-Name.is (written_is_name s a.at ∙ (word_at_lem s a.at is_name _ (sym c.name_end.ensures ∙ c.in-Some-name_end.is)).0)
+    name_read a.kind (written_at s a.at) c.in-Name.is
+    (written_is_name s a.at ∙ sym (c.is_some.ensures ∙ ap is_some c.name_end.ensures ∙ word_found is_name s a.at) ∙ c.if-is_some.true)
 
-pub returns-in-None-name_end : goal.returns-in-None-name_end
-returns-in-None-name_end c = let a = c.args in
+pub returns-else-is_some : goal.returns-else-is_some
+returns-else-is_some c = let a = c.args in
     let s = a.query.now in
-    name_missed a.kind (written_at s a.at) c.in-Name.is (written_is_name s a.at ∙ word_nothing s a.at is_name (sym c.name_end.ensures ∙ c.in-None-name_end.is))
+    name_missed a.kind (written_at s a.at) c.in-Name.is
+    (written_is_name s a.at ∙ sym (c.is_some.ensures ∙ ap is_some c.name_end.ensures ∙ word_found is_name s a.at) ∙ c.if-is_some.false)
 
 pub returns-in-Some-default-Some : goal.returns-in-Some-default-Some
 returns-in-Some-default-Some c = let a = c.args in
